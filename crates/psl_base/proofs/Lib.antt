@@ -1,0 +1,5 @@
+pub mod Counting
+pub mod Packing
+pub mod Putting
+pub mod ShelfSteps
+pub mod Taking

@@ -1,0 +1,27 @@
+//! What every layer of the product stands on: lists that contracts see as lists, places in a text,
+//! and the outside world as two traits.
+#![tactic(auto)]
+
+mod directory;
+mod items;
+mod mem_shelf;
+mod memory;
+mod outside;
+mod packed;
+mod place;
+mod reading;
+mod streams;
+#[cfg(test)]
+mod tests;
+mod writing;
+
+pub use directory::DirShelf;
+pub use items::{Bits, Bytes, Items, NoMemory, Numbers, Text, boxed};
+pub use mem_shelf::MemShelf;
+pub use memory::MemSink;
+pub use outside::{Failed, Shelf, Sink};
+pub use packed::{File, Files};
+pub use place::Place;
+pub use reading::{ReadAllFault, read_all};
+pub use streams::StdSink;
+pub use writing::put_all;
