@@ -1,0 +1,6 @@
+pub mod Changes
+pub mod Lists
+pub mod Marking
+pub mod Sliding
+pub mod Slots
+pub mod Sound
