@@ -1,0 +1,23 @@
+//! The trees that a text of the Property Specification Language stands for, the letters and words
+//! on which they are judged, and what a Boolean says of a letter.
+#![tactic(auto)]
+
+mod atom;
+mod boolean;
+mod directive;
+mod fl;
+mod letter;
+mod name;
+mod sere;
+mod surface;
+#[cfg(test)]
+mod tests;
+
+pub use atom::{Atom, Atoms, Edge, same_atom};
+pub use boolean::Bool;
+pub use directive::{Directive, Kind, Unit};
+pub use fl::{Fl, measure, obligations};
+pub use letter::{Letter, Letters, Word, holds};
+pub use name::{Name, Names};
+pub use sere::{Sere, states};
+pub use surface::{Step, UnitTree};
