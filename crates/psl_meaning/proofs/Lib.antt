@@ -1,0 +1,4 @@
+pub mod Choice
+pub mod RowsHold
+pub mod Traces
+pub mod Values

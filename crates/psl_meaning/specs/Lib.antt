@@ -1,0 +1,11 @@
+pub mod Classical
+pub mod Evaluated
+pub mod Followed
+pub mod Plain
+pub mod Rows
+pub mod Satisfaction
+pub mod Sugar
+pub mod Tick
+pub mod Tight
+pub mod Trace
+pub mod Views
