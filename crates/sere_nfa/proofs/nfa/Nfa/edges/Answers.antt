@@ -1,0 +1,25 @@
+use Rattle.std.proofs.Common.{◌≡◌, ◌∙◌, ◌<◌, ap, subst, sym, arith, length, All}
+use Rattle.sere_nfa.specs.declared.edge.NfaEdge.{NfaEdge}
+use Rattle.std.proofs.lemmas.List.{length-map}
+use Rattle.sere_nfa.specs.Acceptance.{Automaton, State, LeadsWithin, state_at}
+use Rattle.sere_nfa.specs.Views.{state_of, states_of_code}
+use Rattle.sere_nfa.specs.declared.state.State as code_state
+use Rattle.sere_nfa.proofs.Shown.{shown-state, edges-below}
+use Rattle.sere_nfa.proofs.nfa.Nfa.edges.Goals as goal
+
+-- the state that was read is the automaton's
+here : (c : goal.After-index-found) → state_of c.index-found.result.now ≡ (state_at (states_of_code c.self.inside.states.items) c.args.state)
+here c =
+    let small : c.args.state < length (states_of_code c.self.inside.states.items) = subst (λ (a : Automaton). c.args.state < length a.states) (sym c.self.view_is) c.requires in
+    ap (λ (s : code_state.State). state_of s) c.index-found.ensures
+    ∙ shown-state c.self.inside.states.items c.args.state c.index-found.result.now (omega (arith, small, length-map c.self.inside.states.items state_of))
+
+pub returns-clause-shown : goal.returns-clause-shown
+returns-clause-shown c =
+    ap (λ (s : State). s.edges) (here c) ∙ ap (λ (a : Automaton). (state_at a.states c.args.state).edges) c.self.view_is
+
+pub returns-clause-below : goal.returns-clause-below
+returns-clause-below c =
+    subst (λ (a : Automaton). All (λ (edge : NfaEdge). edge.target < length a.states) c.index-found.result.now.edges) c.self.view_is
+    (edges-below 0 (length (states_of_code c.self.inside.states.items)) c.index-found.result.now.edges
+    (subst (λ (s : State). LeadsWithin 0 (length (states_of_code c.self.inside.states.items)) s.edges) (sym (here c)) (c.self.invariant.sound.targets_below c.args.state)))

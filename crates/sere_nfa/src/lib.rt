@@ -1,0 +1,17 @@
+//! Sequences as automata: each sequence without a clock becomes an automaton that accepts exactly
+//! the lists of letters that satisfy it tightly.
+#![tactic(auto)]
+
+mod alive;
+mod build;
+mod edge;
+mod nfa;
+mod part;
+mod sources;
+mod state;
+
+pub use edge::{Edges, NfaEdge, States};
+pub use nfa::{Nfa, NfaFault, of};
+
+#[cfg(test)]
+mod tests;

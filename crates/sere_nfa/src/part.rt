@@ -1,0 +1,150 @@
+ghost use Rattle.std.specs.Prelude.{◌≡◌, ◌+◌, ◌*◌, ◌^◌, ◌<◌, length, IfOk};
+ghost use Rattle.psl_tree.specs.Trees.{boolean_of};
+ghost use Rattle.sere_nfa.specs.Construction.{empty_part, one_part, concat_part, fuse_part, either_part, both_part, star_part};
+ghost use Rattle.sere_nfa.specs.Views.{part_of_code, PartWithin};
+
+use crate::edge::{NfaEdge, add_copies};
+use crate::state::{Numbering, State, add_states, either_of, fuse_all, join_all, pair, pair_all};
+use psl_base::{Items, NoMemory};
+use psl_tree::Bool;
+use std::alloc::Global;
+
+/// An automaton in the making. Its start has no number, and its states count on from an offset.
+#[derive(Debug, Drop)]
+pub(crate) struct Part {
+    pub(crate) start: State,
+    pub(crate) states: Vec<State>,
+}
+
+/// The part of the empty sequence.
+pub(crate) fn empty(alloc: Global) -> Part
+    ensures { part_of_code result ≡ empty_part }
+{
+    Part {
+        start: State {
+            is_final: true,
+            edges: Items::new(alloc),
+            ending: None,
+        },
+        states: Vec::new(alloc),
+    }
+}
+
+/// The part of a Boolean: one state, at the offset.
+pub(crate) fn one(alloc: Global, offset: u32, test: &Bool) -> Result<Part, NoMemory>
+    ensures { IfOk result (λ part. part_of_code part ≡ one_part offset (boolean_of test.now)) }
+{
+    let mut edges = Items::new(alloc);
+    let label = test.copy(alloc)?;
+    edges.push(NfaEdge {
+        label,
+        target: offset,
+    })?;
+    let last = State {
+        is_final: true,
+        edges: Items::new(alloc),
+        ending: None,
+    };
+    let mut states = Vec::new(alloc);
+    states.push(last).map_err(|_| NoMemory)?;
+    Ok(Part {
+        start: State {
+            is_final: false,
+            edges,
+            ending: Some(test.copy(alloc)?),
+        },
+        states,
+    })
+}
+
+/// The part of a concatenation. The states of the second part follow those of the first.
+pub(crate) fn concat(alloc: Global, left: Part, right: Part) -> Result<Part, NoMemory>
+    ensures { IfOk result (λ part. part_of_code part ≡ concat_part (part_of_code left) (part_of_code right)) }
+{
+    let Part {
+        mut start,
+        mut states,
+    } = left;
+    let Part {
+        start: next,
+        states: rest,
+    } = right;
+    start.join(alloc, &next)?;
+    join_all(alloc, states.as_mut_slice(), &next)?;
+    add_states(&mut states, rest)?;
+    Ok(Part { start, states })
+}
+
+/// The part of a fusion. The states of the second part follow those of the first.
+pub(crate) fn fuse(alloc: Global, left: Part, right: Part) -> Result<Part, NoMemory>
+    ensures { IfOk result (λ part. part_of_code part ≡ fuse_part (part_of_code left) (part_of_code right)) }
+{
+    let Part {
+        mut start,
+        mut states,
+    } = left;
+    let Part {
+        start: next,
+        states: rest,
+    } = right;
+    start.fuse(alloc, &next)?;
+    fuse_all(alloc, states.as_mut_slice(), &next)?;
+    add_states(&mut states, rest)?;
+    Ok(Part { start, states })
+}
+
+/// The part of a choice. The states of the second part follow those of the first.
+pub(crate) fn either(alloc: Global, left: Part, right: Part) -> Result<Part, NoMemory>
+    ensures { IfOk result (λ part. part_of_code part ≡ either_part (part_of_code left) (part_of_code right)) }
+{
+    let Part {
+        mut start,
+        mut states,
+    } = left;
+    let Part {
+        start: other,
+        states: rest,
+    } = right;
+    start.is_final = start.is_final || other.is_final;
+    start.ending = either_of(alloc, start.ending.take(), &other.ending)?;
+    add_copies(alloc, other.edges.as_slice(), &mut start.edges)?;
+    add_states(&mut states, rest)?;
+    Ok(Part { start, states })
+}
+
+/// The part of both sequences at once, from the offset on. The states of both parts count from 0.
+pub(crate) fn both(alloc: Global, offset: u32, left: &Part, right: &Part) -> Result<Part, NoMemory>
+    requires left_within { PartWithin 0 (length left.now.states.items) left.now }
+    requires right_within { PartWithin 0 (length right.now.states.items) right.now }
+    requires room { offset + length left.now.states.items * length right.now.states.items < 2 ^ 32 }
+    requires left_room { length left.now.states.items < 2 ^ 32 }
+    requires right_room { length right.now.states.items < 2 ^ 32 }
+    ensures { IfOk result (λ part. part_of_code part ≡ both_part offset (part_of_code left.now) (part_of_code right.now)) }
+{
+    let numbering = Numbering {
+        offset,
+        height: left.states.len() as u32,
+        width: right.states.len() as u32,
+    };
+    let start = pair(alloc, numbering, &left.start, &right.start)?;
+    let states = pair_all(
+        alloc,
+        numbering,
+        left.states.as_slice(),
+        right.states.as_slice(),
+    )?;
+    Ok(Part { start, states })
+}
+
+/// The part of a repetition.
+pub(crate) fn star(alloc: Global, part: Part) -> Result<Part, NoMemory>
+    ensures { IfOk result (λ new. part_of_code new ≡ star_part (part_of_code part)) }
+{
+    let Part {
+        mut start,
+        mut states,
+    } = part;
+    start.is_final = true;
+    join_all(alloc, states.as_mut_slice(), &start)?;
+    Ok(Part { start, states })
+}
