@@ -1,0 +1,12 @@
+pub mod Body
+pub mod Decimal
+pub mod Events
+pub mod Faults
+pub mod FirstForm
+pub mod Labels
+pub mod Reading
+pub mod Rows
+pub mod Sampled
+pub mod Shots
+pub mod Told
+pub mod Tokens

@@ -1,0 +1,117 @@
+-- A recording as values at samples, and the letters that it stands for.
+use Rattle.std.specs.Prelude.{◌≡◌, ℕ, ◌+◌, ◌-◌, ◌<◌, ◌==◌, nat_lt, Bool as Truth, false, not, ◌&&◌, ◌||◌, cond, List, [], ◌∷◌, map, length, slice_index, slice_index_or, filter, Option, None, Some, Any, All}
+use Rattle.std.specs.List.{range_with_len, flat_map}
+use Rattle.std.specs.Option.{option_map}
+use Rattle.psl_tree.specs.declared.atom.Atom.{Atom}
+use Rattle.psl_tree.specs.declared.atom.Edge.{Edge}
+use Rattle.psl_tree.specs.declared.atom.Edge.TheVariants.{Value, Rise, Fall}
+use Rattle.psl_tree.specs.declared.letter.Letter.{Letter}
+use Rattle.psl_tree.specs.declared.letter.Letter.TheVariants.{Holds}
+use Rattle.psl_tree.specs.declared.name.Name.{Name}
+use Rattle.psl_tree.specs.Trees.{Boolean, Const, Test, Not, And, Or}
+use Rattle.vcd_reader.specs.Events.{value_at, times_of}
+use Rattle.vcd_reader.specs.FirstForm.{Dump, names_of}
+use Rattle.vcd_reader.specs.Reading.{first_form}
+use Rattle.vcd_reader.specs.Tokens.{tokens}
+
+-- what contracts see of a recording
+pub record Sampled : Type 0 where
+  pub names : List Name
+  -- for each sample the value of each signal, in the order of their numbers, as letters from the left;
+  -- none where the signal was not given a value yet
+  pub samples : List (List (Option (List ℕ)))
+
+-- a letter that reads as 1: all others read as 0
+abbrev pub reads_one : ℕ → Truth
+reads_one letter = (letter == 49) || (letter == 104) || (letter == 72)
+
+-- what stands to the left of a value's letters: 0 where the first is 0 or 1, else the first
+abbrev pub letter_before : ℕ → ℕ
+letter_before first = cond ((first == 48) || (first == 49)) 48 first
+
+-- the letter of a bit, counted from the right, from 0
+abbrev pub letter_of : List ℕ → ℕ → ℕ
+letter_of value bit = cond (nat_lt bit (length value)) (slice_index value (length value - 1 - bit)) (letter_before (slice_index value 0))
+
+-- the bit of a value: 0 where there is none
+abbrev pub bit_of : Option (List ℕ) → ℕ → Truth
+bit_of None bit = false
+bit_of (Some value) bit = reads_one (letter_of value bit)
+
+-- the value of a signal at a sample
+abbrev pub value_in : Sampled → ℕ → ℕ → Option (List ℕ)
+value_in recording sample signal = slice_index_or (slice_index_or recording.samples sample []) signal None
+
+abbrev pub bit_at : Sampled → ℕ → ℕ → ℕ → Truth
+bit_at recording sample signal bit = bit_of (value_in recording sample signal) bit
+
+-- whether the bit is 1, or went from 0 to 1, or from 1 to 0; at the first sample no bit went anywhere
+abbrev pub edge_at : Edge → Sampled → ℕ → ℕ → ℕ → Truth
+edge_at Value recording sample signal bit = bit_at recording sample signal bit
+edge_at Rise recording sample signal bit =
+    nat_lt 0 sample && (not (bit_at recording (sample - 1) signal bit) && bit_at recording sample signal bit)
+edge_at Fall recording sample signal bit =
+    nat_lt 0 sample && (bit_at recording (sample - 1) signal bit && not (bit_at recording sample signal bit))
+
+-- whether an atom holds at a sample
+abbrev pub atom_at : Sampled → ℕ → Atom → Truth
+atom_at recording sample atom = edge_at atom.edge recording sample atom.signal atom.bit
+
+-- how many indices a name has, from its left one to its right one
+abbrev pub indices : Name → ℕ
+indices name = (name.left - name.right) + (name.right - name.left) + 1
+
+-- some name has the atom's signal, and each name that has it has the atom's bit
+pub record AtomInRange (names : List Name) (atom : Atom) : Type 0 where
+  pub named : Any (λ name. name.signal ≡ atom.signal) names
+  pub within : All (λ name. name.signal ≡ atom.signal → atom.bit < indices name) names
+
+-- each atom of a Boolean has P
+abbrev pub AtomsIn : (Atom → Type 0) → Boolean → Type 0
+AtomsIn P (Const value) = Unit {0}
+AtomsIn P (Test atom) = P atom
+AtomsIn P (Not part) = AtomsIn P part
+AtomsIn P (And left right) = AtomsIn P left × AtomsIn P right
+AtomsIn P (Or left right) = AtomsIn P left × AtomsIn P right
+
+-- all names of one signal have the same number of indices
+abbrev pub AreAlike : List Name → Type 0
+AreAlike names = All (λ name. All (λ other. name.signal ≡ other.signal → indices name ≡ indices other) names) names
+
+-- what can be asked of a bit
+abbrev pub atoms_of_bit : ℕ → ℕ → List Atom
+atoms_of_bit signal bit =
+    record { signal = signal; bit = bit; edge = Value } ∷ record { signal = signal; bit = bit; edge = Rise } ∷ record { signal = signal; bit = bit; edge = Fall } ∷ []
+
+-- what can be asked of the bits of a name
+abbrev pub atoms_of_name : Name → List Atom
+atoms_of_name name = flat_map (atoms_of_bit name.signal) (range_with_len 0 (indices name))
+
+-- all atoms of the names
+abbrev pub atoms_of : List Name → List Atom
+atoms_of names = flat_map atoms_of_name names
+
+-- the letter of a sample: the atoms that hold there
+abbrev pub letter_at : Sampled → ℕ → Letter
+letter_at recording sample = Holds (filter (atom_at recording sample) (atoms_of recording.names))
+
+-- the word that a recording stands for: one letter for each sample, in order
+abbrev pub letters_of : Sampled → List Letter
+letters_of recording = map (letter_at recording) (range_with_len 0 (length recording.samples))
+
+-- the names of signals of one bit, numbered in order
+abbrev pub entries_from : ℕ → List (List ℕ) → List Name
+entries_from signal [] = []
+entries_from signal (text ∷ texts) = record { text = text; signal = signal; left = 0; right = 0 } ∷ entries_from (signal + 1) texts
+
+-- what a recording says: one sample for each distinct time that is listed, in order, and at it of each
+-- signal its last change before the next higher time
+abbrev pub sampled_of : Dump → Sampled
+sampled_of dump = record {
+  names = entries_from 0 (names_of dump.declared);
+  samples = map (λ time. map (λ signal. value_at dump.events signal time) (range_with_len 0 (length dump.declared))) (times_of dump.events);
+}
+
+-- what the bytes of a file say, where they are a recording of the first form
+abbrev pub sampled : List ℕ → Option Sampled
+sampled bytes = option_map sampled_of (first_form (tokens bytes))

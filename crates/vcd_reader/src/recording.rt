@@ -1,0 +1,156 @@
+ghost use Rattle.std.specs.Prelude.{◌≡◌, ◌<◌, ◌≤◌, ◌+◌, length, Any};
+ghost use Rattle.psl_tree.specs.Holds.{holds};
+ghost use Rattle.psl_tree.specs.Trees.{boolean_of};
+ghost use Rattle.vcd_reader.specs.FirstForm.{sample_limit};
+ghost use Rattle.vcd_reader.specs.Sampled.{letter_before, letter_of, reads_one, bit_at, atom_at, letter_at, AtomInRange, AtomsIn, AreAlike};
+ghost use Rattle.vcd_reader.specs.Shots.{letters_in};
+
+use crate::track::{Shot, Track};
+use psl_base::Bytes;
+use psl_tree::{Atom, Bool, Edge, Names};
+use std::marker::Model;
+
+/// The values that signals have at samples, with the signals' names. It is kept as lists of changes,
+/// whose letters stand in the bytes of the file.
+#[derive(Drop)]
+pub struct Recording {
+    names: Names,
+    bytes: Bytes,
+    tracks: Vec<Track>,
+    samples: u32,
+}
+
+impl Model for Recording {
+    ghost use Rattle.vcd_reader.specs.Rows.{rows_of, IsSound};
+    ghost use Rattle.vcd_reader.specs.Sampled.{Sampled};
+
+    ghost Value = { Sampled };
+
+    ghost view = { λ recording. record { names = recording.names; samples = rows_of recording.bytes recording.samples recording.tracks.items } };
+
+    ghost invariant = { λ recording. IsSound recording.names recording.bytes recording.samples recording.tracks.items };
+}
+
+impl Recording {
+    ghost use Rattle.vcd_reader.specs.Rows.{rows_of, IsSound};
+
+    /// A recording of its parts.
+    pub(crate) fn of(names: Names, bytes: Bytes, tracks: Vec<Track>, samples: u32) -> Recording
+        requires { IsSound names bytes samples tracks.items }
+        ensures { result ≡ record { names = names; samples = rows_of bytes samples tracks.items } }
+    {
+        Recording {
+            names,
+            bytes,
+            tracks,
+            samples,
+        }
+    }
+
+    /// The names of the signals, in the order of the text. All names of one signal have the same
+    /// number of indices.
+    pub fn names(&self) -> &Names
+        ensures names { result.now ≡ self.now.names }
+        ensures alike { AreAlike self.now.names }
+    {
+        &self.names
+    }
+
+    /// How many samples there are, 10,000 at most.
+    pub fn samples(&self) -> u32
+        ensures count { result ≡ length self.now.samples }
+        ensures few { result ≤ sample_limit }
+    {
+        self.samples
+    }
+
+    /// Whether an atom holds at a sample, counted from 0: a bit is 1 there, or went from 0 to 1, or
+    /// from 1 to 0. At the first sample no bit went anywhere.
+    pub fn bit(&self, sample: u32, atom: &Atom) -> bool
+        requires sample { sample < length self.now.samples }
+        requires atom { AtomInRange self.now.names atom.now }
+        ensures { result ≡ atom_at self.now sample atom.now }
+    {
+        match atom.edge {
+            Edge::Value => self.is_one(sample, atom.signal, atom.bit),
+            Edge::Rise => {
+                sample > 0
+                    && !self.is_one(sample - 1, atom.signal, atom.bit)
+                    && self.is_one(sample, atom.signal, atom.bit)
+            }
+            Edge::Fall => {
+                sample > 0
+                    && self.is_one(sample - 1, atom.signal, atom.bit)
+                    && !self.is_one(sample, atom.signal, atom.bit)
+            }
+        }
+    }
+
+    /// Whether a Boolean holds on the letter of a sample, counted from 0.
+    pub fn holds(&self, sample: u32, test: &Bool) -> bool
+        requires sample { sample < length self.now.samples }
+        requires atoms { AtomsIn (AtomInRange self.now.names) (boolean_of test.now) }
+        ensures { result ≡ holds (letter_at self.now sample) (boolean_of test.now) }
+    {
+        match test {
+            Bool::Const(value) => *value,
+            Bool::Test(atom) => self.bit(sample, atom),
+            Bool::Not(part) => !self.holds(sample, part),
+            Bool::And(left, right) => self.holds(sample, left) && self.holds(sample, right),
+            Bool::Or(left, right) => self.holds(sample, left) || self.holds(sample, right),
+        }
+    }
+
+    /// Whether a bit of a signal is 1 at a sample.
+    fn is_one(&self, sample: u32, signal: u32, bit: u32) -> bool
+        requires sample { sample < length self.now.samples }
+        requires signal { Any (λ name. name.signal ≡ signal) self.now.names }
+        ensures { result ≡ bit_at self.now sample signal bit }
+    {
+        let track = &self.tracks[signal as usize];
+        match track.at(sample + 1) {
+            None => false,
+            Some(shot) => one(letter(letters(self.bytes.as_slice(), shot), bit)),
+        }
+    }
+}
+
+/// The letters of a change.
+fn letters(bytes: &[u8], shot: Shot) -> &[u8]
+    requires { shot.start + shot.len ≤ length bytes.now }
+    ensures { result.now ≡ letters_in bytes.now shot }
+{
+    let start = shot.start as usize;
+    &bytes[start..start + shot.len as usize]
+}
+
+/// The letter of a bit, counted from the right.
+fn letter(value: &[u8], bit: u32) -> u8
+    requires { 0 < length value.now }
+    ensures { result ≡ letter_of value.now bit }
+{
+    let bit = bit as usize;
+    if bit < value.len() {
+        value[value.len() - 1 - bit]
+    } else {
+        before(value[0])
+    }
+}
+
+/// The letter that stands to the left of a value that begins with this one.
+fn before(first: u8) -> u8
+    ensures { result ≡ letter_before first }
+{
+    if first == b'0' || first == b'1' {
+        b'0'
+    } else {
+        first
+    }
+}
+
+/// Whether a letter reads as 1.
+fn one(letter: u8) -> bool
+    ensures { result ≡ reads_one letter }
+{
+    letter == b'1' || letter == b'h' || letter == b'H'
+}
