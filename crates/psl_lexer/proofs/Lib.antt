@@ -1,0 +1,11 @@
+pub mod Digits
+pub mod Runs
+pub mod WordReads
+pub mod NumberReads
+pub mod TextReads
+pub mod MarkReads
+pub mod FrontReads
+pub mod Pieces
+pub mod Columns
+pub mod Withins
+pub mod LawReads

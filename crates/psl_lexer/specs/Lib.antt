@@ -1,0 +1,11 @@
+pub mod Limits
+pub mod Bytes
+pub mod Values
+pub mod Spellings
+pub mod Tokens
+pub mod Gaps
+pub mod Places
+pub mod Lexed
+pub mod Faults
+pub mod Reading
+pub mod Fronts

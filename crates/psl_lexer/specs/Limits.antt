@@ -1,0 +1,10 @@
+-- How large a text may be.
+use Rattle.std.specs.Prelude.{ℕ}
+
+-- how many bytes a text has at most
+abbrev pub text_limit : ℕ
+text_limit = 268_435_456
+
+-- how many tokens there are at most: each has a byte of its own
+abbrev pub token_limit : ℕ
+token_limit = text_limit

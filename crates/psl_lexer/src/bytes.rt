@@ -1,0 +1,156 @@
+ghost use Rattle.std.specs.Prelude.{◌≡◌, ◌≤◌, length, IfSome};
+ghost use Rattle.std.specs.List.{prefix_len};
+ghost use Rattle.psl_lexer.specs.Bytes as spec;
+
+/// Whether a byte is white space.
+#[tactic(auto, unfolding(crate::specs::Bytes::is_white))]
+pub fn is_white(byte: u8) -> bool
+    ensures { result ≡ spec.is_white byte }
+{
+    (9 <= byte && byte <= 13) || byte == b' '
+}
+
+/// Whether a name may begin with a byte.
+#[tactic(auto, unfolding(crate::specs::Bytes::begins_name))]
+pub fn begins_name(byte: u8) -> bool
+    ensures { result ≡ spec.begins_name byte }
+{
+    byte.is_ascii_alphabetic() || byte == b'_'
+}
+
+/// Whether a byte is a decimal digit.
+#[tactic(auto, unfolding(crate::specs::Bytes::is_digit))]
+pub fn is_digit(byte: u8) -> bool
+    ensures { result ≡ spec.is_digit byte }
+{
+    byte.is_ascii_digit()
+}
+
+/// Whether a name may go on with a byte.
+#[tactic(auto, unfolding(crate::specs::Bytes::continues_name))]
+pub fn continues_name(byte: u8) -> bool
+    ensures { result ≡ spec.continues_name byte }
+{
+    begins_name(byte) || is_digit(byte) || byte == b'$'
+}
+
+/// The base that a letter names.
+#[tactic(auto, unfolding(crate::specs::Bytes::base_of))]
+pub fn base_of(letter: u8) -> Option<u8>
+    ensures base { result ≡ spec.base_of letter }
+    ensures large { IfSome result (λ base. 2 ≤ base) }
+{
+    if letter == b'b' || letter == b'B' {
+        Some(2)
+    } else if letter == b'o' || letter == b'O' {
+        Some(8)
+    } else if letter == b'd' || letter == b'D' {
+        Some(10)
+    } else if letter == b'h' || letter == b'H' {
+        Some(16)
+    } else {
+        None
+    }
+}
+
+/// The value of a digit of any base, and 16 where a byte is a digit of none.
+#[tactic(auto, unfolding(crate::specs::Bytes::digit_of))]
+pub fn digit_of(byte: u8) -> u8
+    ensures { result ≡ spec.digit_of byte }
+{
+    if b'0' <= byte && byte <= b'9' {
+        byte - b'0'
+    } else if b'A' <= byte && byte <= b'F' {
+        byte - 55
+    } else if b'a' <= byte && byte <= b'f' {
+        byte - 87
+    } else {
+        16
+    }
+}
+
+/// Whether a byte is a digit of a base.
+#[tactic(auto, unfolding(crate::specs::Bytes::is_digit_of))]
+pub fn is_digit_of(base: u8, byte: u8) -> bool
+    ensures { result ≡ spec.is_digit_of base byte }
+{
+    digit_of(byte) < base
+}
+
+/// Whether a number may go on with a byte.
+#[tactic(auto, unfolding(crate::specs::Bytes::continues_number))]
+pub fn continues_number(byte: u8) -> bool
+    ensures { result ≡ spec.continues_number byte }
+{
+    is_digit(byte) || byte == b'_'
+}
+
+/// Whether a constant of a base may go on with a byte.
+#[tactic(auto, unfolding(crate::specs::Bytes::continues_digits))]
+pub fn continues_digits(base: u8, byte: u8) -> bool
+    ensures { result ≡ spec.continues_digits base byte }
+{
+    is_digit_of(base, byte) || byte == b'_'
+}
+
+/// Whether a byte is no white space.
+#[tactic(auto, unfolding(crate::specs::Bytes::is_solid))]
+pub fn is_solid(byte: u8) -> bool
+    ensures { result ≡ spec.is_solid byte }
+{
+    !is_white(byte)
+}
+
+/// Whether a byte ends no line.
+#[tactic(auto, unfolding(crate::specs::Bytes::is_inline))]
+pub fn is_inline(byte: u8) -> bool
+    ensures { result ≡ spec.is_inline byte }
+{
+    byte != b'\n'
+}
+
+/// How many bytes of a name a text begins with.
+pub fn name_len(text: &[u8]) -> usize
+    ensures value { result ≡ prefix_len spec.continues_name text.now }
+    ensures within { result ≤ length text.now }
+{
+    text.iter()
+        .take_while(|byte| continues_name(**byte))
+        .count()
+}
+
+/// How many bytes of a number a text begins with.
+pub fn number_len(text: &[u8]) -> usize
+    ensures value { result ≡ prefix_len spec.continues_number text.now }
+    ensures within { result ≤ length text.now }
+{
+    text.iter()
+        .take_while(|byte| continues_number(**byte))
+        .count()
+}
+
+/// How many bytes of digits of a base a text begins with.
+pub fn digits_len(base: u8, text: &[u8]) -> usize
+    ensures value { result ≡ prefix_len (spec.continues_digits base) text.now }
+    ensures within { result ≤ length text.now }
+{
+    text.iter()
+        .take_while(|byte| continues_digits(base, **byte))
+        .count()
+}
+
+/// How many bytes other than white space a text begins with.
+pub fn solid_len(text: &[u8]) -> usize
+    ensures value { result ≡ prefix_len spec.is_solid text.now }
+    ensures within { result ≤ length text.now }
+{
+    text.iter().take_while(|byte| is_solid(**byte)).count()
+}
+
+/// How many bytes of one line a text begins with.
+pub fn inline_len(text: &[u8]) -> usize
+    ensures value { result ≡ prefix_len spec.is_inline text.now }
+    ensures within { result ≤ length text.now }
+{
+    text.iter().take_while(|byte| is_inline(**byte)).count()
+}
