@@ -1,0 +1,15 @@
+pub mod Choices
+pub mod Decided
+pub mod Exact
+pub mod ExamplesHold
+pub mod Fronts
+pub mod Lengths
+pub mod Limits
+pub mod Loops
+pub mod NextToken
+pub mod Past
+pub mod Proved
+pub mod Readers
+pub mod Samples
+pub mod Shapes
+pub mod Total

@@ -1,0 +1,9 @@
+pub mod Derivation
+pub mod Examples
+pub mod Firsts
+pub mod Laws
+pub mod Parts
+pub mod Productions
+pub mod Reading
+pub mod Sound
+pub mod Trees
