@@ -1,0 +1,5 @@
+use Rattle.pslc.proofs.Completing.{one-first}
+use Rattle.pslc.proofs.top.one_refusal.Goals as goal
+
+pub returns : goal.returns
+returns c = one-first

@@ -1,0 +1,80 @@
+-- What is printed: the lines of an outcome, and the line of a fault.
+use Rattle.std.specs.Prelude.{Bool, true, false, ℕ, List, [], ◌∷◌, ◌++◌, Option, None, Some, codes, decimal, if◌then◌else◌}
+use Rattle.std.specs.List.{flat_map}
+use Rattle.psl_base.specs.declared.place.Place.{Place}
+use Rattle.psl_tree.specs.declared.directive.Kind.{Kind}
+use Rattle.psl_tree.specs.declared.directive.Kind.TheVariants.{Assert, Assume, Cover}
+use Rattle.pslc.specs.declared.outcome.Fault.{Fault}
+use Rattle.pslc.specs.declared.outcome.Level.{Level}
+use Rattle.pslc.specs.declared.outcome.Level.TheVariants.{HoldsStrongly, Holds, Pending, Fails}
+use Rattle.pslc.specs.declared.outcome.Outcome.{Outcome}
+use Rattle.pslc.specs.declared.outcome.Outcome.TheVariants.{Nothing, Wave}
+use Rattle.pslc.specs.declared.outcome.Reason.{Reason}
+use Rattle.pslc.specs.declared.outcome.Reason.TheVariants.{Usage, ReadFault, WriteFault, TooLong, NotYet, NoMemory}
+use Rattle.pslc.specs.declared.outcome.Verdict.{Verdict}
+
+-- the end of a line
+abbrev pub line_feed : List ℕ
+line_feed = 10 ∷ []
+
+-- the level of three verdicts: the first that is yes, from the strong view to the weak one
+abbrev pub level_of : Bool → Bool → Bool → Level
+level_of weak neutral strong =
+    if strong then HoldsStrongly else if neutral then Holds else if weak then Pending else Fails
+
+abbrev pub kind_word : Kind → List ℕ
+kind_word Assert = codes "assert"
+kind_word Assume = codes "assume"
+kind_word Cover = codes "cover"
+
+abbrev pub level_words : Level → List ℕ
+level_words HoldsStrongly = codes "holds strongly"
+level_words Holds = codes "holds"
+level_words Pending = codes "pending"
+level_words Fails = codes "fails"
+
+abbrev pub answer_word : Bool → List ℕ
+answer_word true = codes "yes"
+answer_word false = codes "no"
+
+-- a blank and the label, where there is one
+abbrev pub label_part : Option (List ℕ) → List ℕ
+label_part None = []
+label_part (Some label) = codes " " ++ label
+
+-- a directive's head: its kind, its number and its label
+abbrev pub head : Kind → ℕ → Option (List ℕ) → List ℕ
+head kind number label = kind_word kind ++ codes " " ++ decimal number ++ label_part label ++ codes ": "
+
+-- a verdict's line
+abbrev pub verdict_line : Verdict → List ℕ
+verdict_line verdict =
+    head verdict.kind verdict.number verdict.label
+    ++ level_words (level_of verdict.weak verdict.neutral verdict.strong)
+    ++ codes " (weak " ++ answer_word verdict.weak
+    ++ codes ", neutral " ++ answer_word verdict.neutral
+    ++ codes ", strong " ++ answer_word verdict.strong
+    ++ codes ")" ++ line_feed
+
+-- the lines of an outcome
+abbrev pub text_of : Outcome → List ℕ
+text_of Nothing = []
+text_of (Wave verdicts) = flat_map verdict_line verdicts
+
+-- a name and what is said of it
+abbrev pub about : Option (List ℕ) → List ℕ → List ℕ
+about None words = words
+about (Some file) words = file ++ codes ": " ++ words
+
+-- what is said of a fault
+abbrev pub fault_words : Reason → List ℕ
+fault_words Usage = codes "usage: pslc wave|prove|check|show|gen ARGUMENTS"
+fault_words ReadFault = codes "read fault"
+fault_words WriteFault = codes "write fault"
+fault_words TooLong = codes "TooLong"
+fault_words NotYet = codes "not yet"
+fault_words NoMemory = codes "no memory"
+
+-- a fault's line
+abbrev pub line_of : Fault → List ℕ
+line_of fault = codes "pslc: " ++ about fault.file (fault_words fault.reason) ++ line_feed

@@ -1,0 +1,207 @@
+use crate::outcome::Reason;
+use crate::top::run;
+use psl_base::{Bytes, File, Files, MemShelf, MemSink, NoMemory, Numbers};
+use std::alloc::{AllocError, Global};
+use std::test::Fail;
+
+const TEXT: &str = "assert always (a -> next! b);";
+
+const WEAK_TEXT: &str = "assert always (a -> next b);";
+
+const NAMES: &str = "$var wire 1 ! a $end\n$var wire 1 \" b $end\n$enddefinitions $end\n";
+
+/// A text and a recording, none where the file is not there, and what running them gives.
+#[derive(Drop)]
+struct Row<'a> {
+    text: &'a str,
+    body: Option<&'a str>,
+    out: &'a str,
+    err: &'a str,
+    status: u8,
+}
+
+/// What the two outputs have and the status, where the calls of the standard output in `fail` fail.
+#[derive(Drop)]
+struct Ran {
+    out: MemSink,
+    err: MemSink,
+    status: u8,
+    reason: Option<Reason>,
+}
+
+fn words_of(alloc: Global, words: &[&str]) -> Result<Vec<String>, AllocError> {
+    let mut all = Vec::new(alloc);
+    for word in words {
+        all.push(String::from_str(alloc, word)?)?;
+    }
+    Ok(all)
+}
+
+fn file(alloc: Global, name: &str, parts: &[&str]) -> Result<File, NoMemory> {
+    let mut content = Bytes::new(alloc);
+    for part in parts {
+        for byte in part.as_bytes() {
+            content.push(*byte)?;
+        }
+    }
+    Ok(File {
+        name: Bytes::from_slice(alloc, name.as_bytes())?,
+        content,
+    })
+}
+
+fn run_on(
+    alloc: Global,
+    words: &[String],
+    text: &str,
+    body: Option<&str>,
+    fail: &[u32],
+) -> Result<Ran, NoMemory> {
+    let mut files = Files::new(alloc);
+    files.push(file(alloc, "u.psl", &[text])?)?;
+    if let Some(body) = body {
+        files.push(file(alloc, "r.vcd", &[NAMES, body])?)?;
+    }
+    let none = Numbers::new(alloc);
+    let fail = Numbers::from_slice(alloc, fail)?;
+    let mut shelf = MemShelf::new(alloc, &files, 0, 0, &none)?;
+    let mut out = MemSink::new(alloc, 1000, &fail)?;
+    let mut err = MemSink::new(alloc, 1000, &none)?;
+    let report = run(alloc, words, &mut shelf, &mut out, &mut err);
+    Ok(Ran {
+        out,
+        err,
+        status: report.status,
+        reason: match &report.fault {
+            Some(fault) => Some(fault.reason),
+            None => None,
+        },
+    })
+}
+
+/// The worked rows, and a few beside them.
+const ROWS: [Row<'static>; 10] = [
+    Row {
+        text: TEXT,
+        body: Some("#0\n1!\n0\"\n#1\n0!\n1\"\n"),
+        out: "assert 1: holds (weak yes, neutral yes, strong no)\n",
+        err: "",
+        status: 0,
+    },
+    Row {
+        text: TEXT,
+        body: Some("#0\n1!\n0\"\n#1\n1!\n1\"\n"),
+        out: "assert 1: pending (weak yes, neutral no, strong no)\n",
+        err: "",
+        status: 1,
+    },
+    Row {
+        text: WEAK_TEXT,
+        body: Some("#0\n1!\n0\"\n#1\n1!\n1\"\n"),
+        out: "assert 1: holds (weak yes, neutral yes, strong no)\n",
+        err: "",
+        status: 0,
+    },
+    Row {
+        text: TEXT,
+        body: Some("#0\n1!\n0\"\n#1\n0!\n0\"\n"),
+        out: "assert 1: fails (weak no, neutral no, strong no)\n",
+        err: "",
+        status: 1,
+    },
+    Row {
+        text: TEXT,
+        body: Some(""),
+        out: "assert 1: holds (weak yes, neutral yes, strong no)\n",
+        err: "",
+        status: 0,
+    },
+    Row {
+        text: TEXT,
+        body: None,
+        out: "",
+        err: "pslc: r.vcd: read fault\n",
+        status: 3,
+    },
+    Row {
+        text: "assert eventually! b;",
+        body: Some("#0\n1!\n0\"\n#1\n0!\n1\"\n"),
+        out: "",
+        err: "pslc: u.psl: not yet\n",
+        status: 5,
+    },
+    Row {
+        text: "assert eventually! b;",
+        body: None,
+        out: "",
+        err: "pslc: u.psl: not yet\n",
+        status: 5,
+    },
+    Row {
+        text: TEXT,
+        body: Some("#0\n1!\n0\"\n#0\n0!\n1\"\n"),
+        out: "",
+        err: "pslc: r.vcd: not yet\n",
+        status: 5,
+    },
+    Row {
+        text: "assert always (a -> next! c);",
+        body: Some("#0\n1!\n0\"\n"),
+        out: "",
+        err: "pslc: u.psl: not yet\n",
+        status: 5,
+    },
+];
+
+#[test]
+fn rows(rt: HostRuntime) -> Result<(), Fail> {
+    let alloc = rt.alloc();
+    let words = words_of(alloc, &["wave", "u.psl", "r.vcd"])?;
+    for row in &ROWS {
+        let ran = run_on(alloc, words.as_slice(), row.text, row.body, &[])?;
+        assert_eq!(rt; ran.out.bytes(), row.out.as_bytes());
+        assert_eq!(rt; ran.err.bytes(), row.err.as_bytes());
+        assert_eq!(rt; ran.status, row.status);
+    }
+    Ok(())
+}
+
+#[test]
+fn words_that_are_no_command(rt: HostRuntime) -> Result<(), Fail> {
+    let alloc = rt.alloc();
+    let cases: [&[&str]; 5] = [
+        &["wave", "u.psl"],
+        &[],
+        &["prove", "u.psl", "r.vcd"],
+        &["wave", "u.psl", "r.vcd", "r.vcd"],
+        &["Wave", "u.psl", "r.vcd"],
+    ];
+    for case in cases {
+        let words = words_of(alloc, case)?;
+        let ran = run_on(alloc, words.as_slice(), TEXT, Some("#0\n"), &[])?;
+        assert_eq!(rt; ran.out.bytes(), b"".as_slice());
+        assert_eq!(rt;
+            ran.err.bytes(),
+            b"pslc: usage: pslc wave|prove|check|show|gen ARGUMENTS\n".as_slice()
+        );
+        assert_eq!(rt; (ran.status, ran.reason), (2, Some(Reason::Usage)));
+    }
+    Ok(())
+}
+
+#[test]
+fn an_output_that_fails(rt: HostRuntime) -> Result<(), Fail> {
+    let alloc = rt.alloc();
+    let words = words_of(alloc, &["wave", "u.psl", "r.vcd"])?;
+    let ran = run_on(
+        alloc,
+        words.as_slice(),
+        TEXT,
+        Some("#0\n1!\n0\"\n#1\n0!\n1\"\n"),
+        &[1],
+    )?;
+    assert_eq!(rt; ran.out.bytes(), b"".as_slice());
+    assert_eq!(rt; ran.err.bytes(), b"pslc: write fault\n".as_slice());
+    assert_eq!(rt; (ran.status, ran.reason), (4, Some(Reason::WriteFault)));
+    Ok(())
+}
