@@ -4,5 +4,6 @@ pub mod MemShelfFields
 pub mod MemShelfState
 pub mod Memory
 pub mod Packed
+pub mod Places
 pub mod Shelf
 pub mod Sink

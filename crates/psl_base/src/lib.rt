@@ -21,7 +21,7 @@ pub use mem_shelf::MemShelf;
 pub use memory::MemSink;
 pub use outside::{Failed, Shelf, Sink};
 pub use packed::{File, Files};
-pub use place::Place;
+pub use place::{FILE_LIMIT, Place, advance, place_of};
 pub use reading::{ReadAllFault, read_all};
 pub use streams::StdSink;
 pub use writing::put_all;

@@ -60,6 +60,7 @@ pub fn read_all<S: Shelf>(
 
     ensures failed { IsErrOf result ReadAllFault.ReadFault → ReadingFails name.now (S.state shelf.old) (S.state shelf.new) }
     ensures absent { Tells (S.state shelf.old) name.now None → IsErrOf result ReadAllFault.ReadFault }
+    ensures counted { (S.state shelf.old).read_faults < (S.state shelf.new).read_faults → IsErrOf result ReadAllFault.ReadFault }
 
     ensures rest { OnlyReads (S.state shelf.old) (S.state shelf.new) }
 {
@@ -88,6 +89,7 @@ fn read_rest<S: Shelf>(
     ensures taken { IsErrOf result ReadAllFault.TooLong → limit < (S.state shelf.new).cursor }
     ensures selected { IsErrOf result ReadAllFault.TooLong → (S.state shelf.new).selected ≡ (S.state shelf.old).selected }
     ensures failed { IsErrOf result ReadAllFault.ReadFault → Rose (S.state shelf.old).read_faults (S.state shelf.new).read_faults }
+    ensures counted { (S.state shelf.old).read_faults < (S.state shelf.new).read_faults → IsErrOf result ReadAllFault.ReadFault }
     ensures rest { OnlyReads (S.state shelf.old) (S.state shelf.new) }
 {
     let mut bytes = Vec::new(alloc);

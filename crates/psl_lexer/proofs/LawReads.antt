@@ -12,7 +12,7 @@ use Rattle.psl_lexer.specs.declared.front.Front.TheVariants as fronts
 use Rattle.psl_lexer.specs.Bytes.{is_white, is_digit}
 use Rattle.psl_lexer.specs.Tokens.{Lexeme, bytes_of, text_of, IsToken, IsFirst, IsNumber, is_too_large}
 use Rattle.psl_lexer.specs.Gaps.{Gap, White, LineComment, BlockComment, gap_bytes, IsGap}
-use Rattle.psl_lexer.specs.Places.{place_at}
+use Rattle.psl_base.specs.Places.{place_at}
 use Rattle.psl_lexer.specs.Lexed.{Piece, Between, Lexed, token_at, Follow, IsReadTo, IsLexed}
 use Rattle.psl_lexer.specs.Faults.{BadSite, Foreign, NoBase, NoDigit, bad_bytes, bad_offset, IsBad, BeginsComment, OpenSite, OpenText, OpenComment, OpenName, OpenSize, OpenBase, open_bytes, IsOpen, IsFirstFault}
 use Rattle.psl_lexer.specs.Fronts.{HasToken, Stands, Covers}

@@ -6,6 +6,5 @@ pub mod TextReads
 pub mod MarkReads
 pub mod FrontReads
 pub mod Pieces
-pub mod Columns
 pub mod Withins
 pub mod LawReads

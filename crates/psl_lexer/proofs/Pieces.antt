@@ -7,7 +7,7 @@ use Rattle.psl_lexer.specs.declared.token.Token.{Token}
 use Rattle.psl_lexer.specs.declared.front.Front.TheVariants as fronts
 use Rattle.psl_lexer.specs.Tokens.{Lexeme, bytes_of, text_of, IsToken, IsFirst, is_too_large}
 use Rattle.psl_lexer.specs.Gaps.{gap_bytes}
-use Rattle.psl_lexer.specs.Places.{place_at}
+use Rattle.psl_base.specs.Places.{place_at}
 use Rattle.psl_lexer.specs.Lexed.{Piece, Between, Lexed, token_at, Follow, IsReadTo}
 use Rattle.psl_lexer.specs.Faults.{HasBadByte, HasUnended, HasTooLarge}
 use Rattle.psl_lexer.specs.Fronts.{HasToken, Stands, IsFront}

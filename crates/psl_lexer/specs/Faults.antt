@@ -10,7 +10,7 @@ use Rattle.psl_lexer.specs.declared.fault.LexFault.TheVariants.{BadByte, Unended
 use Rattle.psl_lexer.specs.Bytes.{is_white, is_solid, is_digit, base_of, is_digit_of}
 use Rattle.psl_lexer.specs.Tokens.{Lexeme, Character, bytes_of, character_bytes, IsToken, IsFirst, IsNumber, AreCharacters, is_too_large}
 use Rattle.psl_lexer.specs.Lexed.{IsReadTo}
-use Rattle.psl_lexer.specs.Places.{place_at}
+use Rattle.psl_base.specs.Places.{place_at}
 
 -- what is left of a text where a byte is bad
 pub data BadSite : Type 0 where

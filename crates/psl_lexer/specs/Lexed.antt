@@ -4,7 +4,7 @@ use Rattle.psl_lexer.specs.declared.kind.TokenKind.{TokenKind}
 use Rattle.psl_lexer.specs.declared.token.Token.{Token}
 use Rattle.psl_lexer.specs.Tokens.{Lexeme, bytes_of, text_of, IsFirst, is_too_large}
 use Rattle.psl_lexer.specs.Gaps.{Gap, gap_bytes, IsGap}
-use Rattle.psl_lexer.specs.Places.{place_at}
+use Rattle.psl_base.specs.Places.{place_at}
 
 -- a piece of a text
 pub data Piece : Type 0 where

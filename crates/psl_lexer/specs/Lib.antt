@@ -4,7 +4,6 @@ pub mod Values
 pub mod Spellings
 pub mod Tokens
 pub mod Gaps
-pub mod Places
 pub mod Lexed
 pub mod Faults
 pub mod Reading

@@ -1,33 +1,13 @@
 ghost use Rattle.std.specs.Prelude.{◌≡◌, ◌+◌, ◌<◌, ◌≤◌, length, take, IfOk, IfErr, slice_range, ◌++◌, ◌∷◌, []};
 ghost use Rattle.psl_lexer.specs.Limits.{text_limit};
-ghost use Rattle.psl_lexer.specs.Places.{place_at};
+ghost use Rattle.psl_base.specs.Places.{place_at};
 ghost use Rattle.psl_lexer.specs.Lexed.{IsReadTo, IsLexed};
 ghost use Rattle.psl_lexer.specs.Faults.{IsFirstFault};
 
 use crate::front::{Front, read_front};
 use crate::{LexFault, Token, TokenKind, Tokens};
-use psl_base::{Bytes, NoMemory, Place};
+use psl_base::{Bytes, NoMemory, Place, advance};
 use std::alloc::Global;
-
-/// The place behind some bytes of a text, from the place before them.
-fn advance(text: &[u8], from: usize, to: usize, place: Place) -> Place
-    requires order { from ≤ to }
-    requires within { to ≤ length text.now }
-    requires limit { length text.now ≤ text_limit }
-    requires place { place ≡ place_at text.now from }
-    ensures { result ≡ place_at text.now to }
-{
-    let mut place = place;
-    for at in from..to {
-        if text[at] == b'\n' {
-            place.line += 1;
-            place.column = 1;
-        } else {
-            place.column += 1;
-        }
-    }
-    place
-}
 
 /// A token of these bytes of a text, of which some are what it says.
 fn make_token(

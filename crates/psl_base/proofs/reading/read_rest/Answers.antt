@@ -1,4 +1,4 @@
-use Rattle.std.proofs.Common.{◌≤◌, ◌≡◌, ◌+◌, length, take, arith, length-append}
+use Rattle.std.proofs.Common.{◌≤◌, ◌≡◌, ◌+◌, length, take, arith, length-append, ◌∙◌}
 use Rattle.std.proofs.lemmas.List.{length-take-le}
 use Rattle.psl_base.proofs.Taking.{takes_more, takes_all, takes_past}
 use Rattle.psl_base.proofs.reading.read_rest.Goals as goal
@@ -23,4 +23,5 @@ loop-bytes-preserved g c =
     rw c.in_ok-extend_from_slice.ensures.items record {
       taken = takes_more bytes buffer count _ _ _ c.loop-bytes.invariant.taken c.in_ok-count.ensures.ok c.read.ensures.rest;
       within = omega (arith, sized, sum, length-append bytes (take count buffer));
+      still = c.in_ok-count.ensures.ok.read_faults ∙ c.loop-bytes.invariant.still;
     }

@@ -1,5 +1,5 @@
 use Rattle.std.proofs.Common.{◌≡◌, ◌≤◌, ◌-◌, length}
-use Rattle.psl_lexer.specs.Places.{place_at}
+use Rattle.psl_base.specs.Places.{place_at}
 use Rattle.psl_lexer.specs.Lexed.{IsReadTo}
 use Rattle.psl_lexer.proofs.lexing.lex.Given as goal
 

@@ -1,7 +1,7 @@
 use Rattle.std.proofs.Common.{◌<◌, ◌+◌, length, ap, ◌∙◌, arith}
-use Rattle.psl_lexer.proofs.Columns.{place_feed, place_inline, column_within}
-use Rattle.psl_lexer.proofs.lexing.advance.Goals as goal
-use Rattle.psl_lexer.proofs.lexing.advance.Goals.{then-text-at-eq10, else-text-at-eq10}
+use Rattle.psl_base.proofs.Columns.{place_feed, place_inline, column_within}
+use Rattle.psl_base.proofs.place.advance.Goals as goal
+use Rattle.psl_base.proofs.place.advance.Goals.{then-text-at-eq10, else-text-at-eq10}
 
 pub overflow_add-place-else-text-at-eq10 : goal.overflow_add-place-else-text-at-eq10
 overflow_add-place-else-text-at-eq10 c =

@@ -1,18 +1,21 @@
 -- The place of a byte, one byte further.
-use Rattle.std.proofs.Common.{◌≡◌, ℕ, ◌+◌, ◌<◌, ◌≤◌, suc, Bool, false, List, [], ◌∷◌, ◌++◌, length, get_or, take, reverse, nat_eq, refl, sym, ap, ◌∙◌, take-suc, add-one, arith}
+use Rattle.std.proofs.Common.{◌≡◌, ℕ, ◌+◌, ◌<◌, ◌≤◌, suc, Bool, false, not, List, [], ◌∷◌, ◌++◌, length, get_or, take, reverse, nat_eq, refl, sym, ap, ◌∙◌, take-suc, add-one, arith}
 use Rattle.std.proofs.lemmas.Bool.{eq-eqb, ne_eqb}
 use Rattle.std.proofs.lemmas.List.{reverse-append, length-reverse, length-take}
 use Rattle.std.proofs.lemmas.List.Sums.{prefix_len-le-length, count_by-le-length, count_by_more_yes, count_by_more_no}
 use Rattle.std.specs.List.{prefix_len}
 use Rattle.psl_base.specs.declared.place.Place.{Place}
-use Rattle.psl_lexer.specs.Bytes.{is_inline}
-use Rattle.psl_lexer.specs.Places.{place_at}
+use Rattle.psl_base.specs.Places.{place_at}
 
 abbrev place_of : ℕ → ℕ → Place
 place_of l c = record { line = l; column = c }
 
 abbrev is_feed : ℕ → Bool
 is_feed byte = nat_eq byte 10
+
+-- a byte that ends no line
+abbrev is_inline : ℕ → Bool
+is_inline byte = not (nat_eq byte 10)
 
 same_place : (l m c d : ℕ) → l ≡ m → c ≡ d → record { line = l; column = c } ≡ place_of m d
 same_place l m c d h e = rw (h, e) refl
@@ -21,11 +24,9 @@ one_more : (n : ℕ) → suc n ≡ n + 1
 one_more n = omega arith
 
 column_feed : (bytes : List ℕ) → suc (prefix_len is_inline (reverse (bytes ++ 10 ∷ []))) ≡ 1
-unfolding is_inline
 column_feed bytes = rw (reverse-append bytes (10 ∷ [])) refl
 
 column_inline : (bytes : List ℕ) (b : ℕ) → nat_eq b 10 ≡ false → suc (prefix_len is_inline (reverse (bytes ++ b ∷ []))) ≡ suc (prefix_len is_inline (reverse bytes)) + 1
-unfolding is_inline
 column_inline bytes b h = rw (reverse-append bytes (b ∷ [])) rw h (omega arith)
 
 taken : (text : List ℕ) (at : ℕ) → at < length text → take (at + 1) text ≡ take at text ++ get_or text at 0 ∷ []
