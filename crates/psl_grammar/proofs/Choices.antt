@@ -3,6 +3,7 @@ use Rattle.std.proofs.Common.{◌≡◌, refl, sym, subst, suc, ◌≤◌, ◌<�
 use Rattle.psl_lexer.specs.declared.kind.TokenKind.{TokenKind}
 use Rattle.psl_lexer.specs.declared.kind.TokenKind.TheVariants as kinds
 use Rattle.psl_grammar.specs.Derivation.{Derives, Derives as derived, Begins, Begins as begun}
+use Rattle.psl_grammar.specs.Examples.{token}
 use Rattle.psl_grammar.specs.Firsts.{has, at, is_empty, firsts, goes_left, before_bracket}
 use Rattle.psl_grammar.specs.Parts.{Symbol, Part, ◌~◌, ◌//◌, Many, Maybe}
 use Rattle.psl_grammar.specs.Productions.{production}
@@ -80,7 +81,7 @@ has-not : (j k : TokenKind) (ks : List TokenKind) → has j ks ≡ true → has 
 has-not j k ks p q = go (decided (has j (k ∷ [])))
   where
     same : has j (k ∷ []) ≡ true → has j (k ∷ []) ≡ false
-    same h = at-apart (record { kind = j; index = 0 } ∷ []) (k ∷ []) ks w h p
+    same h = at-apart (token j 0 ∷ []) (k ∷ []) ks w h p
       where
         w : apart (k ∷ []) ks ≡ true
         w = rw q refl

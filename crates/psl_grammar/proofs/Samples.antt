@@ -3,6 +3,7 @@ use Rattle.std.proofs.Common.{◌≡◌, refl, sym, subst, List, [], ◌∷◌, 
 use Rattle.psl_lexer.specs.declared.kind.TokenKind.{TokenKind}
 use Rattle.psl_lexer.specs.declared.kind.TokenKind.TheVariants as kinds
 use Rattle.psl_grammar.specs.Derivation.{Derives, Derives as derived, Begins, Begins as begun}
+use Rattle.psl_grammar.specs.Examples.{token}
 use Rattle.psl_grammar.specs.Parts.{Symbol, Text, Vunit, Statement, Directive, Declaration, Prop, Imp, ImpRight, Suf, Bnd, Occ, Trm, Clk, Or, And, Cmp, Una, Pri, Atom, Path, Counted, Sere, Fus, Alt, Conj, Wtail, Ctail, Side, Start, Bor, Band, Bcmp, Buna, Post, Clk0, Count, Part, Quoted, Sym, ◌~◌, ◌//◌, Many, Maybe}
 use Rattle.psl_grammar.specs.Productions.{production}
 use Rattle.psl_grammar.specs.Trees.{Token, Item, Tok, Tree, built}
@@ -19,7 +20,7 @@ abbrev pub Some : Part → Type 0
 Some a = Ends a []
 
 some-token : (k : TokenKind) → Some (Quoted k)
-some-token k = record { rest = record { kind = k; index = 0 } ∷ []; items = Tok (record { kind = k; index = 0 }) ∷ []; derives = derived.quoted refl }
+some-token k = record { rest = token k 0 ∷ []; items = Tok (token k 0) ∷ []; derives = derived.quoted refl }
 
 some-symbol : (s : Symbol) {front : List Token} → Ends (production s) front → Ends (Sym s) front
 some-symbol s h = record { rest = h.rest; items = Tree (built s h.items) ∷ []; derives = derived.symbol h.derives refl }

@@ -6,11 +6,11 @@ use Rattle.psl_grammar.specs.Derivation.{IsSyntaxFault, IsTree}
 use Rattle.psl_grammar.specs.Parts.{Prop, Alt, Statement}
 use Rattle.psl_grammar.specs.Trees.{Token, Node, Absent, Directed, Infix, NextForm, Named, Posted, Prefix, Repeat, Times}
 
--- the token of a kind at an index
+-- the token of a kind before which so many bytes stand; its text and its place say nothing
 abbrev pub token : TokenKind → ℕ → Token
-token k i = record { kind = k; index = i }
+token k start = record { kind = k; text = []; start = start; end = start; place = record { line = 1; column = start } }
 
--- the name at an index
+-- the name before which so many bytes stand
 abbrev pub named : ℕ → Node
 named i = Named (token kinds.Name i ∷ [])
 

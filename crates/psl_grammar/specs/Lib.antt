@@ -6,4 +6,5 @@ pub mod Parts
 pub mod Productions
 pub mod Reading
 pub mod Sound
+pub mod Surface
 pub mod Trees

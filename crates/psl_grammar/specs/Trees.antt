@@ -1,14 +1,10 @@
--- Tokens as the grammar sees them, and the tree that a symbol's production makes of what its parts gave.
-use Rattle.std.specs.Prelude.{ℕ, List, [], ◌∷◌}
+-- The tree that a symbol's production makes of what its parts gave. Of a token the grammar asks the kind alone; a tree
+-- keeps the whole token, with its text and its place.
+use Rattle.std.specs.Prelude.{List, [], ◌∷◌}
 use Rattle.psl_lexer.specs.declared.kind.TokenKind.{TokenKind}
 use Rattle.psl_lexer.specs.declared.kind.TokenKind.TheVariants as kinds
+pub use Rattle.psl_lexer.specs.declared.token.Token.{Token}
 use Rattle.psl_grammar.specs.Parts.{Symbol, Text, Vunit, Statement, Directive, Declaration, Prop, Imp, ImpRight, Suf, Bnd, Occ, Trm, Clk, Or, And, Cmp, Una, Pri, Atom, Path, Counted, Sere, Fus, Alt, Conj, Wtail, Ctail, Side, Start, Bor, Band, Bcmp, Buna, Post, Clk0, Count}
-
-pub record Token : Type 0 where
-  -- all that the grammar asks of it
-  pub kind : TokenKind
-  -- its place among the tokens of the text, from 0; a tree tells its tokens apart by it
-  pub index : ℕ
 
 -- A tree. It keeps the tokens that say something of its meaning or of its place, and no closing ones.
 pub data Node : Type 0 where

@@ -3,5 +3,7 @@
 #![tactic(auto)]
 
 mod laws;
+mod tree;
 
 pub use laws::{beginnings, first_syntax_fault, one_tree, reading, worked_examples};
+pub use tree::{Count, Expression, Path, Statement, UnitTree, VerificationUnit};

@@ -1,4 +1,4 @@
-ghost use Rattle.std.specs.Prelude.{◌≡◌, [], ◌∷◌, ◌++◌, ◌<◌, ◌≤◌, length, slice_get, OnOk, OnErr};
+ghost use Rattle.std.specs.Prelude.{◌≡◌, [], ◌∷◌, ◌++◌, ◌<◌, ◌≤◌, length, slice_get, IfOk, OnOk, OnErr};
 ghost use Rattle.psl_lexer.specs.Limits.{token_limit};
 
 use crate::TokenKind;
@@ -18,6 +18,21 @@ pub struct Token {
     pub end: u32,
     /// Where the token begins.
     pub place: Place,
+}
+
+impl Token {
+    /// An equal token.
+    pub fn copy(&self, alloc: Global) -> Result<Token, NoMemory>
+        ensures { IfOk result (λ new. new ≡ self.now) }
+    {
+        Ok(Token {
+            kind: self.kind,
+            text: self.text.copy(alloc)?,
+            start: self.start,
+            end: self.end,
+            place: self.place,
+        })
+    }
 }
 
 /// Tokens in order, at most 268,435,456 of them. Contracts see them as a list.
