@@ -17,11 +17,11 @@ use Rattle.psl_tree.specs.declared.letter.Letter.{Letter}
 use Rattle.psl_tree.specs.declared.letter.Letter.TheVariants.{Bottom}
 
 -- what a test of finite words tells of the traces that `p` makes of them
-abbrev Tells : Past → (List Letter → Bool) → (Trace → Type 0) → Type 0
+abbrev pub Tells : Past → (List Letter → Bool) → (Trace → Type 0) → Type 0
 Tells p test F = (ys : List Letter) → IsTrue (test ys) ↔ F (followed ys p)
 
 -- some suffix has G, and each one before it has F
-abbrev Reached : (Trace → Type 0) → (Trace → Type 0) → Trace → Type 0
+abbrev pub Reached : (Trace → Type 0) → (Trace → Type 0) → Trace → Type 0
 Reached F G w = Exists (λ k. IsTrue (is_place w k) × G (suffix w k) × ((j : ℕ) → j < k → F (suffix w j)))
 
 to-suffix-zero : (F : Trace → Type 0) (w : Trace) → F w → F (suffix w 0)
@@ -77,7 +77,7 @@ module _ (F G : Trace → Type 0) (p : Past) (left right : List Letter → Bool)
           ((f (x ∷ xs)).1 (from-suffix-zero F (followed (x ∷ xs) p) (u.2 0 (omega arith))))
           (later.1 (λ none. none k (u.0, from-behind G x xs p k u.1, λ j lt. from-behind F x xs p j (u.2 (suc j) (omega arith))))))
 
-  reaches-means : (xs : List Letter) → IsTrue (reaches left right p xs) ↔ Reached F G (followed xs p)
+  pub reaches-means : (xs : List Letter) → IsTrue (reaches left right p xs) ↔ Reached F G (followed xs p)
   reaches-means [] = reaches-end
   reaches-means (x ∷ xs) = reaches-step x xs (reaches-means xs)
 
@@ -195,7 +195,7 @@ module _ (clock : Boolean) (F G : Trace → Type 0) (p : Past) (left right : Lis
   reaches_ticking-means (x ∷ xs) = reaches_ticking-step x xs (reaches_ticking-means xs)
 
 -- at some place where what stands there stops, the cut has F
-abbrev WasCut : (Option Letter → Bool) → (Trace → Type 0) → Trace → Type 0
+abbrev pub WasCut : (Option Letter → Bool) → (Trace → Type 0) → Trace → Type 0
 WasCut stops F w = Exists (λ j. IsTrue (stops (w j)) × F (cut w j))
 
 module _ (stops : Option Letter → Bool) (none_stops : stops None ≡ false) (bottom_stops : stops (Some Bottom) ≡ false) (p : Past) where
@@ -236,19 +236,19 @@ module _ (stops : Option Letter → Bool) (none_stops : stops None ≡ false) (b
       at (suc k) u = or_right (stops (Some x) && test []) (cuts stops (λ before. test (x ∷ before)) p xs)
           (later.1 (λ none. none k (u.0, subst F (cut-behind x xs p k) u.1)))
 
-  cuts-means : (F : Trace → Type 0) (test : List Letter → Bool) → Tells Tops test F → (xs : List Letter)
+  pub cuts-means : (F : Trace → Type 0) (test : List Letter → Bool) → Tells Tops test F → (xs : List Letter)
       → IsTrue (cuts stops test p xs) ↔ WasCut stops F (followed xs p)
   cuts-means F test f [] = cuts-end F test f
   cuts-means F test f (x ∷ xs) = cuts-step F test f x xs
       (cuts-means (λ v. F (behind x v)) (λ before. test (x ∷ before))
       (λ ys. (λ e. subst F (followed-behind x ys Tops) ((f (x ∷ ys)).0 e), λ h. (f (x ∷ ys)).1 (subst F (sym (followed-behind x ys Tops)) h))) xs)
 
-front-is : (xs : List Letter) (p : Past) → followed xs p 0 ≡ front xs p
+pub front-is : (xs : List Letter) (p : Past) → followed xs p 0 ≡ front xs p
 front-is [] p = refl
 front-is (x ∷ xs) p = refl
 
 -- the suffix from 1 is what stands behind the front
-suffix-one : (xs : List Letter) (p : Past) → suffix (followed xs p) 1 ≡ followed (rest xs) p
+pub suffix-one : (xs : List Letter) (p : Past) → suffix (followed xs p) 1 ≡ followed (rest xs) p
 suffix-one [] p = refl
 suffix-one (x ∷ xs) p = suffix-behind x xs p 0 ∙ suffix-zero (followed xs p)
 
@@ -256,7 +256,7 @@ suffix-one (x ∷ xs) p = suffix-behind x xs p 0 ∙ suffix-zero (followed xs p)
 suffix-after : (xs : List Letter) (p : Past) (j m : ℕ) → suffix (suffix (followed xs p) (suc j)) m ≡ suffix (followed xs p) (suc j + m)
 suffix-after xs p j m = fun_ext (λ i. ap (followed xs p) (sym (add_assoc (suc j) m i)))
 
-now-means : (o : Option Letter) (test : Boolean) → IsTrue (not (is_some o) || holds_where o test) ↔ (IsTrue (is_some o) → IsTrue (holds_where o test))
+pub now-means : (o : Option Letter) (test : Boolean) → IsTrue (not (is_some o) || holds_where o test) ↔ (IsTrue (is_some o) → IsTrue (holds_where o test))
 now-means None test = (λ e s. absurd (false≢true s), λ h. refl)
 now-means (Some x) test = (λ e s. e, λ h. h refl)
 
@@ -279,7 +279,7 @@ now_strong-means clock test xs p =
 seen-again : (w : Trace) (j : ℕ) → dual_at (suffix (dual w) j 0) ≡ w j
 seen-again w j = dual_at-twice (w (j + 0)) ∙ ap w (plus-zero j)
 
-fails : (b : Bool) → (IsTrue b → ⊥) → IsTrue (not b)
+pub fails : (b : Bool) → (IsTrue b → ⊥) → IsTrue (not b)
 fails b n = not_from_false b (false_from_ne_true b n)
 
 -- b fails on what stands first, seen from the dual
@@ -355,7 +355,7 @@ not-means part c xs p means = (
   λ n. fails (value part c (map dual_letter xs) (dual_past p)) (λ e. n (subst (λ (w : Trace). Sat w part c) (sym (dual-followed xs p)) (means.0 e))),
 )
 
-place-one : (xs : List Letter) (p : Past) → followed xs p 1 ≡ front (rest xs) p
+pub place-one : (xs : List Letter) (p : Past) → followed xs p 1 ≡ front (rest xs) p
 place-one [] p = refl
 place-one (x ∷ []) p = refl
 place-one (x ∷ y ∷ xs) p = refl

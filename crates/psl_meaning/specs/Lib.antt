@@ -1,4 +1,5 @@
 pub mod Classical
+pub mod Clockless
 pub mod Evaluated
 pub mod Followed
 pub mod Plain

@@ -1,3 +1,6 @@
+pub mod Atoms
+pub mod CanonicalText
 pub mod Counts
 pub mod Holds
+pub mod Names
 pub mod Trees

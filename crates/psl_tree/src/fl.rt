@@ -7,7 +7,7 @@ use psl_base::{NoMemory, boxed};
 use std::alloc::Global;
 
 /// A formula of the Foundation Language, reduced to its kernel (IEEE 1850, clause 6.2 and Annex B).
-#[derive(Debug, Drop)]
+#[derive(Debug)]
 pub enum Fl {
     Now(Bool),
     NowStrong(Bool),
@@ -21,6 +21,25 @@ pub enum Fl {
     Abort(Box<Fl>, Bool),
     SyncAbort(Box<Fl>, Bool),
     Clocked(Box<Fl>, Bool),
+}
+
+// A loop along the right parts, since a derived drop takes stack for each level, and a formula that
+// was rewritten may have some 20,000 of them.
+impl Drop for Fl {
+    fn drop(mut self) {
+        loop {
+            match self {
+                Fl::Now(_test) | Fl::NowStrong(_test) => return,
+                Fl::Weak(_sequence) | Fl::Strong(_sequence) => return,
+                Fl::Not(part) | Fl::Next(part) => self = Box::into_inner(part),
+                Fl::And(_left, right) | Fl::Until(_left, right) => self = Box::into_inner(right),
+                Fl::Suffix(_sequence, part) => self = Box::into_inner(part),
+                Fl::Abort(part, _test) | Fl::SyncAbort(part, _test) | Fl::Clocked(part, _test) => {
+                    self = Box::into_inner(part)
+                }
+            }
+        }
+    }
 }
 
 impl Fl {

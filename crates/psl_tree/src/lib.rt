@@ -8,6 +8,10 @@ mod directive;
 mod fl;
 mod letter;
 mod name;
+mod naming;
+mod printing;
+#[cfg(test)]
+mod printing_tests;
 mod sere;
 mod surface;
 #[cfg(test)]
@@ -19,5 +23,6 @@ pub use directive::{Directive, Kind, Unit};
 pub use fl::{Fl, measure, obligations};
 pub use letter::{Letter, Letters, Word, holds};
 pub use name::{Name, Names};
+pub use printing::print_fl;
 pub use sere::{Sere, states};
 pub use surface::{Step, UnitTree};

@@ -8,7 +8,8 @@ use Rattle.std.proofs.lemmas.List.{length-map}
 use Rattle.std.proofs.lemmas.List.Elements.{All-from_recursion}
 use Rattle.psl_tree.specs.Counts.{states_of}
 use Rattle.psl_tree.specs.Trees.{Sequence, Empty, One, Concat, Fuse, Either, Both, Star, Clocked}
-use Rattle.sere_nfa.specs.Construction.{Part, HasNoClock, part_of}
+use Rattle.psl_meaning.specs.Clockless.{HasNoClock}
+use Rattle.sere_nfa.specs.Construction.{Part, part_of}
 use Rattle.sere_nfa.specs.Views.{edges_of, draft_of, drafts_of, part_of_code, TargetsWithin, StatesWithin, PartWithin}
 use Rattle.sere_nfa.specs.declared.edge.NfaEdge.{NfaEdge}
 use Rattle.sere_nfa.specs.declared.part.Part as code_part

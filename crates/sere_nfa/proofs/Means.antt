@@ -8,7 +8,8 @@ use Rattle.psl_tree.specs.Trees.{Boolean, Sequence, Empty, One, Concat, Fuse, Ei
 use Rattle.psl_tree.specs.declared.letter.Letter.{Letter}
 use Rattle.psl_meaning.specs.Tight.{Tight, Repeats, no_part, one_more}
 use Rattle.sere_nfa.specs.Acceptance.{Edge}
-use Rattle.sere_nfa.specs.Construction.{Draft, draft_at, Part, HasNoClock, part_of, empty_part, one_part, concat_part, fuse_part, either_part, both_part, star_part, joined, fused, again, state_pair, state_pairs}
+use Rattle.psl_meaning.specs.Clockless.{HasNoClock}
+use Rattle.sere_nfa.specs.Construction.{Draft, draft_at, Part, part_of, empty_part, one_part, concat_part, fuse_part, either_part, both_part, star_part, joined, fused, again, state_pair, state_pairs}
 use Rattle.sere_nfa.proofs.Steps.{From, Within, IsClosed, Within-append, Within-wider, Steps-append, Steps-append_left, Steps-append_right, agree, same-trans, same-sym}
 use Rattle.sere_nfa.proofs.Joins.{joined-splits, joined-tells, again-repeats, again-tells}
 use Rattle.sere_nfa.proofs.Endings.{HoldsSome, either-holds, either-true, Tells, agree-tells}

@@ -8,7 +8,8 @@ use Rattle.psl_meaning.specs.Tight.{Tight}
 use Rattle.psl_tree.specs.Trees.{Sequence}
 use Rattle.psl_tree.specs.declared.letter.Letter.{Letter}
 use Rattle.sere_nfa.specs.Acceptance.{Edge, State, Automaton, state_at, Accepts, LeadsWithin, IsSound}
-use Rattle.sere_nfa.specs.Construction.{HasNoClock, part_of, shown, finished}
+use Rattle.psl_meaning.specs.Clockless.{HasNoClock}
+use Rattle.sere_nfa.specs.Construction.{part_of, shown, finished, nfa_of}
 use Rattle.sere_nfa.specs.Views.{edges_of, state_of, states_of_code, draft_of, drafts_of, part_of_code}
 use Rattle.sere_nfa.specs.declared.edge.NfaEdge.{NfaEdge}
 use Rattle.sere_nfa.specs.declared.part.Part as code_part
@@ -58,3 +59,7 @@ pub made-accepts : (r : Sequence) (part : code_part.Part) (initial : List ℕ) (
 made-accepts r part initial states h e f letters =
     subst (λ (a : Automaton). Accepts a letters ↔ Tight None r letters) (same-automaton part initial states f)
     (finished-accepts (part_of_code part) r (built-means 0 r part h e) letters)
+
+pub made-built : (r : Sequence) (part : code_part.Part) (initial : List ℕ) (states : List code_state.State) → part_of_code part ≡ part_of 0 r
+    → IsFinished part initial states → record { initial = initial; states = states_of_code states } ≡ nfa_of r
+made-built r part initial states e f = sym (same-automaton part initial states f) ∙ ap finished e

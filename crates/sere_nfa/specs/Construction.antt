@@ -1,5 +1,6 @@
 -- The automaton of each form of sequence, from those of its parts. A part has a start, which has no
 -- number, and states whose numbers count on from an offset. No edge leads back to a start.
+pub use Rattle.psl_meaning.specs.Clockless.{HasNoClock}
 use Rattle.std.specs.Prelude.{ℕ, zero, suc, ◌+◌, ◌*◌, Bool as Truth, true, false, ◌&&◌, ◌||◌, if◌then◌else◌, Option, None, Some, List, [], ◌∷◌, ◌++◌, length, map}
 use Rattle.psl_tree.specs.Trees.{Boolean, And, Or, Sequence, Empty, One, Concat, Fuse, Either, Both, Star, Clocked}
 use Rattle.sere_nfa.specs.Acceptance.{Edge, State, Automaton}
@@ -161,13 +162,6 @@ part_of offset (Clocked part _) = part_of offset part
 abbrev pub finished : Part → Automaton
 finished part = record { initial = length part.states ∷ []; states = map (λ state. shown state) part.states ++ shown part.start ∷ [] }
 
--- no clock stands in the sequence
-abbrev pub HasNoClock : Sequence → Type 0
-HasNoClock Empty = Unit {0}
-HasNoClock (One _) = Unit {0}
-HasNoClock (Concat left right) = HasNoClock left × HasNoClock right
-HasNoClock (Fuse left right) = HasNoClock left × HasNoClock right
-HasNoClock (Either left right) = HasNoClock left × HasNoClock right
-HasNoClock (Both left right) = HasNoClock left × HasNoClock right
-HasNoClock (Star part) = HasNoClock part
-HasNoClock (Clocked _ _) = ⊥
+-- the automaton of a sequence without clocks
+abbrev pub nfa_of : Sequence → Automaton
+nfa_of sequence = finished (part_of 0 sequence)

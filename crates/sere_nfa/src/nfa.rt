@@ -4,7 +4,8 @@ ghost use Rattle.psl_tree.specs.Counts.{states_of};
 ghost use Rattle.psl_tree.specs.Trees.{sequence_of};
 ghost use Rattle.psl_tree.specs.declared.letter.Letter.{Letter};
 ghost use Rattle.sere_nfa.specs.Acceptance.{Accepts, ReachesEnd, state_at};
-ghost use Rattle.sere_nfa.specs.Construction.{HasNoClock};
+ghost use Rattle.psl_meaning.specs.Clockless.{HasNoClock};
+ghost use Rattle.sere_nfa.specs.Construction.{nfa_of};
 ghost use Rattle.sere_nfa.specs.Views.{edges_of};
 
 use crate::alive::alive_marks;
@@ -57,6 +58,13 @@ impl Model for Nfa {
 }
 
 impl Nfa {
+    /// How many states there are. They are numbered from 0 on.
+    pub fn len(&self) -> usize
+        ensures { result ≡ length self.now.states }
+    {
+        self.states.len()
+    }
+
     /// The states where a list may begin, by number, counted from 0.
     pub fn initial(&self) -> &States
         ensures shown { result.now ≡ self.now.initial }
@@ -99,6 +107,7 @@ impl Nfa {
 /// comes where the sequence counts more than 1,024 states, and before memory is taken.
 pub fn of(alloc: Global, r: &Sere) -> Result<Nfa, NfaFault>
     requires { HasNoClock (sequence_of r.now) }
+    ensures built { IfOk result (λ nfa. nfa ≡ nfa_of (sequence_of r.now)) }
     ensures meaning { IfOk result (λ nfa. (letters : List Letter) → Accepts nfa letters ↔ Tight None (sequence_of r.now) letters) }
     ensures size { IfOk result (λ nfa. length nfa.states ≤ states_of (sequence_of r.now)) }
     ensures too_large { (result ≡ Err NfaFault.SereTooLarge) ↔ (1024 < states_of (sequence_of r.now)) }
@@ -116,6 +125,7 @@ pub fn of(alloc: Global, r: &Sere) -> Result<Nfa, NfaFault>
 fn finished(alloc: Global, r: &Sere) -> Result<Nfa, NoMemory>
     requires no_clock { HasNoClock (sequence_of r.now) }
     requires room { states_of (sequence_of r.now) ≤ 1024 }
+    ensures built { IfOk result (λ nfa. nfa ≡ nfa_of (sequence_of r.now)) }
     ensures meaning { IfOk result (λ nfa. (letters : List Letter) → Accepts nfa letters ↔ Tight None (sequence_of r.now) letters) }
     ensures size { IfOk result (λ nfa. length nfa.states ≤ states_of (sequence_of r.now)) }
 {

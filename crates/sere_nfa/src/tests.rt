@@ -1,6 +1,6 @@
 ghost use Rattle.std.specs.Prelude.{◌<◌, length, IfOk};
 ghost use Rattle.psl_tree.specs.Trees.{sequence_of};
-ghost use Rattle.sere_nfa.specs.Construction.{HasNoClock};
+ghost use Rattle.psl_meaning.specs.Clockless.{HasNoClock};
 
 use crate::{Nfa, NfaFault, of};
 use psl_base::{Items, NoMemory, boxed};

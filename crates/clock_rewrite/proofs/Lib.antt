@@ -1,0 +1,9 @@
+pub mod Answer
+pub mod Atoms
+pub mod Clockless
+pub mod Gaps
+pub mod Letters
+pub mod Meaning
+pub mod Sequences
+pub mod Stable
+pub mod UnderClock
