@@ -1,0 +1,26 @@
+//! The syntactic sugar of the Property Specification Language: for each derived form the call that
+//! builds its kernel tree from the trees of its parts, as long as it has at most 4,096 constructors.
+#![tactic(auto)]
+
+mod boolean;
+mod boolean_sugar;
+mod budget;
+mod connectives;
+mod count;
+mod directive;
+mod fault;
+mod formula;
+mod occurrence;
+mod operator;
+mod sequence;
+mod sequence_sugar;
+#[cfg(test)]
+mod tests;
+
+pub use boolean::{MeasuredBool, Vector};
+pub use budget::MOST_CONSTRUCTORS;
+pub use count::Count;
+pub use fault::SugarFault;
+pub use formula::MeasuredFl;
+pub use operator::{Quantifier, Strength};
+pub use sequence::MeasuredSere;
