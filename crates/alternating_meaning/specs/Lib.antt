@@ -1,0 +1,7 @@
+pub mod Construction
+pub mod Going
+pub mod Laws
+pub mod Obligations
+pub mod Positive
+pub mod Rows
+pub mod Trimmed

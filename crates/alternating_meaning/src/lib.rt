@@ -1,0 +1,7 @@
+//! Alternating automata of formulas without clocks: the construction, the value on finite words, and
+//! the laws that tie it to satisfaction. It holds definitions and lemmas; its functions state laws.
+#![tactic(auto)]
+
+mod laws;
+
+pub use laws::{automaton_means_formula, worked_sizes};
