@@ -1,0 +1,4 @@
+pub mod Clap
+pub mod Meanings
+pub mod Numbers
+pub mod Plain

@@ -1,0 +1,157 @@
+use crate::{Command, WordsFault, one_command, plain_words, read_words};
+use std::alloc::{AllocError, Global};
+use std::test::Fail;
+
+/// The limit on samples that the rows are read with.
+const MOST: u32 = 10_000;
+
+/// Words, and the command that they are, if they are one.
+#[derive(Drop)]
+struct Row<'a> {
+    words: &'a [&'a str],
+    wanted: Option<Command<'a>>,
+}
+
+fn words_of(alloc: Global, words: &[&str]) -> Result<Vec<String>, AllocError> {
+    let mut all = Vec::new(alloc);
+    for word in words {
+        all.push(String::from_str(alloc, word)?)?;
+    }
+    Ok(all)
+}
+
+fn wave<'a>(words: &'a [&'a str], unit: &'a str, recording: &'a str) -> Row<'a> {
+    Row {
+        words,
+        wanted: Some(Command::Wave { unit, recording }),
+    }
+}
+
+fn show<'a>(words: &'a [&'a str], unit: &'a str, names: &'a str) -> Row<'a> {
+    Row {
+        words,
+        wanted: Some(Command::Show { unit, names }),
+    }
+}
+
+fn gen_of<'a>(words: &'a [&'a str], seed: u32, samples: u32) -> Row<'a> {
+    Row {
+        words,
+        wanted: Some(Command::Gen { seed, samples }),
+    }
+}
+
+fn usage<'a>(words: &'a [&'a str]) -> Row<'a> {
+    Row {
+        words,
+        wanted: None,
+    }
+}
+
+fn is_wanted(read: &Result<Command, WordsFault>, wanted: &Option<Command>) -> bool {
+    match (read, wanted) {
+        (Ok(read), Some(wanted)) => read == wanted,
+        (Err(fault), None) => *fault == WordsFault::Usage,
+        _ => false,
+    }
+}
+
+/// The place of the first row that is read otherwise.
+fn first_wrong(alloc: Global, rows: &[Row]) -> Result<Option<usize>, AllocError> {
+    for (place, row) in rows.iter().enumerate() {
+        let words = words_of(alloc, row.words)?;
+        let read = read_words(alloc, words.as_slice(), MOST);
+        if !is_wanted(&read, &row.wanted) {
+            return Ok(Some(place));
+        }
+    }
+    Ok(None)
+}
+
+#[test]
+fn names_of_files(rt: HostRuntime) -> Result<(), Fail> {
+    let rows = [
+        wave(&["wave", "u.psl", "r.vcd"], "u.psl", "r.vcd"),
+        wave(&["wave", "a b", " c"], "a b", " c"),
+        wave(&["wave", "", ""], "", ""),
+        wave(&["wave", "é", "wave"], "é", "wave"),
+        wave(&["wave", "help", "version"], "help", "version"),
+        // A hyphen alone is a word, and so is each word after `--`.
+        wave(&["wave", "-", "-"], "-", "-"),
+        wave(&["wave", "--", "u", "r"], "u", "r"),
+        wave(&["wave", "u", "--", "r"], "u", "r"),
+        wave(&["wave", "u", "r", "--"], "u", "r"),
+        wave(&["wave", "--", "-u", "--help"], "-u", "--help"),
+        wave(&["wave", "--", "--", "r"], "--", "r"),
+        show(&["show", "u.psl", "r.vcd"], "u.psl", "r.vcd"),
+        show(&["show", "--", "-1", "r"], "-1", "r"),
+    ];
+    assert_eq!(rt; first_wrong(rt.alloc(), rows.as_slice())?, None);
+    Ok(())
+}
+
+#[test]
+fn numbers(rt: HostRuntime) -> Result<(), Fail> {
+    let rows = [
+        gen_of(&["gen", "0", "1"], 0, 1),
+        gen_of(&["gen", "2147483647", "10000"], 2147483647, 10_000),
+        gen_of(&["gen", "--", "17", "20"], 17, 20),
+        usage(&["gen", "2147483648", "1"]),
+        usage(&["gen", "4294967296", "1"]),
+        usage(&["gen", "0", "0"]),
+        usage(&["gen", "0", "10001"]),
+        usage(&["gen", "0", "18446744073709551617"]),
+        usage(&["gen", "-1", "1"]),
+        usage(&["gen", "--", "-1", "1"]),
+        usage(&["gen", "+1", "1"]),
+        usage(&["gen", "1", "+1"]),
+        usage(&["gen", "00", "1"]),
+        usage(&["gen", "0", "01"]),
+        usage(&["gen", "", "1"]),
+        usage(&["gen", "0", " 1"]),
+        usage(&["gen", "0x1", "1"]),
+        usage(&["gen", "1_0", "1"]),
+    ];
+    assert_eq!(rt; first_wrong(rt.alloc(), rows.as_slice())?, None);
+    Ok(())
+}
+
+#[test]
+fn words_that_are_no_command(rt: HostRuntime) -> Result<(), Fail> {
+    let rows = [
+        usage(&[]),
+        usage(&[""]),
+        usage(&["--", "wave", "u", "r"]),
+        usage(&["--help"]),
+        usage(&["help"]),
+        usage(&["Wave", "u", "r"]),
+        usage(&["wave ", "u", "r"]),
+        usage(&["prove", "u", "n"]),
+        usage(&["check", "u", "n", "1", "c"]),
+        usage(&["wave"]),
+        usage(&["wave", "u"]),
+        usage(&["wave", "u", "r", "r"]),
+        usage(&["wave", "u", "--", "r", "r"]),
+        usage(&["wave", "-x", "r"]),
+        usage(&["wave", "u", "-x", "r"]),
+        usage(&["wave", "u", "r", "--unit"]),
+        usage(&["wave", "--unit=u", "r"]),
+        usage(&["wave", "-1", "r"]),
+        usage(&["wave", "u", "r", "--help"]),
+        usage(&["wave", "u", "r", "-h"]),
+        usage(&["wave", "u", "r", "--version"]),
+        usage(&["wave", "u", "r", "-V"]),
+        usage(&["show", "u"]),
+        usage(&["show", "u", "n", "--netlist"]),
+        usage(&["gen", "1"]),
+        usage(&["gen", "1", "2", "3"]),
+    ];
+    assert_eq!(rt; first_wrong(rt.alloc(), rows.as_slice())?, None);
+    Ok(())
+}
+
+#[test]
+fn laws(_rt: HostRuntime) {
+    one_command();
+    plain_words();
+}
