@@ -16,8 +16,10 @@ mod token;
 mod values;
 mod words;
 
+pub use bytes::base_of;
 pub use fault::LexFault;
 pub use kind::TokenKind;
 pub use laws::one_answer;
 pub use lexing::lex;
 pub use token::{Token, Tokens};
+pub use values::value_of;

@@ -1,6 +1,8 @@
 pub mod Completing
-pub mod Explaining
+pub mod Ending
 pub mod NamedBits
-pub mod Suffixes
-pub mod Verdicts
+pub mod OneAnswer
+pub mod Recordings
+pub mod Staging
 pub mod Three
+pub mod Waving

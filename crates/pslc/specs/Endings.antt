@@ -1,18 +1,18 @@
 -- How a run ends: its status, what it prints, and why a fault came.
-use Rattle.std.specs.Prelude.{◌≡◌, ◌≢◌, ◌⊎◌, Bool, true, false, ◌&&◌, ◌||◌, ℕ, List, Option, None, Some, IsTrue, if◌then◌else◌}
+use Rattle.std.specs.Prelude.{◌≡◌, ◌≢◌, ◌⊎◌, Bool, true, false, ◌||◌, ℕ, List, Option, None, Some, if◌then◌else◌}
 use Rattle.std.specs.List.{list_all}
-use Rattle.psl_base.specs.Faults.{Rose}
 use Rattle.psl_base.specs.Shelf.{Contents, ShelfState}
 use Rattle.psl_base.specs.Sink.{SinkState, AddsAll, AddsPart}
 use Rattle.psl_tree.specs.declared.directive.Kind.{Kind}
 use Rattle.psl_tree.specs.declared.directive.Kind.TheVariants.{Assert, Assume, Cover}
+use Rattle.pslc.specs.Stages.{Cause, OfWriting, cause_of, OfTold, HasCause}
 use Rattle.pslc.specs.Text.{text_of, line_of}
 use Rattle.pslc.specs.declared.outcome.Fault.{Fault}
 use Rattle.pslc.specs.declared.outcome.Outcome.{Outcome}
 use Rattle.pslc.specs.declared.outcome.Outcome.TheVariants.{Nothing, Wave}
 use Rattle.pslc.specs.declared.outcome.Reason.{Reason}
-use Rattle.pslc.specs.declared.outcome.Reason.TheVariants.{Usage, ReadFault, WriteFault, TooLong, NotYet, NoMemory}
-use Rattle.pslc.specs.declared.outcome.Verdict.{Verdict}
+use Rattle.pslc.specs.declared.outcome.Reason.TheVariants.{Usage, ReadFault, WriteFault, TooLong, NoMemory, TooManySamples, TooManySignals}
+use Rattle.wave_judge.specs.declared.verdict.Verdict.{Verdict}
 
 -- a cover may be neutral no
 abbrev pub may_be_no : Kind → Bool
@@ -25,58 +25,34 @@ abbrev pub passes : Verdict → Bool
 passes verdict = verdict.neutral || may_be_no verdict.kind
 
 -- 0 where each assert and assume is neutral yes, else 1
+abbrev pub verdicts_status : List Verdict → ℕ
+verdicts_status verdicts = if list_all passes verdicts then 0 else 1
+
 abbrev pub outcome_status : Outcome → ℕ
 outcome_status Nothing = 0
-outcome_status (Wave verdicts) = if list_all passes verdicts then 0 else 1
+outcome_status (Wave verdicts) = verdicts_status verdicts
 
+-- 2 for the words, 3 for reading, 4 for writing, 7 for a limit, 8 for memory, and 5 for the other faults of a text
 abbrev pub reason_status : Reason → ℕ
 reason_status Usage = 2
 reason_status ReadFault = 3
 reason_status WriteFault = 4
 reason_status TooLong = 7
-reason_status NotYet = 5
+reason_status TooManySamples = 7
+reason_status TooManySignals = 7
 reason_status NoMemory = 8
+reason_status _ = 5
 
 -- the status of a run, from what it found out or from its fault
 abbrev pub status_of : Outcome → Option Fault → ℕ
 status_of outcome None = outcome_status outcome
 status_of _ (Some fault) = reason_status fault.reason
 
--- what a reason speaks of
-pub data Cause : Type 0 where
-  OfWords : Cause
-  OfReading : Cause
-  OfWriting : Cause
-  OfText : Cause
-  OfMemory : Cause
-
-abbrev pub cause_of : Reason → Cause
-cause_of Usage = OfWords
-cause_of ReadFault = OfReading
-cause_of WriteFault = OfWriting
-cause_of TooLong = OfText
-cause_of NotYet = OfText
-cause_of NoMemory = OfMemory
-
--- what `Refusal` says of the contents that are told; nothing where nothing is told
-abbrev pub OfTold : ShelfState → (Contents → Type 0) → Type 0
-OfTold shelf Fact = (files : Contents) → shelf.told ≡ Some files → Fact files
-
--- Why a fault of this cause came. Want of memory needs no cause. A fault of writing has the cause that
--- is handed in. A file that cannot be read: the reading count rose, or it is told that the first
--- refusal is this one. Every other fault is the first refusal.
-abbrev pub HasCause : Cause → Type 0 → ShelfState → ShelfState → (Contents → Option Fault → Type 0) → Fault → Type 0
-HasCause OfWords _ _ _ Refusal fault = (files : Contents) → Refusal files (Some fault)
-HasCause OfReading _ old new Refusal fault =
-    Rose old.read_faults new.read_faults ⊎ ((files : Contents) × (old.told ≡ Some files) × Refusal files (Some fault))
-HasCause OfWriting write_cause _ _ _ _ = write_cause
-HasCause OfText _ old _ Refusal fault = OfTold old (λ files. Refusal files (Some fault))
-HasCause OfMemory _ _ _ _ _ = Unit {0}
-
 -- a fault has its cause; where there is none, nothing is refused
 abbrev pub Explained : Type 0 → ShelfState → ShelfState → (Contents → Option Fault → Type 0) → Option Fault → Type 0
 Explained _ old _ Refusal None = OfTold old (λ files. Refusal files None)
-Explained write_cause old new Refusal (Some fault) = HasCause (cause_of fault.reason) write_cause old new Refusal fault
+Explained write_cause old new Refusal (Some fault) =
+    HasCause (cause_of fault.reason) write_cause old new (λ files. Refusal files (Some fault))
 
 -- the fault is want of memory
 abbrev pub IsOutOfMemory : Option Fault → Type 0
@@ -114,3 +90,7 @@ pub record EndsWith (found : Outcome) (outcome : Outcome) (fault : Option Fault)
 pub record EndsFaulted (had : Fault) (outcome : Outcome) (fault : Option Fault) (unmade written : Fault) (write_cause : Type 0) : Type 0 where
   pub no_outcome : outcome ≡ Nothing
   pub fault_is : (fault ≡ Some had) ⊎ ((fault ≡ Some unmade) ⊎ ((fault ≡ Some written) × write_cause))
+
+-- the status of a run that a file, an output or memory failed
+abbrev pub IsDeviceStatus : ℕ → Type 0
+IsDeviceStatus status = (status ≡ 3) ⊎ ((status ≡ 4) ⊎ (status ≡ 8))

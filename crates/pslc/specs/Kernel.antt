@@ -1,9 +1,9 @@
 -- The kernel of a text of the first form, and the formulas that are judged for now.
-use Rattle.std.specs.Prelude.{◌≡◌, List, [], ◌∷◌, None, Contains}
+use Rattle.std.specs.Prelude.{◌≡◌, List, [], ◌∷◌, None, Some}
+use Rattle.pslc.specs.Names.{bit_named}
 use Rattle.psl_meaning.specs.Sugar.{always, implication, next_strong, next_weak}
 pub use Rattle.psl_parser.specs.FirstForm.{target_of}
 use Rattle.psl_tree.specs.declared.atom.Atom.{Atom}
-use Rattle.psl_tree.specs.declared.atom.Edge.TheVariants.{Value}
 use Rattle.psl_tree.specs.declared.directive.Directive.{Directive}
 use Rattle.psl_tree.specs.declared.directive.Kind.TheVariants.{Assert}
 use Rattle.psl_tree.specs.declared.name.Name.{Name}
@@ -11,20 +11,11 @@ use Rattle.psl_tree.specs.declared.surface.Step.{Step}
 use Rattle.psl_tree.specs.declared.surface.Step.TheVariants.{Next, NextStrong}
 use Rattle.psl_tree.specs.declared.surface.UnitTree.{UnitTree}
 use Rattle.psl_tree.specs.Trees.{Boolean, Formula, Test, Now, formula_of}
-use Rattle.std.specs.Prelude.{ℕ}
 
--- the text is a name of a signal of one bit, and this is the bit
-abbrev pub IsBitNamed : List Name → List ℕ → Atom → Type 0
-IsBitNamed names text atom =
-    (name : Name) × Contains names name × (name.text ≡ text) × (atom ≡ record { signal = name.signal; bit = 0; edge = Value })
-
--- the text is a name
-abbrev pub IsNamed : List Name → List ℕ → Type 0
-IsNamed names text = (name : Name) × Contains names name × (name.text ≡ text)
-
--- both names of the text are names of signals
+-- both names of the text stand for bits
 abbrev pub AreNamed : List Name → UnitTree → Type 0
-AreNamed names tree = IsNamed names tree.condition × IsNamed names (target_of tree.step)
+AreNamed names tree =
+    (condition target : Atom) × (bit_named names tree.condition ≡ Some condition) × (bit_named names (target_of tree.step) ≡ Some target)
 
 -- `next NAME` and `next! NAME` of a Boolean
 abbrev pub step_formula : Step → Boolean → Formula
@@ -38,7 +29,7 @@ kernel_of tree condition target = always (implication (Now (Test condition)) (st
 -- the kernel of the text over these names
 abbrev pub IsKernel : List Name → UnitTree → Formula → Type 0
 IsKernel names tree formula =
-    (condition target : Atom) × IsBitNamed names tree.condition condition × IsBitNamed names (target_of tree.step) target
+    (condition target : Atom) × (bit_named names tree.condition ≡ Some condition) × (bit_named names (target_of tree.step) ≡ Some target)
     × (formula ≡ kernel_of tree condition target)
 
 -- the one directive of the text

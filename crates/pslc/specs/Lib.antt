@@ -1,7 +1,9 @@
+pub mod Causes
+pub mod Commands
 pub mod Endings
 pub mod Faults
-pub mod Judged
 pub mod Kernel
-pub mod Recorded
-pub mod Refusals
+pub mod Names
+pub mod Stages
 pub mod Text
+pub mod Waves

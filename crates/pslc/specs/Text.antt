@@ -5,22 +5,18 @@ use Rattle.psl_base.specs.declared.place.Place.{Place}
 use Rattle.psl_tree.specs.declared.directive.Kind.{Kind}
 use Rattle.psl_tree.specs.declared.directive.Kind.TheVariants.{Assert, Assume, Cover}
 use Rattle.pslc.specs.declared.outcome.Fault.{Fault}
-use Rattle.pslc.specs.declared.outcome.Level.{Level}
-use Rattle.pslc.specs.declared.outcome.Level.TheVariants.{HoldsStrongly, Holds, Pending, Fails}
 use Rattle.pslc.specs.declared.outcome.Outcome.{Outcome}
 use Rattle.pslc.specs.declared.outcome.Outcome.TheVariants.{Nothing, Wave}
 use Rattle.pslc.specs.declared.outcome.Reason.{Reason}
-use Rattle.pslc.specs.declared.outcome.Reason.TheVariants.{Usage, ReadFault, WriteFault, TooLong, NotYet, NoMemory}
-use Rattle.pslc.specs.declared.outcome.Verdict.{Verdict}
+use Rattle.pslc.specs.declared.outcome.Reason.TheVariants.{Usage, ReadFault, WriteFault, TooLong, NoMemory, UnknownKeyword, MissingEnd, BadVar, CodeSizeDiffers, ScopeNotOpen, BadTime, TimeFalls, CodeNotDeclared, BadValue, VectorTooLong, ChangeBeforeDefinitionsEnd, EndsInside, TooManySamples, TooManySignals, NotYet}
+use Rattle.wave_judge.specs.Levels.{level_of}
+use Rattle.wave_judge.specs.declared.verdict.Level.{Level}
+use Rattle.wave_judge.specs.declared.verdict.Level.TheVariants.{HoldsStrongly, Holds, Pending, Fails}
+use Rattle.wave_judge.specs.declared.verdict.Verdict.{Verdict}
 
 -- the end of a line
 abbrev pub line_feed : List ℕ
 line_feed = 10 ∷ []
-
--- the level of three verdicts: the first that is yes, from the strong view to the weak one
-abbrev pub level_of : Bool → Bool → Bool → Level
-level_of weak neutral strong =
-    if strong then HoldsStrongly else if neutral then Holds else if weak then Pending else Fails
 
 abbrev pub kind_word : Kind → List ℕ
 kind_word Assert = codes "assert"
@@ -61,12 +57,13 @@ abbrev pub text_of : Outcome → List ℕ
 text_of Nothing = []
 text_of (Wave verdicts) = flat_map verdict_line verdicts
 
--- a name and what is said of it
-abbrev pub about : Option (List ℕ) → List ℕ → List ℕ
-about None words = words
-about (Some file) words = file ++ codes ": " ++ words
+-- a name, perhaps with a place, and what is said of it
+abbrev pub about : Option (List ℕ) → Option Place → List ℕ → List ℕ
+about None _ words = words
+about (Some file) None words = file ++ codes ": " ++ words
+about (Some file) (Some place) words = file ++ codes ":" ++ decimal place.line ++ codes ":" ++ decimal place.column ++ codes ": " ++ words
 
--- what is said of a fault
+-- what is said of a fault: where it is of a text, its code and its name
 abbrev pub fault_words : Reason → List ℕ
 fault_words Usage = codes "usage: pslc wave|prove|check|show|gen ARGUMENTS"
 fault_words ReadFault = codes "read fault"
@@ -74,7 +71,21 @@ fault_words WriteFault = codes "write fault"
 fault_words TooLong = codes "TooLong"
 fault_words NotYet = codes "not yet"
 fault_words NoMemory = codes "no memory"
+fault_words UnknownKeyword = codes "V1 UnknownKeyword"
+fault_words MissingEnd = codes "V2 MissingEnd"
+fault_words BadVar = codes "V3 BadVar"
+fault_words CodeSizeDiffers = codes "V4 CodeSizeDiffers"
+fault_words ScopeNotOpen = codes "V5 ScopeNotOpen"
+fault_words BadTime = codes "V6 BadTime"
+fault_words TimeFalls = codes "V7 TimeFalls"
+fault_words CodeNotDeclared = codes "V8 CodeNotDeclared"
+fault_words BadValue = codes "V9 BadValue"
+fault_words VectorTooLong = codes "V10 VectorTooLong"
+fault_words ChangeBeforeDefinitionsEnd = codes "V11 ChangeBeforeDefinitionsEnd"
+fault_words EndsInside = codes "V12 EndsInside"
+fault_words TooManySamples = codes "V13 TooManySamples"
+fault_words TooManySignals = codes "V14 TooManySignals"
 
 -- a fault's line
 abbrev pub line_of : Fault → List ℕ
-line_of fault = codes "pslc: " ++ about fault.file (fault_words fault.reason) ++ line_feed
+line_of fault = codes "pslc: " ++ about fault.file fault.place (fault_words fault.reason) ++ line_feed

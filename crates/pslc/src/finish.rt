@@ -3,15 +3,17 @@ ghost use Rattle.std.specs.List.{list_all};
 ghost use Rattle.std.specs.Result.{ForOk, ForErr};
 ghost use Rattle.psl_base.specs.Faults.{Rose};
 ghost use Rattle.psl_base.specs.Sink.{SinkState};
-ghost use Rattle.pslc.specs.Endings.{status_of, reason_status, outcome_status, passes, may_be_no, IsUnwritten, Prints, AddsSome, EndsWith, EndsFaulted};
+ghost use Rattle.pslc.specs.Endings.{status_of, reason_status, outcome_status, verdicts_status, passes, may_be_no, IsUnwritten, Prints, AddsSome, EndsWith, EndsFaulted};
 ghost use Rattle.pslc.specs.Faults.{of_none};
 ghost use Rattle.pslc.specs.Text.{text_of, line_of};
 
-use crate::outcome::{Fault, Outcome, Reason, Report, Verdict};
+use crate::outcome::{Fault, Outcome, Reason, Report};
 use crate::report::fault_line;
+use crate::telling::of_none;
 use psl_base::{Bytes, Sink, put_all};
 use psl_tree::Kind;
 use std::alloc::Global;
+use wave_judge::Verdict;
 
 /// What a run found out, and the text that is to be printed of it.
 #[derive(Debug, Drop)]
@@ -106,24 +108,19 @@ fn tell<E: Sink>(fault: Fault, line: &[u8], err: &mut E) -> Report
     }
 }
 
-/// A fault of no file.
-pub fn of_none(reason: Reason) -> Fault
-    ensures { result ≡ of_none reason }
-{
-    Fault {
-        reason,
-        file: None,
-        place: None,
-    }
-}
-
 fn status_of_outcome(outcome: &Outcome) -> u8
     ensures { result ≡ outcome_status outcome.now }
 {
     match outcome {
         Outcome::Nothing => 0,
-        Outcome::Wave(verdicts) => { if all_pass(verdicts.as_slice()) { 0 } else { 1 } }
+        Outcome::Wave(verdicts) => status_of_verdicts(verdicts.as_slice()),
     }
+}
+
+fn status_of_verdicts(verdicts: &[Verdict]) -> u8
+    ensures { result ≡ verdicts_status verdicts.now }
+{
+    if all_pass(verdicts) { 0 } else { 1 }
 }
 
 fn all_pass(verdicts: &[Verdict]) -> bool
@@ -138,6 +135,7 @@ fn passes(verdict: &Verdict) -> bool
     verdict.neutral || verdict.kind as u8 == Kind::Cover as u8
 }
 
+/// The status of a run that ended with a fault.
 fn status_of_reason(reason: Reason) -> u8
     ensures { result ≡ reason_status reason }
 {
@@ -145,8 +143,8 @@ fn status_of_reason(reason: Reason) -> u8
         Reason::Usage => 2,
         Reason::ReadFault => 3,
         Reason::WriteFault => 4,
-        Reason::NotYet => 5,
-        Reason::TooLong => 7,
+        Reason::TooLong | Reason::TooManySamples | Reason::TooManySignals => 7,
         Reason::NoMemory => 8,
+        _ => 5,
     }
 }

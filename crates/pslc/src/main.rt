@@ -2,14 +2,17 @@
 #![tactic(auto)]
 
 mod finish;
-mod judge;
+mod names;
 mod outcome;
 mod report;
 mod resolve;
+mod sampled;
 mod sugar;
+mod telling;
 #[cfg(test)]
 mod tests;
 mod top;
+mod unit;
 mod wave;
 
 use psl_base::{DirShelf, NoMemory, StdSink};

@@ -1,41 +1,11 @@
-use psl_base::{Items, Place, Text};
-use psl_tree::Kind;
-
-/// What the three views of a recording say of a directive.
-#[derive(Debug, Drop)]
-pub struct Verdict {
-    /// The directive's number in its text, counted from 1.
-    pub number: u32,
-    pub kind: Kind,
-    pub label: Option<Text>,
-    /// On the recording, followed for ever by a letter on which every Boolean holds.
-    pub weak: bool,
-    /// On the recording alone.
-    pub neutral: bool,
-    /// On the recording, followed for ever by a letter on which no Boolean holds.
-    pub strong: bool,
-}
-
-/// A verdict for each directive, in the order of the text.
-pub type Verdicts = Items<Verdict>;
-
-/// How far a directive is known to hold.
-#[derive(Clone, Copy, Debug, PartialEq, Eq)]
-pub enum Level {
-    /// It holds in the strong view: no continuation can break it.
-    HoldsStrongly,
-    /// It holds on the recording alone.
-    Holds,
-    /// It holds only in the weak view: a continuation may still fulfil it.
-    Pending,
-    /// It holds in no view.
-    Fails,
-}
+use psl_base::{Place, Text};
+use wave_judge::Verdicts;
 
 /// What a run found out.
 #[derive(Debug, Drop)]
 pub enum Outcome {
     Nothing,
+    /// `wave`: the verdicts on a recording.
     Wave(Verdicts),
 }
 
@@ -50,10 +20,39 @@ pub enum Reason {
     WriteFault,
     /// A file is longer than 268,435,456 bytes.
     TooLong,
-    /// A file has a form that is not read yet.
+    /// A text has a form that is not read yet.
     NotYet,
     /// The allocator refused memory.
     NoMemory,
+
+    /// A keyword of a recording that may not stand there.
+    UnknownKeyword,
+    /// Something else where `$end` is wanted.
+    MissingEnd,
+    /// A `$var` or a `$scope` out of form.
+    BadVar,
+    /// A code that is declared with another size.
+    CodeSizeDiffers,
+    /// An `$upscope` without a scope.
+    ScopeNotOpen,
+    /// A `#` without a time.
+    BadTime,
+    /// A time that is lower than the one before.
+    TimeFalls,
+    /// A change of a code that is not declared.
+    CodeNotDeclared,
+    /// What is no change.
+    BadValue,
+    /// A vector of more values than its signal has bits.
+    VectorTooLong,
+    /// A change before the definitions end.
+    ChangeBeforeDefinitionsEnd,
+    /// The end of a recording inside of something.
+    EndsInside,
+    /// A time past the limit on samples.
+    TooManySamples,
+    /// A signal past the limit on bits.
+    TooManySignals,
 }
 
 /// A fault, and where it stands if it is a file's.

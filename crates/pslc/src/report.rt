@@ -1,12 +1,13 @@
 ghost use Rattle.std.specs.Prelude.{◌≡◌, ◌++◌, IfOk, OnOk, decimal};
 ghost use Rattle.std.specs.List.{flat_map};
-ghost use Rattle.pslc.specs.Text.{text_of, line_of, verdict_line, head, label_part, kind_word, level_words, level_of, answer_word, fault_words};
+ghost use Rattle.pslc.specs.Text.{text_of, line_of, verdict_line, head, label_part, kind_word, level_words, answer_word, about, fault_words};
 
-use crate::outcome::{Fault, Level, Outcome, Reason, Verdict};
+use crate::outcome::{Fault, Outcome, Reason};
 use itoa::Buffer;
-use psl_base::{Bytes, NoMemory, Text};
+use psl_base::{Bytes, NoMemory, Place, Text};
 use psl_tree::Kind;
 use std::alloc::Global;
+use wave_judge::{Level, Verdict, level};
 
 /// The bytes that are printed of an outcome: a line for each directive.
 pub fn report(alloc: Global, outcome: &Outcome) -> Result<Bytes, NoMemory>
@@ -20,34 +21,44 @@ pub fn report(alloc: Global, outcome: &Outcome) -> Result<Bytes, NoMemory>
     Ok(Bytes::from_vec(text))
 }
 
-/// How far a directive is known to hold, by its three verdicts.
-pub fn level(verdict: &Verdict) -> Level
-    ensures { result ≡ level_of verdict.now.weak verdict.now.neutral verdict.now.strong }
-{
-    if verdict.strong {
-        Level::HoldsStrongly
-    } else if verdict.neutral {
-        Level::Holds
-    } else if verdict.weak {
-        Level::Pending
-    } else {
-        Level::Fails
-    }
-}
-
 /// The line of a fault.
 pub fn fault_line(alloc: Global, fault: &Fault) -> Result<Bytes, NoMemory>
     ensures { IfOk result (λ line. line ≡ line_of fault.now) }
 {
     let mut line = Vec::new(alloc);
     add(&mut line, b"pslc: ")?;
-    if let Some(file) = &fault.file {
-        add(&mut line, file.as_slice())?;
-        add(&mut line, b": ")?;
-    }
-    add(&mut line, words_of(fault.reason))?;
+    add_about(&mut line, &fault.file, &fault.place, words_of(fault.reason))?;
     add(&mut line, b"\n")?;
     Ok(Bytes::from_vec(line))
+}
+
+/// The name of a file, perhaps with a place, and what is said of it.
+fn add_about(
+    line: &mut Vec<u8>,
+    file: &Option<Text>,
+    place: &Option<Place>,
+    words: &[u8],
+) -> Result<(), NoMemory>
+    ensures { OnOk result (line.new.items ≡ line.old.items ++ about file.now place.now words.now) }
+{
+    let Some(file) = file else {
+        return add(line, words);
+    };
+    add(line, file.as_slice())?;
+    if let Some(place) = place {
+        add(line, b":")?;
+        add_number(line, place.line as u64)?;
+        add(line, b":")?;
+        add_number(line, place.column as u64)?;
+    }
+    add(line, b": ")?;
+    add(line, words)
+}
+
+fn add_number(line: &mut Vec<u8>, number: u64) -> Result<(), NoMemory>
+    ensures { OnOk result (line.new.items ≡ line.old.items ++ decimal number) }
+{
+    add(line, Buffer::new().format(number).as_bytes())
 }
 
 /// What is said of a fault.
@@ -61,6 +72,20 @@ pub fn words_of(reason: Reason) -> &'static [u8]
         Reason::TooLong => b"TooLong",
         Reason::NotYet => b"not yet",
         Reason::NoMemory => b"no memory",
+        Reason::UnknownKeyword => b"V1 UnknownKeyword",
+        Reason::MissingEnd => b"V2 MissingEnd",
+        Reason::BadVar => b"V3 BadVar",
+        Reason::CodeSizeDiffers => b"V4 CodeSizeDiffers",
+        Reason::ScopeNotOpen => b"V5 ScopeNotOpen",
+        Reason::BadTime => b"V6 BadTime",
+        Reason::TimeFalls => b"V7 TimeFalls",
+        Reason::CodeNotDeclared => b"V8 CodeNotDeclared",
+        Reason::BadValue => b"V9 BadValue",
+        Reason::VectorTooLong => b"V10 VectorTooLong",
+        Reason::ChangeBeforeDefinitionsEnd => b"V11 ChangeBeforeDefinitionsEnd",
+        Reason::EndsInside => b"V12 EndsInside",
+        Reason::TooManySamples => b"V13 TooManySamples",
+        Reason::TooManySignals => b"V14 TooManySignals",
     }
 }
 
@@ -76,7 +101,7 @@ fn add_verdicts(text: &mut Vec<u8>, verdicts: &[Verdict]) -> Result<(), NoMemory
 fn add_verdict(text: &mut Vec<u8>, verdict: &Verdict) -> Result<(), NoMemory>
     ensures { OnOk result (text.new.items ≡ text.old.items ++ verdict_line verdict.now) }
 {
-    add_head(text, verdict)?;
+    add_head(text, verdict.kind, verdict.number, &verdict.label)?;
     add(text, level_text(level(verdict)))?;
     add(text, b" (weak ")?;
     add(text, answer(verdict.weak))?;
@@ -87,13 +112,18 @@ fn add_verdict(text: &mut Vec<u8>, verdict: &Verdict) -> Result<(), NoMemory>
     add(text, b")\n")
 }
 
-fn add_head(text: &mut Vec<u8>, verdict: &Verdict) -> Result<(), NoMemory>
-    ensures { OnOk result (text.new.items ≡ text.old.items ++ head verdict.now.kind verdict.now.number verdict.now.label) }
+fn add_head(
+    text: &mut Vec<u8>,
+    kind: Kind,
+    number: u32,
+    label: &Option<Text>,
+) -> Result<(), NoMemory>
+    ensures { OnOk result (text.new.items ≡ text.old.items ++ head kind number label.now) }
 {
-    add(text, kind_text(verdict.kind))?;
+    add(text, kind_text(kind))?;
     add(text, b" ")?;
-    add(text, Buffer::new().format(verdict.number).as_bytes())?;
-    add_label(text, &verdict.label)?;
+    add_number(text, number as u64)?;
+    add_label(text, label)?;
     add(text, b": ")
 }
 

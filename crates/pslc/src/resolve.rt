@@ -1,13 +1,15 @@
-ghost use Rattle.std.specs.Prelude.{◌≡◌, [], ◌∷◌, All, IfOk, IfSome, IsNone, IsErrOf};
+ghost use Rattle.std.specs.Prelude.{◌≡◌, [], ◌∷◌, All, IfOk, IfSome, IsErrOf};
 ghost use Rattle.psl_tree.specs.Trees.{formula_of};
-ghost use Rattle.pslc.specs.Judged.{IsJudged, AtomsOf};
-ghost use Rattle.pslc.specs.Kernel.{IsBitNamed, IsNamed, AreNamed, kernel_of, IsUnitOf, target_of};
+ghost use Rattle.wave_judge.specs.Judged.{IsJudged, AtomsOf};
+ghost use Rattle.pslc.specs.Kernel.{AreNamed, kernel_of, IsUnitOf, target_of};
+ghost use Rattle.pslc.specs.Names.{bit_named};
 ghost use Rattle.pslc.specs.declared.resolve.ResolveFault.TheVariants.{NoMemory as MemoryFault};
 ghost use Rattle.vcd_reader.specs.Sampled.{AtomInRange};
 
+use crate::names::bit_named;
 use crate::sugar::{always, implication, next_strong, next_weak};
 use psl_base::{Items, NoMemory};
-use psl_tree::{Atom, Bool, Directive, Edge, Fl, Kind, Names, Step, Unit, UnitTree};
+use psl_tree::{Atom, Bool, Directive, Fl, Kind, Names, Step, Unit, UnitTree};
 use std::alloc::Global;
 use thiserror::Error;
 
@@ -38,10 +40,10 @@ pub fn resolve(alloc: Global, tree: &UnitTree, names: &Names) -> Result<Unit, Re
     ensures in_range { IfOk result (λ unit. All (λ directive. AtomsOf (AtomInRange names.now) (formula_of directive.formula)) unit) }
     ensures not_yet { IsErrOf result ResolveFault.NotYet → AreNamed names.now tree.now → ⊥ }
 {
-    let Some(condition) = bit_named(names, tree.condition.as_slice()) else {
+    let Some(condition) = ranged_bit(alloc, names, tree.condition.as_slice())? else {
         return Err(ResolveFault::NotYet);
     };
-    let Some(target) = bit_named(names, target_name(&tree.step)) else {
+    let Some(target) = ranged_bit(alloc, names, target_name(&tree.step))? else {
         return Err(ResolveFault::NotYet);
     };
     let formula = kernel(alloc, tree, condition, target)?;
@@ -55,6 +57,14 @@ pub fn resolve(alloc: Global, tree: &UnitTree, names: &Names) -> Result<Unit, Re
     Ok(unit)
 }
 
+/// The bit that a name stands for, which is one of the names'.
+fn ranged_bit(alloc: Global, names: &Names, text: &[u8]) -> Result<Option<Atom>, NoMemory>
+    ensures named { IfOk result (λ found. found ≡ bit_named names.now text.now) }
+    ensures in_range { IfOk result (λ found. IfSome found (AtomInRange names.now)) }
+{
+    bit_named(alloc, names, text)
+}
+
 /// The name that the next letter is to have.
 fn target_name(step: &Step) -> &[u8]
     ensures { result.now ≡ target_of step.now }
@@ -62,24 +72,6 @@ fn target_name(step: &Step) -> &[u8]
     match step {
         Step::Next(name) | Step::NextStrong(name) => name.as_slice(),
     }
-}
-
-/// The bit of the first signal that has a name.
-fn bit_named(names: &Names, text: &[u8]) -> Option<Atom>
-    ensures named { IfSome result (λ atom. IsBitNamed names.now text.now atom) }
-    ensures in_range { IfSome result (λ atom. AtomInRange names.now atom) }
-    ensures absent { IsNone result → IsNamed names.now text.now → ⊥ }
-{
-    for name in names.as_slice() {
-        if name.text.as_slice() == text {
-            return Some(Atom {
-                signal: name.signal,
-                bit: 0,
-                edge: Edge::Value,
-            });
-        }
-    }
-    None
 }
 
 /// The formula of a text whose names stand for these bits.

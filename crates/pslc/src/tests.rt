@@ -10,10 +10,19 @@ const WEAK_TEXT: &str = "assert always (a -> next b);";
 
 const NAMES: &str = "$var wire 1 ! a $end\n$var wire 1 \" b $end\n$enddefinitions $end\n";
 
+/// One signal under two names, and another, in scopes.
+const SCOPED: &str =
+    "$scope module tb $end\n$var wire 1 ! a $end\n$scope module dut $end\n$var wire 1 ! a $end\n$var reg 1 \" b $end\n$upscope $end\n$upscope $end\n$enddefinitions $end\n";
+
+/// Two signals with one name, in two scopes, and a vector.
+const TWICE: &str =
+    "$scope module x $end\n$var wire 1 ! a $end\n$upscope $end\n$scope module y $end\n$var wire 1 \" a $end\n$var wire 2 % b [1:0] $end\n$upscope $end\n$enddefinitions $end\n";
+
 /// A text and a recording, none where the file is not there, and what running them gives.
 #[derive(Drop)]
 struct Row<'a> {
     text: &'a str,
+    names: &'a str,
     body: Option<&'a str>,
     out: &'a str,
     err: &'a str,
@@ -54,13 +63,14 @@ fn run_on(
     alloc: Global,
     words: &[String],
     text: &str,
+    names: &str,
     body: Option<&str>,
     fail: &[u32],
 ) -> Result<Ran, NoMemory> {
     let mut files = Files::new(alloc);
     files.push(file(alloc, "u.psl", &[text])?)?;
     if let Some(body) = body {
-        files.push(file(alloc, "r.vcd", &[NAMES, body])?)?;
+        files.push(file(alloc, "r.vcd", &[names, body])?)?;
     }
     let none = Numbers::new(alloc);
     let fail = Numbers::from_slice(alloc, fail)?;
@@ -80,9 +90,10 @@ fn run_on(
 }
 
 /// The worked rows, and a few beside them.
-const ROWS: [Row<'static>; 10] = [
+const ROWS: [Row<'static>; 16] = [
     Row {
         text: TEXT,
+        names: NAMES,
         body: Some("#0\n1!\n0\"\n#1\n0!\n1\"\n"),
         out: "assert 1: holds (weak yes, neutral yes, strong no)\n",
         err: "",
@@ -90,6 +101,7 @@ const ROWS: [Row<'static>; 10] = [
     },
     Row {
         text: TEXT,
+        names: NAMES,
         body: Some("#0\n1!\n0\"\n#1\n1!\n1\"\n"),
         out: "assert 1: pending (weak yes, neutral no, strong no)\n",
         err: "",
@@ -97,6 +109,7 @@ const ROWS: [Row<'static>; 10] = [
     },
     Row {
         text: WEAK_TEXT,
+        names: NAMES,
         body: Some("#0\n1!\n0\"\n#1\n1!\n1\"\n"),
         out: "assert 1: holds (weak yes, neutral yes, strong no)\n",
         err: "",
@@ -104,6 +117,7 @@ const ROWS: [Row<'static>; 10] = [
     },
     Row {
         text: TEXT,
+        names: NAMES,
         body: Some("#0\n1!\n0\"\n#1\n0!\n0\"\n"),
         out: "assert 1: fails (weak no, neutral no, strong no)\n",
         err: "",
@@ -111,6 +125,7 @@ const ROWS: [Row<'static>; 10] = [
     },
     Row {
         text: TEXT,
+        names: NAMES,
         body: Some(""),
         out: "assert 1: holds (weak yes, neutral yes, strong no)\n",
         err: "",
@@ -118,6 +133,7 @@ const ROWS: [Row<'static>; 10] = [
     },
     Row {
         text: TEXT,
+        names: NAMES,
         body: None,
         out: "",
         err: "pslc: r.vcd: read fault\n",
@@ -125,6 +141,7 @@ const ROWS: [Row<'static>; 10] = [
     },
     Row {
         text: "assert eventually! b;",
+        names: NAMES,
         body: Some("#0\n1!\n0\"\n#1\n0!\n1\"\n"),
         out: "",
         err: "pslc: u.psl: not yet\n",
@@ -132,6 +149,7 @@ const ROWS: [Row<'static>; 10] = [
     },
     Row {
         text: "assert eventually! b;",
+        names: NAMES,
         body: None,
         out: "",
         err: "pslc: u.psl: not yet\n",
@@ -139,14 +157,64 @@ const ROWS: [Row<'static>; 10] = [
     },
     Row {
         text: TEXT,
+        names: NAMES,
         body: Some("#0\n1!\n0\"\n#0\n0!\n1\"\n"),
-        out: "",
-        err: "pslc: r.vcd: not yet\n",
-        status: 5,
+        out: "assert 1: holds (weak yes, neutral yes, strong no)\n",
+        err: "",
+        status: 0,
     },
     Row {
         text: "assert always (a -> next! c);",
+        names: NAMES,
         body: Some("#0\n1!\n0\"\n"),
+        out: "",
+        err: "pslc: u.psl: not yet\n",
+        status: 5,
+    },
+    Row {
+        text: TEXT,
+        names: NAMES,
+        body: Some("#1\n1!\n#0\n"),
+        out: "",
+        err: "pslc: r.vcd:6:1: V7 TimeFalls\n",
+        status: 5,
+    },
+    Row {
+        text: TEXT,
+        names: NAMES,
+        body: Some("#0\n1%\n"),
+        out: "",
+        err: "pslc: r.vcd:5:1: V8 CodeNotDeclared\n",
+        status: 5,
+    },
+    Row {
+        text: TEXT,
+        names: NAMES,
+        body: Some("#0\nb1"),
+        out: "",
+        err: "pslc: r.vcd:5:3: V12 EndsInside\n",
+        status: 5,
+    },
+    Row {
+        text: TEXT,
+        names: SCOPED,
+        body: Some("#0\n1!\n0\"\n#1\n0!\nb1 \"\n"),
+        out: "assert 1: holds (weak yes, neutral yes, strong no)\n",
+        err: "",
+        status: 0,
+    },
+    Row {
+        text: "assert always (a -> next! a);",
+        names: TWICE,
+        body: Some("#0\n1!\n"),
+        out: "",
+        err: "pslc: u.psl: not yet\n",
+        status: 5,
+    },
+    Row {
+        text: "assert always (b -> next! b);",
+        names: TWICE,
+        body: Some("#0\n1!\n"),
         out: "",
         err: "pslc: u.psl: not yet\n",
         status: 5,
@@ -158,7 +226,7 @@ fn rows(rt: HostRuntime) -> Result<(), Fail> {
     let alloc = rt.alloc();
     let words = words_of(alloc, &["wave", "u.psl", "r.vcd"])?;
     for row in &ROWS {
-        let ran = run_on(alloc, words.as_slice(), row.text, row.body, &[])?;
+        let ran = run_on(alloc, words.as_slice(), row.text, row.names, row.body, &[])?;
         assert_eq!(rt; ran.out.bytes(), row.out.as_bytes());
         assert_eq!(rt; ran.err.bytes(), row.err.as_bytes());
         assert_eq!(rt; ran.status, row.status);
@@ -178,7 +246,7 @@ fn words_that_are_no_command(rt: HostRuntime) -> Result<(), Fail> {
     ];
     for case in cases {
         let words = words_of(alloc, case)?;
-        let ran = run_on(alloc, words.as_slice(), TEXT, Some("#0\n"), &[])?;
+        let ran = run_on(alloc, words.as_slice(), TEXT, NAMES, Some("#0\n"), &[])?;
         assert_eq!(rt; ran.out.bytes(), b"".as_slice());
         assert_eq!(rt;
             ran.err.bytes(),
@@ -197,6 +265,7 @@ fn an_output_that_fails(rt: HostRuntime) -> Result<(), Fail> {
         alloc,
         words.as_slice(),
         TEXT,
+        NAMES,
         Some("#0\n1!\n0\"\n#1\n0!\n1\"\n"),
         &[1],
     )?;

@@ -1,14 +1,16 @@
-ghost use Rattle.std.specs.Prelude.{◌≡◌, ◌≢◌, ◌⊎◌, ℕ, List, Option, map, None, Some, IfOk, IfErr, IfSome, IsNone, IsErrOf, string_bytes};
+ghost use Rattle.std.specs.Prelude.{◌≡◌, ◌≢◌, ◌⊎◌, ◌<◌, ℕ, List, Option, map, None, Some, IfOk, IfErr, IfSome, IsNone, IsErrOf, string_bytes};
 ghost use Rattle.psl_base.specs.Faults.{Rose};
 ghost use Rattle.psl_base.specs.Shelf.{Contents, OnlyReads};
-ghost use Rattle.pslc.specs.Endings.{status_of, Explained, OfTold, Prints, IsUnwritten, IsOutOfMemory};
+ghost use Rattle.pslc.specs.Commands.{FirstRefusal, IsOutcomeOf, IsNamed, IsWave, IsNoCommand};
+ghost use Rattle.pslc.specs.Endings.{status_of, Explained, Prints, IsUnwritten, IsOutOfMemory, IsDeviceStatus};
 ghost use Rattle.pslc.specs.Faults.{of_none, fault_of};
-ghost use Rattle.pslc.specs.Refusals.{FirstRefusal, IsOutcomeOf, IsNamed, IsWave, IsNoCommand};
+ghost use Rattle.pslc.specs.Stages.{OfTold, IsCounted};
 ghost use Rattle.pslc.specs.Text.{text_of};
 
-use crate::finish::{Planned, finish, of_none};
+use crate::finish::{Planned, finish};
 use crate::outcome::{Fault, Outcome, Reason, Report};
 use crate::report::report;
+use crate::telling::of_none;
 use crate::wave::wave;
 use psl_base::{Shelf, Sink};
 use std::alloc::Global;
@@ -44,6 +46,10 @@ pub fn run<F: Shelf, O: Sink, E: Sink>(
     // What is printed is the outcome's text whole, or the fault's line, or their first bytes.
     ensures printed { Prints result.outcome result.fault (O.state out.old) (O.state out.new) (E.state err.old) (E.state err.new) }
 
+    // A count that is larger after the run than before it comes with the status of such a fault.
+    ensures counted { ((F.state files.old).read_faults < (F.state files.new).read_faults) ⊎ (((O.state out.old).faults < (O.state out.new).faults) ⊎ ((E.state err.old).faults < (E.state err.new).faults))
+        → IsDeviceStatus result.status }
+
     // Where all contents are told and nothing fails, the answer is the first refusal, or that there is
     // none; want of memory alone may come instead.
     ensures complete { (told : Contents) → (F.state files.old).told ≡ Some told → (Rose (F.state files.old).read_faults (F.state files.new).read_faults → ⊥)
@@ -65,6 +71,8 @@ fn plan<F: Shelf>(alloc: Global, words: &[String], files: &mut F) -> Result<Plan
     ensures unwritten { IfErr result (λ fault. IsUnwritten fault) }
     ensures outcome { IfOk result (λ made. OfTold (F.state files.old) (λ told. IsOutcomeOf (map string_bytes words.now) told made.outcome)) }
     ensures found { IfOk result (λ made. made.outcome ≢ Outcome.Nothing) }
+    ensures quiet { IfOk result (λ _. (F.state files.new).read_faults ≡ (F.state files.old).read_faults) }
+    ensures counted { IfErr result (λ fault. IsCounted (F.state files.old) (F.state files.new) fault) }
     ensures text { IfOk result (λ made. made.text ≡ text_of made.outcome) }
     ensures kept { OnlyReads (F.state files.old) (F.state files.new) }
 {
@@ -81,6 +89,8 @@ fn command<F: Shelf>(alloc: Global, words: &[String], files: &mut F) -> Result<O
     ensures named { IfErr result (λ fault. IsNamed (map string_bytes words.now) fault) }
     ensures outcome { IfOk result (λ outcome. OfTold (F.state files.old) (λ told. IsOutcomeOf (map string_bytes words.now) told outcome)) }
     ensures found { IfOk result (λ outcome. outcome ≢ Outcome.Nothing) }
+    ensures quiet { IfOk result (λ _. (F.state files.new).read_faults ≡ (F.state files.old).read_faults) }
+    ensures counted { IfErr result (λ fault. IsCounted (F.state files.old) (F.state files.new) fault) }
     ensures kept { OnlyReads (F.state files.old) (F.state files.new) }
 {
     match wave_words(words) {

@@ -1,28 +1,18 @@
-ghost use Rattle.std.specs.Prelude.{◌≡◌, ◌≤◌, ◌⊎◌, List, length, None, Some, IfOk, IfErr};
-ghost use Rattle.psl_base.specs.Shelf.{OnlyReads, IsContent};
-ghost use Rattle.psl_tree.specs.declared.directive.Directive.{Directive};
-ghost use Rattle.psl_parser.specs.FirstForm.{IsText, IsOfFirstForm};
-ghost use Rattle.pslc.specs.Endings.{Explained, OfTold};
-ghost use Rattle.pslc.specs.Faults.{of_file, of_none, fault_of, FileHas, FileFails, IsOfFile, IsFileReason};
-ghost use Rattle.pslc.specs.Judged.{AreVerdicts};
-ghost use Rattle.pslc.specs.Kernel.{AreNamed, IsUnitOf};
-ghost use Rattle.pslc.specs.Recorded.{IsSampled, IsRecordingText};
-ghost use Rattle.pslc.specs.Refusals.{WaveRefusal, WaveFinds};
-ghost use Rattle.vcd_reader.specs.Sampled.{letters_of};
-ghost use Rattle.vcd_reader.specs.Tokens.{file_limit};
+ghost use Rattle.std.specs.Prelude.{◌≡◌, ◌⊎◌, Ok, Err, IfOk, IfErr};
+ghost use Rattle.psl_base.specs.Shelf.{OnlyReads};
+ghost use Rattle.pslc.specs.Stages.{Gives, Refuses, IsOfFile, IsOfFileOrMemory, IsCounted, TextFails};
+ghost use Rattle.pslc.specs.Waves.{VerdictsReading, WaveStage};
 
-use crate::finish::of_none;
-use crate::judge::judge;
-use crate::outcome::{Fault, Reason, Verdicts};
+use crate::outcome::{Fault, Reason};
 use crate::resolve::{ResolveFault, resolve};
-use psl_base::{Bytes, ReadAllFault, Shelf, Text, read_all};
-use psl_parser::{ParseFault, parse};
+use crate::sampled::load_recording;
+use crate::telling::{of_none, told};
+use crate::unit::load_unit;
+use psl_base::Shelf;
 use psl_tree::UnitTree;
 use std::alloc::Global;
-use vcd_reader::{Recording, VcdFault, read_vcd};
-
-/// How many bytes a file has at most.
-const FILE_LIMIT: u64 = 268_435_456;
+use vcd_reader::Recording;
+use wave_judge::{Verdicts, judge};
 
 /// Judges a text on a recording, both read from files: `wave UNIT RECORDING`.
 pub fn wave<F: Shelf>(
@@ -31,9 +21,11 @@ pub fn wave<F: Shelf>(
     unit: &str,
     recording: &str,
 ) -> Result<Verdicts, Fault>
-    ensures explained { Explained ⊥ (F.state files.old) (F.state files.new) (WaveRefusal unit.now recording.now) (fault_of result) }
-    ensures named { IfErr result (λ fault. IsOfFile unit.now fault ⊎ IsOfFile recording.now fault) }
-    ensures verdicts { IfOk result (λ verdicts. OfTold (F.state files.old) (λ told. WaveFinds unit.now recording.now told verdicts)) }
+    ensures gives { IfOk result (λ verdicts. Gives (F.state files.old) (WaveStage unit.now recording.now) verdicts) }
+    ensures refuses { IfErr result (λ fault. Refuses (F.state files.old) (F.state files.new) (WaveStage unit.now recording.now) fault) }
+    ensures named { IfErr result (λ fault. IsOfFileOrMemory unit.now fault ⊎ IsOfFile recording.now fault) }
+    ensures quiet { IfOk result (λ _. (F.state files.new).read_faults ≡ (F.state files.old).read_faults) }
+    ensures counted { IfErr result (λ fault. IsCounted (F.state files.old) (F.state files.new) fault) }
     ensures kept { OnlyReads (F.state files.old) (F.state files.new) }
 {
     let tree = match load_unit(alloc, files, unit) {
@@ -47,82 +39,23 @@ pub fn wave<F: Shelf>(
     judge_tree(alloc, &tree, &sampled, unit)
 }
 
-/// The verdicts of a text on a recording. A name that the recording lacks is a fault of the text.
+/// The verdicts of a text on a recording.
 fn judge_tree(
     alloc: Global,
     tree: &UnitTree,
     recording: &Recording,
     unit: &str,
 ) -> Result<Verdicts, Fault>
-    ensures named { IfOk result (λ _. AreNamed recording.now.names tree.now) }
-    ensures verdicts { IfOk result (λ verdicts. (directives : List Directive) × IsUnitOf recording.now.names tree.now directives × AreVerdicts (letters_of recording.now) directives verdicts) }
-    ensures fails { IfErr result (λ fault. (fault ≡ of_none Reason.NoMemory) ⊎ ((fault ≡ of_file Reason.NotYet unit.now) × (AreNamed recording.now.names tree.now → ⊥))) }
+    ensures gives { IfOk result (λ verdicts. VerdictsReading unit.now tree.now recording.now (Ok verdicts)) }
+    ensures refuses { IfErr result (λ fault. TextFails unit.now (λ fault. VerdictsReading unit.now tree.now recording.now (Err fault)) fault) }
 {
     let directives = match resolve(alloc, tree, recording.names()) {
         Ok(directives) => directives,
-        Err(ResolveFault::NotYet) => return Err(fault_at(alloc, Reason::NotYet, unit)),
+        Err(ResolveFault::NotYet) => return Err(told(alloc, unit, Reason::NotYet, None)),
         Err(ResolveFault::NoMemory) => return Err(of_none(Reason::NoMemory)),
     };
     match judge(alloc, &directives, recording) {
         Ok(verdicts) => Ok(verdicts),
         Err(_) => Err(of_none(Reason::NoMemory)),
-    }
-}
-
-/// The tree of the text in a file.
-fn load_unit<F: Shelf>(alloc: Global, files: &mut F, name: &str) -> Result<UnitTree, Fault>
-    ensures tree { IfOk result (λ tree. FileHas (λ content. IsText content tree) name.now (F.state files.old)) }
-    ensures fails { IfErr result (λ fault. FileFails IsOfFirstForm name.now (F.state files.old) (F.state files.new) fault) }
-    ensures kept { OnlyReads (F.state files.old) (F.state files.new) }
-{
-    let text = load(alloc, files, name)?;
-    match parse(alloc, text.as_slice()) {
-        Ok(tree) => Ok(tree),
-        Err(ParseFault::NotYet) => Err(fault_at(alloc, Reason::NotYet, name)),
-        Err(ParseFault::NoMemory) => Err(of_none(Reason::NoMemory)),
-    }
-}
-
-/// The whole content of a file.
-fn load<F: Shelf>(alloc: Global, files: &mut F, name: &str) -> Result<Bytes, Fault>
-    ensures content { IfOk result (λ bytes. IsContent (F.state files.old) name.now bytes) }
-    ensures within { IfOk result (λ bytes. length bytes ≤ file_limit) }
-    ensures fails { IfErr result (λ fault. FileFails IsOfFirstForm name.now (F.state files.old) (F.state files.new) fault) }
-    ensures kept { OnlyReads (F.state files.old) (F.state files.new) }
-{
-    match read_all(alloc, files, name, FILE_LIMIT) {
-        Ok(bytes) => Ok(bytes),
-        Err(ReadAllFault::ReadFault) => Err(fault_at(alloc, Reason::ReadFault, name)),
-        Err(ReadAllFault::TooLong) => Err(fault_at(alloc, Reason::TooLong, name)),
-        Err(ReadAllFault::NoMemory) => Err(of_none(Reason::NoMemory)),
-    }
-}
-
-/// The recording in a file.
-fn load_recording<F: Shelf>(alloc: Global, files: &mut F, name: &str) -> Result<Recording, Fault>
-    ensures recording { IfOk result (λ recording. FileHas (λ content. IsSampled content recording) name.now (F.state files.old)) }
-    ensures fails { IfErr result (λ fault. FileFails IsRecordingText name.now (F.state files.old) (F.state files.new) fault) }
-    ensures kept { OnlyReads (F.state files.old) (F.state files.new) }
-{
-    match read_vcd(alloc, files, name) {
-        Ok(recording) => Ok(recording),
-        Err(VcdFault::NotYet) => Err(fault_at(alloc, Reason::NotYet, name)),
-        Err(VcdFault::ReadFault) => Err(fault_at(alloc, Reason::ReadFault, name)),
-        Err(VcdFault::TooLong) => Err(fault_at(alloc, Reason::TooLong, name)),
-        Err(VcdFault::NoMemory) => Err(of_none(Reason::NoMemory)),
-    }
-}
-
-/// A fault of a file, or want of memory where its name cannot be kept.
-fn fault_at(alloc: Global, reason: Reason, name: &str) -> Fault
-    ensures { (result ≡ of_file reason name.now) ⊎ (result ≡ of_none Reason.NoMemory) }
-{
-    match Text::from_slice(alloc, name.as_bytes()) {
-        Ok(file) => Fault {
-            reason,
-            file: Some(file),
-            place: None,
-        },
-        Err(_) => of_none(Reason::NoMemory),
     }
 }

@@ -1,12 +1,16 @@
-mod Declaring
+mod Defining
 mod Digits
-pub mod Forming
+pub mod Firsts
 mod Holding
-mod Joining
+pub mod Joining
 mod Latest
 mod Letters
 mod Places
 mod Placing
 mod Rows
+mod Saying
 mod Scanning
+mod Shaped
+mod Short
+mod Telling
 mod Values

@@ -13,7 +13,7 @@ ArePlaced bytes [] = Unit {0}
 ArePlaced bytes (t ∷ ts) = IsPlaced bytes t × ArePlaced bytes ts
 
 -- what is left of a text after one more byte
-rest_after : (bytes rest : List ℕ) (b at : ℕ) → drop at bytes ≡ b ∷ rest → drop (suc at) bytes ≡ rest
+pub rest_after : (bytes rest : List ℕ) (b at : ℕ) → drop at bytes ≡ b ∷ rest → drop (suc at) bytes ≡ rest
 rest_after [] rest b zero here = absurd (let no : [] ≡ b ∷ rest = here in cc)
 rest_after [] rest b (suc n) here = absurd (let no : [] ≡ b ∷ rest = here in cc)
 rest_after (x ∷ xs) rest b zero here = cc

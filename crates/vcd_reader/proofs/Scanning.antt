@@ -1,7 +1,5 @@
 -- Going over a text byte by byte, from the left.
-use Rattle.std.proofs.Common.{◌≡◌, ℕ, suc, ◌+◌, ◌<◌, ◌≤◌, Bool, true, false, cond, List, [], ◌∷◌, ◌++◌, length, get_or, drop, refl, sym, ap, ◌∙◌, ⊎_elim, ◌-◌, add-one, arith, drop-cons, append_assoc}
-use Rattle.std.proofs.lemmas.Bool.{cases_lt}
-use Rattle.std.proofs.lemmas.List.{drop_all}
+use Rattle.std.proofs.Common.{◌≡◌, ℕ, suc, ◌+◌, ◌<◌, ◌≤◌, Bool, true, false, cond, List, [], ◌∷◌, ◌++◌, length, get_or, drop, refl, sym, ap, ◌∙◌, ◌-◌, add-one, arith, drop-cons, append_assoc}
 use Rattle.std.proofs.lemmas.List.Edits.{between_more}
 use Rattle.std.specs.List.{slice_range}
 use Rattle.vcd_reader.specs.Tokens.{Token, is_white, begins_word, onto_first, tokens_from}

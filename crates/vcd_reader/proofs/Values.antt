@@ -1,45 +1,63 @@
 -- The value of a signal at a time, by the changes that are kept of it.
 use Rattle.std.proofs.Common.{◌≡◌, ℕ, suc, zero, ◌+◌, ◌<◌, ◌≤◌, Bool, true, false, cond, nat_le, nat_lt, eqb, List, [], ◌∷◌, length, get_or, Option, None, Some, refl, sym, ap, subst, ◌∙◌, arith}
-use Rattle.std.proofs.lemmas.Bool.{ltb-true, ne_eqb, lt-ltb, le-ltb, le-leb, lt-leb, cond-true, cond-false}
-use Rattle.vcd_reader.specs.Events.{Event, At, Change, before_higher, last_change, is_last, times_after, is_later, rise_after}
+use Rattle.std.proofs.lemmas.Bool.{ltb-true, ltb-false, ne_eqb, eqb-true, eqb-false, le-ltb, le-leb, lt-leb, cond-true, cond-false}
+use Rattle.vcd_reader.specs.Events.{Event, At, Change, before_higher, last_change, is_last, falls, times_after, never_fall}
 
 -- a change that is kept: how many samples were begun before it, and its letters
 pub record Kept : Type 0 where
   pub begun : ℕ
   pub value : List ℕ
 
--- the changes of a signal, after so many samples
-abbrev pub kept : ℕ → ℕ → List Event → List Kept
-kept begun signal [] = []
-kept begun signal (At time ∷ es) = kept (suc begun) signal es
-kept begun signal (Change other value ∷ es) = cond (eqb other signal) (record { begun = begun; value = value } ∷ kept begun signal es) (kept begun signal es)
+-- the changes of a signal, after so many samples and a last time
+abbrev pub kept : ℕ → Option ℕ → ℕ → List Event → List Kept
+kept begun last signal [] = []
+kept begun last signal (At time ∷ es) = cond (is_last last time) (kept begun last signal es) (kept (suc begun) (Some time) signal es)
+kept begun last signal (Change other value ∷ es) = cond (eqb other signal) (record { begun = begun; value = value } ∷ kept begun last signal es) (kept begun last signal es)
 
 -- the last change before which at most so many samples were begun
 abbrev pub latest : Option (List ℕ) → ℕ → List Kept → Option (List ℕ)
 latest old most [] = old
 latest old most (x ∷ xs) = latest (cond (nat_le x.begun most) (Some x.value) old) most xs
 
--- how many times stand before the next higher one
-abbrev pub times_upto : ℕ → List Event → ℕ
-times_upto time [] = 0
-times_upto time (At other ∷ es) = cond (nat_lt time other) 0 (suc (times_upto time es))
-times_upto time (Change signal value ∷ es) = times_upto time es
+-- how many times stand before the next one that is higher than this, each once
+abbrev pub times_upto : Option ℕ → ℕ → List Event → ℕ
+times_upto last time [] = 0
+times_upto last time (At other ∷ es) = cond (nat_lt time other) 0 (cond (is_last last other) (times_upto last time es) (suc (times_upto (Some other) time es)))
+times_upto last time (Change signal value ∷ es) = times_upto last time es
+
+-- the time is not lower than the last one
+abbrev pub IsUpto : Option ℕ → ℕ → Type 0
+IsUpto None time = Unit {0}
+IsUpto (Some last) time = last ≤ time
 
 by_later : (is : Bool) (old : Option (List ℕ)) (most begun : ℕ) (value : List ℕ) (xs : List Kept) → nat_le begun most ≡ false → latest old most xs ≡ old → latest old most (cond is (record { begun = begun; value = value } ∷ xs) xs) ≡ old
 by_later true old most begun value xs later same = ap (λ (o : Option (List ℕ)). latest o most xs) (cond-false (nat_le begun most) (Some value) old later) ∙ same
 by_later false old most begun value xs later same = same
 
--- changes that come later do not count
-latest-later : (old : Option (List ℕ)) (most begun signal : ℕ) (es : List Event) → most < begun → latest old most (kept begun signal es) ≡ old
-latest-later old most begun signal [] later = refl
-latest-later old most begun signal (At time ∷ es) later = latest-later old most (suc begun) signal es (omega arith)
-latest-later old most begun signal (Change other value ∷ es) later =
-    by_later (eqb other signal) old most begun value (kept begun signal es) (lt-leb begun most later) (latest-later old most begun signal es later)
+either : (is : Bool) (old : Option (List ℕ)) (most : ℕ) (xs ys : List Kept) → latest old most xs ≡ old → latest old most ys ≡ old → latest old most (cond is xs ys) ≡ old
+either true old most xs ys first second = first
+either false old most xs ys first second = second
 
-by_time : (higher : Bool) (old : Option (List ℕ)) (begun signal other n : ℕ) (before es : List Event) → last_change old signal before ≡ latest old (suc begun + n) (kept (suc begun) signal es) →
-    last_change old signal (cond higher [] (At other ∷ before)) ≡ latest old (begun + cond higher 0 (suc n)) (kept (suc begun) signal es)
-by_time true old begun signal other n before es same = sym (latest-later old (begun + 0) (suc begun) signal es (omega arith))
-by_time false old begun signal other n before es same = same ∙ ap (λ (m : ℕ). latest old m (kept (suc begun) signal es)) (omega arith)
+-- changes that come later do not count
+latest-later : (old : Option (List ℕ)) (most begun : ℕ) (last : Option ℕ) (signal : ℕ) (es : List Event) → most < begun → latest old most (kept begun last signal es) ≡ old
+latest-later old most begun last signal [] later = refl
+latest-later old most begun last signal (At time ∷ es) later =
+    either (is_last last time) old most (kept begun last signal es) (kept (suc begun) (Some time) signal es) (latest-later old most begun last signal es later) (latest-later old most (suc begun) (Some time) signal es (omega arith))
+latest-later old most begun last signal (Change other value ∷ es) later =
+    by_later (eqb other signal) old most begun value (kept begun last signal es) (lt-leb begun most later) (latest-later old most begun last signal es later)
+
+-- a time that is higher than one not lower than the last is not the last
+not_last : (last : Option ℕ) (time other : ℕ) → IsUpto last time → time < other → is_last last other ≡ false
+not_last None time other upto higher = refl
+not_last (Some l) time other upto higher = ne_eqb l other (λ same. omega (arith, upto, higher, same))
+
+by_time : (higher same : Bool) (old : Option (List ℕ)) (begun signal other n m : ℕ) (before : List Event) (xs ys : List Kept) → (higher ≡ true → same ≡ false) → (higher ≡ true → latest old begun ys ≡ old) →
+    (higher ≡ false → same ≡ true → last_change old signal before ≡ latest old (begun + m) xs) → (higher ≡ false → last_change old signal before ≡ latest old (suc begun + n) ys) →
+    last_change old signal (cond higher [] (At other ∷ before)) ≡ latest old (begun + cond higher 0 (cond same m (suc n))) (cond same xs ys)
+by_time true true old begun signal other n m before xs ys differ later equal next = absurd (let no : true ≡ false = differ refl in cc)
+by_time true false old begun signal other n m before xs ys differ later equal next = sym (later refl) ∙ ap (λ (k : ℕ). latest old k ys) (omega arith)
+by_time false true old begun signal other n m before xs ys differ later equal next = equal refl refl
+by_time false false old begun signal other n m before xs ys differ later equal next = next refl ∙ ap (λ (k : ℕ). latest old k ys) (omega arith)
 
 by_change : (is : Bool) (old : Option (List ℕ)) (begun most signal : ℕ) (value : List ℕ) (before : List Event) (xs : List Kept) → begun ≤ most →
     ((o : Option (List ℕ)) → last_change o signal before ≡ latest o most xs) → last_change (cond is (Some value) old) signal before ≡ latest old most (cond is (record { begun = begun; value = value } ∷ xs) xs)
@@ -47,63 +65,90 @@ by_change true old begun most signal value before xs low same = same (Some value
 by_change false old begun most signal value before xs low same = same old
 
 -- the last change before the next higher time is the latest of those kept
-pub last_change-kept : (old : Option (List ℕ)) (time begun signal : ℕ) (es : List Event) → last_change old signal (before_higher time es) ≡ latest old (begun + times_upto time es) (kept begun signal es)
-last_change-kept old time begun signal [] = refl
-last_change-kept old time begun signal (At other ∷ es) =
-    by_time (nat_lt time other) old begun signal other (times_upto time es) (before_higher time es) es (last_change-kept old time (suc begun) signal es)
-last_change-kept old time begun signal (Change other value ∷ es) =
-    by_change (eqb other signal) old begun (begun + times_upto time es) signal value (before_higher time es) (kept begun signal es) (omega arith) (λ o. last_change-kept o time begun signal es)
+pub last_change-kept : (old : Option (List ℕ)) (time begun : ℕ) (last : Option ℕ) (signal : ℕ) (es : List Event) → IsUpto last time →
+    last_change old signal (before_higher time es) ≡ latest old (begun + times_upto last time es) (kept begun last signal es)
+last_change-kept old time begun last signal [] upto = refl
+last_change-kept old time begun last signal (At other ∷ es) upto =
+    by_time (nat_lt time other) (is_last last other) old begun signal other (times_upto (Some other) time es) (times_upto last time es) (before_higher time es) (kept begun last signal es) (kept (suc begun) (Some other) signal es)
+    (λ higher. not_last last time other upto (ltb-true time other higher))
+    (λ higher. latest-later old begun (suc begun) (Some other) signal es (omega arith))
+    (λ low same. last_change-kept old time begun last signal es upto)
+    (λ low. last_change-kept old time (suc begun) (Some other) signal es (ltb-false time other low))
+last_change-kept old time begun last signal (Change other value ∷ es) upto =
+    by_change (eqb other signal) old begun (begun + times_upto last time es) signal value (before_higher time es) (kept begun last signal es) (omega arith) (λ o. last_change-kept o time begun last signal es upto)
 
--- a time that is later than the last one, before others that rise
-by_last : (last : Option ℕ) (time : ℕ) → is_later last time ≡ true → is_last last time ≡ false
-by_last None time later = refl
-by_last (Some l) time later = ne_eqb l time (let below = ltb-true l time later in λ same. omega (arith, below, same))
+-- two tests, the second where the first fails
+pub both : (a b : Bool) → cond a false b ≡ true → (a ≡ false) × (b ≡ true)
+both true b e = cc
+both false b e = (refl, e)
 
-pub times_after-later : (last : Option ℕ) (time : ℕ) (es : List Event) → is_later last time ≡ true → times_after last (At time ∷ es) ≡ time ∷ times_after (Some time) es
-times_after-later last time es later = cond-false (is_last last time) _ _ (by_last last time later)
+by_lower : (higher same : Bool) (last other n m : ℕ) → nat_lt last other ≡ higher → eqb last other ≡ same → nat_lt other last ≡ false → (same ≡ true → n ≡ 0) → cond higher 0 (cond same n (suc m)) ≡ 0
+by_lower true same last other n m is equal low none = refl
+by_lower false true last other n m is equal low none = none refl
+by_lower false false last other n m is equal low none =
+    absurd (let one = ltb-false last other is in let two = ltb-false other last low in let differ = eqb-false last other equal in omega (arith, one, two, differ))
 
--- two tests, the second behind the first
-pub both : (a b : Bool) → cond a b false ≡ true → (a ≡ true) × (b ≡ true)
-both true b e = (refl, e)
-both false b e = cc
-
--- where times rise, none of them is at or below the last
-none_upto : (last time : ℕ) (es : List Event) → rise_after (Some last) es ≡ true → time ≤ last → times_upto time es ≡ 0
-none_upto last time [] rising low = refl
-none_upto last time (At other ∷ es) rising low =
-    let higher = ltb-true last other (both (nat_lt last other) (rise_after (Some other) es) rising).0 in
-    cond-true (nat_lt time other) _ _ (lt-ltb time other (omega (arith, higher, low)))
-none_upto last time (Change signal value ∷ es) rising low = none_upto last time es rising low
+-- where times do not fall, none of them is at or below the last, other than itself
+none_upto : (last : ℕ) (es : List Event) → never_fall (Some last) es ≡ true → times_upto (Some last) last es ≡ 0
+none_upto last [] steady = refl
+none_upto last (Change signal value ∷ es) steady = none_upto last es steady
+none_upto last (At other ∷ es) steady =
+    let parts = both (nat_lt other last) (never_fall (Some other) es) steady in
+    by_lower (nat_lt last other) (eqb last other) last other (times_upto (Some last) last es) (times_upto (Some other) last es) refl refl parts.0
+    (λ same. none_upto last es (subst (λ (n : ℕ). never_fall (Some n) es ≡ true) (sym (eqb-true last other same)) parts.1))
 
 above_first : (last other k : ℕ) (times : List ℕ) → last < other → ((j : ℕ) → j < length times → other < get_or times j 0) → k < suc (length times) → last < get_or (other ∷ times) k 0
 above_first last other zero times higher each in_range = higher
 above_first last other (suc j) times higher each in_range = let next = each j (omega arith) in omega (arith, higher, next)
 
-above_last : (last : ℕ) (es : List Event) (k : ℕ) → rise_after (Some last) es ≡ true → k < length (times_after (Some last) es) → last < get_or (times_after (Some last) es) k 0
-above_last last [] k rising in_range = absurd (omega arith)
-above_last last (Change signal value ∷ es) k rising in_range = above_last last es k rising in_range
-above_last last (At other ∷ es) k rising in_range =
-    let parts = both (nat_lt last other) (rise_after (Some other) es) rising in
-    let higher = ltb-true last other parts.0 in
-    let times = times_after-later (Some last) other es parts.0 in
-    subst (λ (ts : List ℕ). last < get_or ts k 0) (sym times)
-    (above_first last other k (times_after (Some other) es) higher (λ j below. above_last other es j parts.1 below) (subst (λ (ts : List ℕ). k < length ts) times in_range))
+by_listed : (same : Bool) (last other k : ℕ) (before times : List ℕ) → eqb last other ≡ same → nat_lt other last ≡ false → (same ≡ true → k < length before → last < get_or before k 0) → ((j : ℕ) → j < length times → other < get_or times j 0) →
+    k < length (cond same before (other ∷ times)) → last < get_or (cond same before (other ∷ times)) k 0
+by_listed true last other k before times equal low old new in_range = old refl in_range
+by_listed false last other k before times equal low old new in_range =
+    above_first last other k times (let one = ltb-false other last low in let differ = eqb-false last other equal in omega (arith, one, differ)) new in_range
 
-upto_first : (other k : ℕ) (times : List ℕ) (es : List Event) → times_upto other es ≡ 0 → ((j : ℕ) → j < length times → other < get_or times j 0) → ((j : ℕ) → j < length times → times_upto (get_or times j 0) es ≡ suc j) →
-    k < suc (length times) → times_upto (get_or (other ∷ times) k 0) (At other ∷ es) ≡ suc k
-upto_first other zero times es none each next in_range = cond-false (nat_lt other other) _ _ (le-ltb other other (omega arith)) ∙ ap suc none
-upto_first other (suc j) times es none each next in_range =
+-- the times after a last one are higher
+above_last : (last : ℕ) (es : List Event) (k : ℕ) → never_fall (Some last) es ≡ true → k < length (times_after (Some last) es) → last < get_or (times_after (Some last) es) k 0
+above_last last [] k steady in_range = absurd (omega arith)
+above_last last (Change signal value ∷ es) k steady in_range = above_last last es k steady in_range
+above_last last (At other ∷ es) k steady in_range =
+    let parts = both (nat_lt other last) (never_fall (Some other) es) steady in
+    by_listed (eqb last other) last other k (times_after (Some last) es) (times_after (Some other) es) refl parts.0
+    (λ same below. above_last last es k (subst (λ (n : ℕ). never_fall (Some n) es ≡ true) (sym (eqb-true last other same)) parts.1) below)
+    (λ j below. above_last other es j parts.1 below) in_range
+
+last_is : (last : Option ℕ) (time : ℕ) → is_last last time ≡ true → last ≡ Some time
+last_is None time same = absurd (let no : false ≡ true = same in cc)
+last_is (Some l) time same = ap Some (eqb-true l time same)
+
+upto_first : (other k : ℕ) (times : List ℕ) (upto : ℕ → ℕ) → upto other ≡ 0 → ((j : ℕ) → j < length times → other < get_or times j 0) → ((j : ℕ) → j < length times → upto (get_or times j 0) ≡ suc j) → k < suc (length times) →
+    cond (nat_lt (get_or (other ∷ times) k 0) other) 0 (suc (upto (get_or (other ∷ times) k 0))) ≡ suc k
+upto_first other zero times upto none each next in_range = cond-false (nat_lt other other) _ _ (le-ltb other other (omega arith)) ∙ ap suc none
+upto_first other (suc j) times upto none each next in_range =
     let below : j < length times = omega arith in
     let above = each j below in
     cond-false (nat_lt (get_or times j 0) other) _ _ (le-ltb (get_or times j 0) other (omega (arith, above))) ∙ ap suc (next j below)
 
+by_counted : (same : Bool) (other k : ℕ) (before times : List ℕ) (old new : ℕ → ℕ) →
+    (same ≡ true → k < length before → (other < get_or before k 0) × (old (get_or before k 0) ≡ suc k)) → new other ≡ 0 → ((j : ℕ) → j < length times → other < get_or times j 0) → ((j : ℕ) → j < length times → new (get_or times j 0) ≡ suc j) →
+    k < length (cond same before (other ∷ times)) →
+    (let x = get_or (cond {A = List ℕ} same before (other ∷ times)) k 0 in cond (nat_lt x other) 0 (cond same (old x) (suc (new x)))) ≡ suc k
+by_counted true other k before times old new again none each next in_range =
+    let here = again refl in_range in
+    let above = here.0 in
+    cond-false (nat_lt (get_or before k 0) other) _ _ (le-ltb (get_or before k 0) other (omega (arith, above))) ∙ here.1
+by_counted false other k before times old new again none each next in_range = upto_first other k times new none each next in_range
+
 -- the time at a place of the list has so many times up to it
-pub times_upto-get_or : (last : Option ℕ) (es : List Event) (k : ℕ) → rise_after last es ≡ true → k < length (times_after last es) → times_upto (get_or (times_after last es) k 0) es ≡ suc k
-times_upto-get_or last [] k rising in_range = absurd (omega arith)
-times_upto-get_or last (Change signal value ∷ es) k rising in_range = times_upto-get_or last es k rising in_range
-times_upto-get_or last (At other ∷ es) k rising in_range =
-    let parts = both (is_later last other) (rise_after (Some other) es) rising in
-    let times = times_after-later last other es parts.0 in
-    subst (λ (ts : List ℕ). times_upto (get_or ts k 0) (At other ∷ es) ≡ suc k) (sym times)
-    (upto_first other k (times_after (Some other) es) es (none_upto other other es parts.1 (omega arith)) (λ j below. above_last other es j parts.1 below) (λ j below. times_upto-get_or (Some other) es j parts.1 below)
-    (subst (λ (ts : List ℕ). k < length ts) times in_range))
+pub times_upto-get_or : (last : Option ℕ) (es : List Event) (k : ℕ) → never_fall last es ≡ true → k < length (times_after last es) → times_upto last (get_or (times_after last es) k 0) es ≡ suc k
+times_upto-get_or last [] k steady in_range = absurd (omega arith)
+times_upto-get_or last (Change signal value ∷ es) k steady in_range = times_upto-get_or last es k steady in_range
+times_upto-get_or last (At other ∷ es) k steady in_range =
+    let parts = both (falls last other) (never_fall (Some other) es) steady in
+    by_counted (is_last last other) other k (times_after last es) (times_after (Some other) es) (λ x. times_upto last x es) (λ x. times_upto (Some other) x es)
+    (λ same below. let is = last_is last other same in
+    let here : k < length (times_after (Some other) es) = subst (λ (o : Option ℕ). k < length (times_after o es)) is below in (
+      subst (λ (o : Option ℕ). other < get_or (times_after o es) k 0) (sym is) (above_last other es k parts.1 here),
+      subst (λ (o : Option ℕ). times_upto o (get_or (times_after o es) k 0) es ≡ suc k) (sym is) (times_upto-get_or (Some other) es k parts.1 here),
+    ))
+    (none_upto other es parts.1) (λ j below. above_last other es j parts.1 below) (λ j below. times_upto-get_or (Some other) es j parts.1 below) in_range

@@ -1,5 +1,5 @@
 -- Decimal numbers.
-use Rattle.std.specs.Prelude.{ℕ, ◌+◌, ◌-◌, ◌*◌, nat_le, nat_lt, Bool, false, ◌&&◌, cond, List, [], ◌∷◌, Option, None, Some}
+use Rattle.std.specs.Prelude.{ℕ, ◌+◌, ◌-◌, ◌*◌, nat_le, Bool, false, ◌&&◌, cond, List, [], ◌∷◌, Option, None, Some}
 use Rattle.std.specs.List.{list_all}
 
 -- a byte `0` to `9`
@@ -16,6 +16,6 @@ abbrev pub are_digits : List ℕ → Bool
 are_digits [] = false
 are_digits (byte ∷ bytes) = list_all is_digit (byte ∷ bytes)
 
--- the number that a text says in decimal digits, where it is below the limit
-abbrev pub decimal_below : ℕ → List ℕ → Option ℕ
-decimal_below limit text = cond (are_digits text && nat_lt (number_after 0 text) limit) (Some (number_after 0 text)) None
+-- the number that a text says in decimal digits, of which there may be any number, where it is at most so large
+abbrev pub decimal_upto : ℕ → List ℕ → Option ℕ
+decimal_upto most text = cond (are_digits text && nat_le (number_after 0 text) most) (Some (number_after 0 text)) None

@@ -28,6 +28,11 @@ abbrev pub is_last : Option ℕ → ℕ → Bool
 is_last None time = false
 is_last (Some last) time = last == time
 
+-- the time is lower than the last one
+abbrev pub falls : Option ℕ → ℕ → Bool
+falls None time = false
+falls (Some last) time = nat_lt time last
+
 -- the times after a last one, in order, each once: a time equal to the one before it is the same
 abbrev pub times_after : Option ℕ → List Event → List ℕ
 times_after last [] = []
@@ -38,13 +43,8 @@ times_after last (Change signal value ∷ events) = times_after last events
 abbrev pub times_of : List Event → List ℕ
 times_of events = times_after None events
 
--- the time is higher than the last one, if there is one
-abbrev pub is_later : Option ℕ → ℕ → Bool
-is_later None time = true
-is_later (Some last) time = nat_lt last time
-
--- each time is higher than the one before it
-abbrev pub rise_after : Option ℕ → List Event → Bool
-rise_after last [] = true
-rise_after last (At time ∷ events) = cond (is_later last time) (rise_after (Some time) events) false
-rise_after last (Change signal value ∷ events) = rise_after last events
+-- no time is lower than the one before it
+abbrev pub never_fall : Option ℕ → List Event → Bool
+never_fall last [] = true
+never_fall last (At time ∷ events) = cond (falls last time) false (never_fall (Some time) events)
+never_fall last (Change signal value ∷ events) = never_fall last events

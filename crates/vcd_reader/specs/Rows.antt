@@ -4,7 +4,7 @@ use Rattle.std.specs.List.{range_with_len}
 use Rattle.std.specs.Option.{option_map}
 use Rattle.psl_tree.specs.declared.name.Name.{Name}
 use Rattle.vcd_reader.specs.declared.track.Shot.{Shot}
-use Rattle.vcd_reader.specs.FirstForm.{sample_limit}
+use Rattle.vcd_reader.specs.Rules.{sample_limit}
 use Rattle.vcd_reader.specs.Sampled.{AreAlike}
 use Rattle.vcd_reader.specs.Shots.{latest_shot, letters_in}
 

@@ -1,7 +1,6 @@
 -- A recording as values at samples, and the letters that it stands for.
 use Rattle.std.specs.Prelude.{◌≡◌, ℕ, ◌+◌, ◌-◌, ◌<◌, ◌==◌, nat_lt, Bool as Truth, false, not, ◌&&◌, ◌||◌, cond, List, [], ◌∷◌, map, length, slice_index, slice_index_or, filter, Option, None, Some, Any, All}
 use Rattle.std.specs.List.{range_with_len, flat_map}
-use Rattle.std.specs.Option.{option_map}
 use Rattle.psl_tree.specs.declared.atom.Atom.{Atom}
 use Rattle.psl_tree.specs.declared.atom.Edge.{Edge}
 use Rattle.psl_tree.specs.declared.atom.Edge.TheVariants.{Value, Rise, Fall}
@@ -9,10 +8,6 @@ use Rattle.psl_tree.specs.declared.letter.Letter.{Letter}
 use Rattle.psl_tree.specs.declared.letter.Letter.TheVariants.{Holds}
 use Rattle.psl_tree.specs.declared.name.Name.{Name}
 use Rattle.psl_tree.specs.Trees.{Boolean, Const, Test, Not, And, Or}
-use Rattle.vcd_reader.specs.Events.{value_at, times_of}
-use Rattle.vcd_reader.specs.FirstForm.{Dump, names_of}
-use Rattle.vcd_reader.specs.Reading.{first_form}
-use Rattle.vcd_reader.specs.Tokens.{tokens}
 
 -- what contracts see of a recording
 pub record Sampled : Type 0 where
@@ -98,20 +93,3 @@ letter_at recording sample = Holds (filter (atom_at recording sample) (atoms_of 
 -- the word that a recording stands for: one letter for each sample, in order
 abbrev pub letters_of : Sampled → List Letter
 letters_of recording = map (letter_at recording) (range_with_len 0 (length recording.samples))
-
--- the names of signals of one bit, numbered in order
-abbrev pub entries_from : ℕ → List (List ℕ) → List Name
-entries_from signal [] = []
-entries_from signal (text ∷ texts) = record { text = text; signal = signal; left = 0; right = 0 } ∷ entries_from (signal + 1) texts
-
--- what a recording says: one sample for each distinct time that is listed, in order, and at it of each
--- signal its last change before the next higher time
-abbrev pub sampled_of : Dump → Sampled
-sampled_of dump = record {
-  names = entries_from 0 (names_of dump.declared);
-  samples = map (λ time. map (λ signal. value_at dump.events signal time) (range_with_len 0 (length dump.declared))) (times_of dump.events);
-}
-
--- what the bytes of a file say, where they are a recording of the first form
-abbrev pub sampled : List ℕ → Option Sampled
-sampled bytes = option_map sampled_of (first_form (tokens bytes))

@@ -32,10 +32,6 @@ tokens_from at (b ∷ bs) =
 abbrev pub tokens : List ℕ → List Token
 tokens bytes = tokens_from 0 bytes
 
--- how many bytes a file has at most
-abbrev pub file_limit : ℕ
-file_limit = 268_435_456
-
 -- the token that a word of the program stands for
 abbrev pub token_of : Word → Token
 token_of word = record { at = word.at; text = word.text.now }

@@ -1,16 +1,18 @@
-ghost use Rattle.std.specs.Prelude.{◌≡◌, ℕ, ◌≤◌, ◌<◌, ◌^◌, ◌+◌, [], ◌∷◌, length, Some, OnOk, IfOk, IfErr};
-ghost use Rattle.std.specs.Option.{option_map};
-ghost use Rattle.vcd_reader.specs.Body.{nothing_held, held_with, held_if, held_body};
-ghost use Rattle.vcd_reader.specs.Decimal.{decimal_below};
-ghost use Rattle.vcd_reader.specs.Events.{At, Change, is_later};
-ghost use Rattle.vcd_reader.specs.Faults.{Unread};
-ghost use Rattle.vcd_reader.specs.FirstForm.{time_limit};
-ghost use Rattle.vcd_reader.specs.Labels.{place_of};
-ghost use Rattle.vcd_reader.specs.Tokens.{token_of};
+ghost use Rattle.std.specs.Prelude.{◌≡◌, List, ◌+◌, ◌<◌, ◌≤◌, ◌^◌, ◌∷◌, drop, length, Some, Ok, OnOk, IfOk, IfErr};
+ghost use Rattle.psl_base.specs.Places.{file_limit};
+ghost use Rattle.vcd_reader.specs.Declarations.{Declared};
+ghost use Rattle.vcd_reader.specs.Events.{is_last, falls};
+ghost use Rattle.vcd_reader.specs.Rules.{sample_limit};
+ghost use Rattle.vcd_reader.specs.Running.{Held, telling, nothing_held, tracks_with, Goes, GoesOn, Halts};
+ghost use Rattle.vcd_reader.specs.Shapes.{shape_of};
+ghost use Rattle.vcd_reader.specs.Standing.{Ready, Telling, WantsUnreadCode, WantsVectorCode};
+ghost use Rattle.vcd_reader.specs.Tokens.{Token, token_of};
 
-use crate::VcdFault;
 use crate::decimal::decimal;
-use crate::texts::Distinct;
+use crate::definitions::Definitions;
+use crate::sections::{comment, wanted};
+use crate::shape::{Shape, shape_of};
+use crate::stop::{Halt, Rule, Stop};
 use crate::tokens::{Tokens, Word};
 use crate::track::{Shot, Track};
 use std::alloc::Global;
@@ -24,30 +26,34 @@ const SAMPLES: u32 = 10_000;
 pub struct Body {
     last: Option<u64>,
     begun: u32,
+    in_block: bool,
     tracks: Vec<Track>,
 }
 
 impl Model for Body {
     ghost use Rattle.std.specs.Prelude.{◌≤◌, All};
-    ghost use Rattle.vcd_reader.specs.Body.{Held};
-    ghost use Rattle.vcd_reader.specs.FirstForm.{sample_limit};
+    ghost use Rattle.vcd_reader.specs.Rules.{sample_limit};
+    ghost use Rattle.vcd_reader.specs.Running.{Held};
 
     ghost Value = { Held };
 
-    ghost view = { λ body. record { last = body.last; begun = body.begun; tracks = body.tracks.items } };
+    ghost view = { λ body. record { told = record { last = body.last; begun = body.begun; in_block = body.in_block }; tracks = body.tracks.items } };
 
     ghost invariant = { λ body. (body.begun ≤ sample_limit) × All (λ track. All (λ shot. shot.begun ≤ body.begun) track) body.tracks.items };
 }
 
 impl Body {
     /// What the tokens say, which stand after the definitions.
-    pub fn read(alloc: Global, codes: &Distinct, tokens: &mut Tokens) -> Result<Body, VcdFault>
-        ensures ok { IfOk result (λ body. held_body codes.now (nothing_held (length codes.now)) tokens.old ≡ Some body) }
-        ensures err { IfErr result (λ fault. Unread fault (held_body codes.now (nothing_held (length codes.now)) tokens.old)) }
+    pub fn read(alloc: Global, found: &Definitions, tokens: &mut Tokens) -> Result<Body, Halt>
+        ensures ok { IfOk result (λ body. telling found.now (nothing_held (length found.now.codes)) Ready tokens.old ≡ Ok (record { declared = found.now; part = Telling body.told; tracks = body.tracks })) }
+        ensures err { IfErr result (λ halt. Halts halt (telling found.now (nothing_held (length found.now.codes)) Ready tokens.old)) }
     {
-        let mut body = Body::new(alloc, codes.len())?;
+        let mut body = Body::new(alloc, found.len())?;
         while let Some(word) = tokens.next() {
-            body.take(codes, word)?;
+            body.take(found, word, tokens)?;
+        }
+        if body.in_block {
+            return Err(Halt::Stopped(Stop::Ends));
         }
         Ok(body)
     }
@@ -55,90 +61,211 @@ impl Body {
     /// The changes of each signal, and how many samples were begun.
     pub fn into_parts(self) -> (Vec<Track>, u32)
         ensures tracks { result.0.items ≡ self.tracks }
-        ensures samples { result.1 ≡ self.begun }
+        ensures samples { result.1 ≡ self.told.begun }
     {
         let Body { tracks, begun, .. } = self;
         (tracks, begun)
     }
 
     /// Nothing yet of so many signals.
-    fn new(alloc: Global, signals: usize) -> Result<Body, VcdFault>
+    fn new(alloc: Global, signals: usize) -> Result<Body, Halt>
         ensures ok { IfOk result (λ body. body ≡ nothing_held signals) }
-        ensures err { IfErr result (λ fault. fault ≡ VcdFault.NoMemory) }
+        ensures err { IfErr result (λ halt. halt ≡ Halt.NoMemory) }
     {
         let mut tracks = Vec::new(alloc);
         for _ in 0..signals {
             if tracks.push(Track::new(alloc)).is_err() {
-                return Err(VcdFault::NoMemory);
+                return Err(Halt::NoMemory);
             }
         }
         Ok(Body {
             last: None,
             begun: 0,
+            in_block: false,
             tracks,
         })
     }
 
-    /// One token more.
-    fn take(&mut self, codes: &Distinct, word: Word) -> Result<(), VcdFault>
-        requires signals { length self.old.tracks ≡ length codes.now }
-        requires place { word.at + length word.text.now < 2 ^ 32 }
-        ensures ok { OnOk result (held_with codes.now self.old (token_of word.entry) ≡ Some self.new) }
-        ensures err { IfErr result (λ fault. Unread fault (held_with codes.now self.old (token_of word.entry))) }
+    /// Reads what begins with a token: a time, a change, a comment, or a bound of a block.
+    fn take(&mut self, found: &Definitions, word: Word, tokens: &mut Tokens) -> Result<(), Halt>
+        requires signals { length self.old.tracks ≡ length found.now.codes }
+        requires place { word.at + length word.text.now ≤ file_limit }
+        ensures goes { Goes result (telling found.now self.old Ready (token_of word.entry ∷ tokens.old)) (telling found.now self.new Ready tokens.new) }
         ensures tracks { length self.new.tracks ≡ length self.old.tracks }
+        ensures fewer { OnOk result (length tokens.new ≤ length tokens.old) }
     {
-        match word.text {
-            [b'#', digits @ ..] => self.take_time(digits),
-            [b'0' | b'1', code @ ..] => self.take_change(codes, code, word.at),
-            _ => Err(VcdFault::NotYet),
+        match shape_of(word.text) {
+            Shape::Scalar => self.scalar(found, word),
+            Shape::Vector => self.vector(found, word, tokens),
+            Shape::Time => self.time(word),
+            Shape::Unread => unread(found, tokens),
+            Shape::Comment => comment(tokens),
+            Shape::Dump => self.begin_block(word),
+            Shape::End => self.end_block(word),
+            Shape::Other => Err(Halt::at(word.at, Rule::BadValue)),
+            Shape::Unknown
+            | Shape::Header
+            | Shape::Scope
+            | Shape::Upscope
+            | Shape::Var
+            | Shape::EndDefinitions => Err(Halt::at(word.at, Rule::UnknownKeyword)),
         }
     }
 
-    /// The digits of a time.
-    fn take_time(&mut self, digits: &[u8]) -> Result<(), VcdFault>
-        ensures ok { OnOk result ((at : ℕ) → held_if self.old at (option_map At (decimal_below time_limit digits.now)) ≡ Some self.new) }
-        ensures err { IfErr result (λ fault. (at : ℕ) → Unread fault (held_if self.old at (option_map At (decimal_below time_limit digits.now)))) }
-        ensures tracks { length self.new.tracks ≡ length self.old.tracks }
+    /// A word that begins a block of changes.
+    fn begin_block(&mut self, word: Word) -> Result<(), Halt>
+        requires { shape_of word.text.now ≡ Shape.Dump }
+        ensures goes { (d : Declared) (tokens : List Token) → GoesOn result (telling d self.old Ready (token_of word.entry ∷ tokens)) (telling d self.new Ready tokens) }
+        ensures tracks { self.new.tracks ≡ self.old.tracks }
     {
-        let Some(time) = decimal(digits) else {
-            return Err(VcdFault::NotYet);
+        if self.in_block {
+            return Err(Halt::at(word.at, Rule::MissingEnd));
+        }
+        self.in_block = true;
+        Ok(())
+    }
+
+    /// The end of a block of changes.
+    fn end_block(&mut self, word: Word) -> Result<(), Halt>
+        requires { shape_of word.text.now ≡ Shape.End }
+        ensures goes { (d : Declared) (tokens : List Token) → GoesOn result (telling d self.old Ready (token_of word.entry ∷ tokens)) (telling d self.new Ready tokens) }
+        ensures tracks { self.new.tracks ≡ self.old.tracks }
+    {
+        if !self.in_block {
+            return Err(Halt::at(word.at, Rule::UnknownKeyword));
+        }
+        self.in_block = false;
+        Ok(())
+    }
+
+    /// A time: a higher one than the last begins a sample.
+    fn time(&mut self, word: Word) -> Result<(), Halt>
+        requires { shape_of word.text.now ≡ Shape.Time }
+        ensures goes { (d : Declared) (tokens : List Token) → GoesOn result (telling d self.old Ready (token_of word.entry ∷ tokens)) (telling d self.new Ready tokens) }
+        ensures tracks { self.new.tracks ≡ self.old.tracks }
+    {
+        if self.in_block {
+            return Err(Halt::at(word.at, Rule::MissingEnd));
+        }
+        let Some(time) = decimal(u64::MAX, tail(word.text)) else {
+            return Err(Halt::at(word.at, Rule::BadTime));
         };
-        if !later(self.last, time) || self.begun >= SAMPLES {
-            return Err(VcdFault::NotYet);
+        if falls(self.last, time) {
+            return Err(Halt::at(word.at, Rule::TimeFalls));
+        }
+        if same(self.last, time) {
+            return Ok(());
+        }
+        if self.begun >= SAMPLES {
+            return Err(Halt::at(word.at, Rule::TooManySamples));
         }
         self.last = Some(time);
         self.begun += 1;
         Ok(())
     }
 
-    /// A change of one letter, which stands at that byte of the text, and the code of its signal.
-    fn take_change(&mut self, codes: &Distinct, code: &[u8], at: usize) -> Result<(), VcdFault>
-        requires signals { length self.old.tracks ≡ length codes.now }
-        requires place { at < 2 ^ 32 }
-        ensures ok { OnOk result ((letter : ℕ) → held_if self.old at (option_map (λ signal. Change signal (letter ∷ [])) (place_of codes.now code.now)) ≡ Some self.new) }
-        ensures err { IfErr result (λ fault. (letter : ℕ) → Unread fault (held_if self.old at (option_map (λ signal. Change signal (letter ∷ [])) (place_of codes.now code.now)))) }
+    /// A change of one letter.
+    fn scalar(&mut self, found: &Definitions, word: Word) -> Result<(), Halt>
+        requires shape { shape_of word.text.now ≡ Shape.Scalar }
+        requires signals { length self.old.tracks ≡ length found.now.codes }
+        requires place { word.at < 2 ^ 32 }
+        ensures goes { (tokens : List Token) → Goes result (telling found.now self.old Ready (token_of word.entry ∷ tokens)) (telling found.now self.new Ready tokens) }
         ensures tracks { length self.new.tracks ≡ length self.old.tracks }
     {
-        let Some(signal) = codes.find(code) else {
-            return Err(VcdFault::NotYet);
+        let Some(number) = found.find(tail(word.text)) else {
+            return Err(Halt::at(word.at, Rule::CodeNotDeclared));
         };
+        self.change(found, number, word.at, 1)
+    }
+
+    /// A change of a vector, whose code is the next token.
+    fn vector(&mut self, found: &Definitions, word: Word, tokens: &mut Tokens) -> Result<(), Halt>
+        requires shape { shape_of word.text.now ≡ Shape.Vector }
+        requires signals { length self.old.tracks ≡ length found.now.codes }
+        requires place { word.at + length word.text.now ≤ file_limit }
+        ensures goes { Goes result (telling found.now self.old (WantsVectorCode (word.entry.at + 1) (drop 1 word.entry.text.now)) tokens.old) (telling found.now self.new Ready tokens.new) }
+        ensures tracks { length self.new.tracks ≡ length self.old.tracks }
+        ensures fewer { OnOk result (length tokens.new ≤ length tokens.old) }
+    {
+        let code = wanted(tokens)?;
+        let Some(number) = found.find(code.text) else {
+            return Err(Halt::at(code.at, Rule::CodeNotDeclared));
+        };
+        let letters = tail(word.text);
+        if found.narrower(number, letters.len()) {
+            return Err(Halt::at(code.at, Rule::VectorTooLong));
+        }
+        self.change(found, number, word.at + 1, letters.len())
+    }
+
+    /// A change of a signal, whose letters stand there in the text. It counts where the signal is read.
+    fn change(
+        &mut self,
+        found: &Definitions,
+        number: usize,
+        start: usize,
+        len: usize,
+    ) -> Result<(), Halt>
+        requires within { number < length found.now.codes }
+        requires signals { length self.old.tracks ≡ length found.now.codes }
+        requires start { start < 2 ^ 32 }
+        requires len { len < 2 ^ 32 }
+        ensures ok { OnOk result (self.new ≡ record self.old { tracks = tracks_with found.now self.old.tracks (record { begun = self.old.told.begun; start = start; len = len }) (Some number) }) }
+        ensures err { IfErr result (λ halt. halt ≡ Halt.NoMemory) }
+        ensures tracks { length self.new.tracks ≡ length self.old.tracks }
+    {
+        if found.unread(number) {
+            return Ok(());
+        }
         let shot = Shot {
             begun: self.begun,
-            start: at as u32,
-            len: 1,
+            start: start as u32,
+            len: len as u32,
         };
-        let track = &mut self.tracks[signal];
+        let track = &mut self.tracks[number];
         track.push(shot)?;
         Ok(())
     }
 }
 
-/// Whether a time is higher than the last one, if there is one.
-fn later(last: Option<u64>, time: u64) -> bool
-    ensures { result ≡ is_later last time }
+/// The code of a change that is not read.
+fn unread(found: &Definitions, tokens: &mut Tokens) -> Result<(), Halt>
+    ensures goes { (held : Held) → GoesOn result (telling found.now held WantsUnreadCode tokens.old) (telling found.now held Ready tokens.new) }
+    ensures fewer { OnOk result (length tokens.new ≤ length tokens.old) }
+{
+    let code = wanted(tokens)?;
+    if found.find(code.text).is_none() {
+        return Err(Halt::at(code.at, Rule::CodeNotDeclared));
+    }
+    Ok(())
+}
+
+/// What stands behind a text's first byte.
+fn tail(text: &[u8]) -> &[u8]
+    ensures { result.now ≡ drop 1 text.now }
+{
+    match text {
+        [] => text,
+        [_, rest @ ..] => rest,
+    }
+}
+
+/// Whether a time is lower than the last one, if there is one.
+fn falls(last: Option<u64>, time: u64) -> bool
+    ensures { result ≡ falls last time }
 {
     match last {
-        None => true,
-        Some(last) => last < time,
+        None => false,
+        Some(last) => time < last,
+    }
+}
+
+/// Whether a time is the last one.
+fn same(last: Option<u64>, time: u64) -> bool
+    ensures { result ≡ is_last last time }
+{
+    match last {
+        None => false,
+        Some(last) => last == time,
     }
 }

@@ -1,9 +1,11 @@
-ghost use Rattle.std.specs.Prelude.{◌≡◌, ◌+◌, ◌-◌, ◌*◌, ◌^◌, nat_lt, true, if◌then◌else◌};
-ghost use Rattle.vcd_reader.specs.Decimal.{is_digit, decimal_below};
+ghost use Rattle.std.specs.Prelude.{◌≡◌, ◌+◌, ◌-◌, ◌*◌, ◌≤◌, nat_le, true, IfSome, if◌then◌else◌};
+ghost use Rattle.vcd_reader.specs.Decimal.{is_digit, decimal_upto};
 
-/// The number below 2^64 that a text says in decimal digits, of which there may be any number.
-pub fn decimal(text: &[u8]) -> Option<u64>
-    ensures { result ≡ decimal_below (2 ^ 64) text.now }
+/// The number that a text says in decimal digits, of which there may be any number, where it is at most
+/// so large.
+pub fn decimal(most: u64, text: &[u8]) -> Option<u64>
+    ensures is { result ≡ decimal_upto most text.now }
+    ensures within { IfSome result (λ number. number ≤ most) }
 {
     if text.is_empty() {
         return None;
@@ -13,7 +15,7 @@ pub fn decimal(text: &[u8]) -> Option<u64>
         if !digit(*byte) {
             return None;
         }
-        let Some(larger) = with_digit(number, *byte) else {
+        let Some(larger) = with_digit(most, number, *byte) else {
             return None;
         };
         number = larger;
@@ -27,10 +29,11 @@ fn digit(byte: u8) -> bool
     byte >= 48 && byte <= 57
 }
 
-/// A number with a digit more at its end, where that is below 2^64.
-fn with_digit(number: u64, byte: u8) -> Option<u64>
+/// A number with a digit more at its end, where that is at most so large.
+fn with_digit(most: u64, number: u64, byte: u8) -> Option<u64>
     requires { is_digit byte ≡ true }
-    ensures { result ≡ (if nat_lt (number * 10 + (byte - 48)) (2 ^ 64) then Some (number * 10 + (byte - 48)) else None) }
+    ensures { result ≡ (if nat_le (number * 10 + (byte - 48)) most then Some (number * 10 + (byte - 48)) else None) }
 {
-    number.checked_mul(10)?.checked_add((byte - 48) as u64)
+    let larger = number.checked_mul(10)?.checked_add((byte - 48) as u64)?;
+    if larger <= most { Some(larger) } else { None }
 }

@@ -1,20 +1,35 @@
-ghost use Rattle.std.specs.Prelude.{◌≡◌, ℕ, List, None, Some};
-ghost use Rattle.vcd_reader.specs.FirstForm.{Dump, IsFirstForm, texts_of};
-ghost use Rattle.vcd_reader.specs.Reading.{first_form};
-ghost use Rattle.vcd_reader.specs.Sampled.{Sampled, sampled, sampled_of};
-ghost use Rattle.vcd_reader.specs.Tokens.{Token, tokens};
+ghost use Rattle.std.specs.Prelude.{◌≡◌, ℕ, ◌⊎◌, List, Ok, Err};
+ghost use Rattle.vcd_reader.specs.Declarations.{Declared, nothing_declared};
+ghost use Rattle.vcd_reader.specs.FirstFault.{IsFaultless, IsFirst};
+ghost use Rattle.vcd_reader.specs.Meaning.{dump_by, reading, sampled_of, fault_told};
+ghost use Rattle.vcd_reader.specs.Rows.{rows_of};
+ghost use Rattle.vcd_reader.specs.Running.{defining};
+ghost use Rattle.vcd_reader.specs.Sampled.{Sampled};
+ghost use Rattle.vcd_reader.specs.Standing.{Ready, Told, Telling};
+ghost use Rattle.vcd_reader.specs.Tokens.{tokens};
+ghost use Rattle.vcd_reader.specs.declared.fault.VcdFault.{VcdFault};
+ghost use Rattle.vcd_reader.specs.declared.stop.Stop.{Stop};
+ghost use Rattle.vcd_reader.specs.declared.track.Shot.{Shot};
 
-/// A law of the definitions: tokens are read as what they say exactly where they are of the first form.
-pub fn first_form_law()
-    ensures read { (tokens : List Token) (dump : Dump) → IsFirstForm (texts_of tokens) dump → first_form tokens ≡ Some dump }
-    ensures form { (tokens : List Token) (dump : Dump) → first_form tokens ≡ Some dump → IsFirstForm (texts_of tokens) dump }
+/// A law of the definitions: a text is read as a recording exactly where no token has a fault and it may
+/// end, and that is what its tokens say; it is refused with a fault exactly where that is the fault of a
+/// token, or of the end, before which no token has one.
+pub fn first_fault_law()
+    ensures recording { (bytes : List ℕ) → IsFaultless (tokens bytes) → reading bytes ≡ Ok (sampled_of (dump_by (tokens bytes))) }
+    ensures faultless { (bytes : List ℕ) (recording : Sampled) → reading bytes ≡ Ok recording → IsFaultless (tokens bytes) × (sampled_of (dump_by (tokens bytes)) ≡ recording) }
+    ensures fault { (bytes : List ℕ) (stop : Stop) → IsFirst (tokens bytes) stop → reading bytes ≡ Err (fault_told bytes stop) }
+    ensures first { (bytes : List ℕ) (found : VcdFault) → reading bytes ≡ Err found → (stop : Stop) × IsFirst (tokens bytes) stop × (fault_told bytes stop ≡ found) }
 {}
 
-/// A law of the definitions: bytes have samples exactly where their tokens are of the first form, and
-/// the samples are those of what the tokens say.
-pub fn sampled_law()
-    ensures some { (bytes : List ℕ) (dump : Dump) → IsFirstForm (texts_of (tokens bytes)) dump → sampled bytes ≡ Some (sampled_of dump) }
-    ensures form { (bytes : List ℕ) (recording : Sampled) → sampled bytes ≡ Some recording → (dump : Dump) × IsFirstForm (texts_of (tokens bytes)) dump × (sampled_of dump ≡ recording) }
-    ensures none { (bytes : List ℕ) → ((dump : Dump) → IsFirstForm (texts_of (tokens bytes)) dump → ⊥) → sampled bytes ≡ None }
-    ensures no_form { (bytes : List ℕ) (dump : Dump) → sampled bytes ≡ None → IsFirstForm (texts_of (tokens bytes)) dump → ⊥ }
+/// A law of the definitions: a text has a meaning or a first fault, and never both.
+
+pub fn one_meaning_law()
+    ensures some { (bytes : List ℕ) → ((recording : Sampled) × (reading bytes ≡ Ok recording)) ⊎ ((found : VcdFault) × (reading bytes ≡ Err found)) }
+    ensures one { (bytes : List ℕ) (recording : Sampled) (found : VcdFault) → reading bytes ≡ Ok recording → reading bytes ≡ Err found → ⊥ }
+{}
+
+/// A law of the definitions: reading token by token, from what was read before, says the same.
+pub fn running_law()
+    ensures recording { (bytes : List ℕ) (declared : Declared) (told : Told) (tracks : List (List Shot)) → defining nothing_declared Ready (tokens bytes) ≡ Ok (record { declared = declared; part = Telling told; tracks = tracks }) → reading bytes ≡ Ok (record { names = declared.names; samples = rows_of bytes told.begun tracks }) }
+    ensures fault { (bytes : List ℕ) (stop : Stop) → defining nothing_declared Ready (tokens bytes) ≡ Err stop → reading bytes ≡ Err (fault_told bytes stop) }
 {}

@@ -6,10 +6,17 @@ mod body;
 mod decimal;
 mod definitions;
 mod fault;
-mod labels;
 mod laws;
+mod names;
+mod ranges;
 mod reading;
 mod recording;
+mod sections;
+mod shape;
+mod signal;
+mod stop;
+#[cfg(test)]
+mod table;
 #[cfg(test)]
 mod tests;
 mod texts;
@@ -17,6 +24,6 @@ mod tokens;
 mod track;
 
 pub use fault::VcdFault;
-pub use laws::{first_form_law, sampled_law};
+pub use laws::{first_fault_law, one_meaning_law, running_law};
 pub use reading::read_vcd;
 pub use recording::Recording;

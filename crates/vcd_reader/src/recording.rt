@@ -1,7 +1,7 @@
 ghost use Rattle.std.specs.Prelude.{◌≡◌, ◌<◌, ◌≤◌, ◌+◌, length, Any};
 ghost use Rattle.psl_tree.specs.Holds.{holds};
 ghost use Rattle.psl_tree.specs.Trees.{boolean_of};
-ghost use Rattle.vcd_reader.specs.FirstForm.{sample_limit};
+ghost use Rattle.vcd_reader.specs.Rules.{sample_limit};
 ghost use Rattle.vcd_reader.specs.Sampled.{letter_before, letter_of, reads_one, bit_at, atom_at, letter_at, AtomInRange, AtomsIn, AreAlike};
 ghost use Rattle.vcd_reader.specs.Shots.{letters_in};
 

@@ -1,13 +1,14 @@
-ghost use Rattle.std.specs.Prelude.{◌≡◌, true};
-ghost use Rattle.vcd_reader.specs.Sampled.{AtomInRange};
+ghost use Rattle.std.specs.Prelude.{◌≡◌, ◌<◌, true};
+ghost use Rattle.vcd_reader.specs.Sampled.{AtomInRange, indices};
 
-use crate::{Recording, VcdFault, first_form_law, read_vcd, sampled_law};
-use psl_base::{Bytes, File, Files, MemShelf, NoMemory, Numbers, boxed};
+use crate::table::{READ, REFUSED};
+use crate::{Recording, VcdFault, first_fault_law, one_meaning_law, read_vcd, running_law};
+use psl_base::{Bytes, Failed, File, Files, MemShelf, NoMemory, Numbers, Place, Shelf, boxed};
 use psl_tree::{Atom, Bool, Edge, Name};
 use std::alloc::Global;
 use std::test::Fail;
 
-/// A shelf with one file, of which the reads from that number on fail.
+/// A shelf with one file, of which the calls of these numbers fail.
 fn shelf_of(alloc: Global, content: &[u8], fail: &[u32]) -> Result<MemShelf, NoMemory> {
     let mut files = Files::new(alloc);
     files.push(File {
@@ -22,96 +23,153 @@ fn read(alloc: Global, content: &[u8]) -> Result<Recording, VcdFault> {
     read_vcd(alloc, &mut shelf, "r.vcd")
 }
 
+/// How many indices a name has.
+fn width(name: &Name) -> u64
+    ensures { result ≡ indices name.now }
+{
+    let (left, right) = (name.left as u64, name.right as u64);
+    if left < right {
+        right - left + 1
+    } else {
+        left - right + 1
+    }
+}
+
 /// Whether an atom is in range of some names.
 fn in_range(names: &[Name], atom: &Atom) -> bool
     ensures { result ≡ true → AtomInRange names.now atom.now }
 {
     names.iter().any(|name| name.signal == atom.signal)
-        && names.iter().all(|name| name.signal != atom.signal
-            || (name.left == name.right && atom.bit == 0))
+        && names.iter().all(|name| name.signal != atom.signal || (atom.bit as u64) < width(name))
 }
 
-/// The bits of all signals at each sample, a blank behind each sample, where they hold with this edge.
-fn shown(alloc: Global, recording: &Recording, edge: Edge) -> Result<String, Fail> {
-    let mut text = String::new(alloc);
-    let names = recording.names().as_slice();
-    for sample in 0..recording.samples() {
-        for name in names {
-            let atom = Atom {
-                signal: name.signal,
-                bit: 0,
-                edge,
-            };
-            if in_range(names, &atom) {
-                text.push(if recording.bit(sample, &atom) {
-                    '1'
-                } else {
-                    '0'
-                })?;
-            }
+/// The bits of a name at a sample, from the left, where they hold with this edge.
+fn show_bits(
+    recording: &Recording,
+    sample: u32,
+    name: &Name,
+    edge: Edge,
+    text: &mut String,
+) -> Result<(), Fail> {
+    for bit in (0..width(name).min(1_000_000) as u32).rev() {
+        let atom = Atom {
+            signal: name.signal,
+            bit,
+            edge,
+        };
+        if sample < recording.samples() && in_range(recording.names().as_slice(), &atom) {
+            text.push(if recording.bit(sample, &atom) {
+                '1'
+            } else {
+                '0'
+            })?;
         }
-        text.push(' ')?;
+    }
+    Ok(())
+}
+
+/// The samples, each behind a bar, with the bits of each name.
+fn show_samples(recording: &Recording, edge: Edge, text: &mut String) -> Result<(), Fail> {
+    for sample in 0..recording.samples() {
+        text.push('|')?;
+        for (i, name) in recording.names().as_slice().iter().enumerate() {
+            if i > 0 {
+                text.push(',')?;
+            }
+            show_bits(recording, sample, name, edge, text)?;
+        }
+    }
+    Ok(())
+}
+
+/// The names, each with its range and the number of its signal.
+fn show_names(alloc: Global, recording: &Recording, text: &mut String) -> Result<(), Fail> {
+    for (i, name) in recording.names().as_slice().iter().enumerate() {
+        if i > 0 {
+            text.push(' ')?;
+        }
+        for byte in name.text.as_slice() {
+            text.push(*byte as char)?;
+        }
+        let (left, right, signal) = (name.left, name.right, name.signal);
+        text.push_str(format!(in alloc; "[{left}:{right}]{signal}")?.as_str())?;
+    }
+    Ok(())
+}
+
+/// The number of a fault of the text, and its place.
+fn number_of(fault: VcdFault) -> (u32, Place) {
+    let none = Place { line: 0, column: 0 };
+    match fault {
+        VcdFault::UnknownKeyword(place) => (1, place),
+        VcdFault::MissingEnd(place) => (2, place),
+        VcdFault::BadVar(place) => (3, place),
+        VcdFault::CodeSizeDiffers(place) => (4, place),
+        VcdFault::ScopeNotOpen(place) => (5, place),
+        VcdFault::BadTime(place) => (6, place),
+        VcdFault::TimeFalls(place) => (7, place),
+        VcdFault::CodeNotDeclared(place) => (8, place),
+        VcdFault::BadValue(place) => (9, place),
+        VcdFault::VectorTooLong(place) => (10, place),
+        VcdFault::ChangeBeforeDefinitionsEnd(place) => (11, place),
+        VcdFault::EndsInside(place) => (12, place),
+        VcdFault::TooManySamples(place) => (13, place),
+        VcdFault::TooManySignals(place) => (14, place),
+        VcdFault::TooLong | VcdFault::ReadFault | VcdFault::NoMemory => (0, none),
+    }
+}
+
+/// What a reading gives, in words.
+fn shown(alloc: Global, read: Result<Recording, VcdFault>) -> Result<String, Fail> {
+    let mut text = String::new(alloc);
+    match read {
+        Ok(recording) => {
+            show_names(alloc, &recording, &mut text)?;
+            show_samples(&recording, Edge::Value, &mut text)?;
+        }
+        Err(fault) => {
+            let (number, place) = number_of(fault);
+            let (line, column) = (place.line, place.column);
+            text.push_str(format!(in alloc; "V{number} {line}:{column}")?.as_str())?;
+        }
     }
     Ok(text)
+}
+
+#[test]
+fn reads_recordings(rt: HostRuntime) -> Result<(), Fail> {
+    let alloc = rt.alloc();
+    for (content, want) in READ {
+        let text = shown(alloc, read(alloc, content.as_bytes()))?;
+        assert_eq!(rt; text.as_str(), want, "{content}");
+    }
+    Ok(())
+}
+
+#[test]
+fn tells_first_faults(rt: HostRuntime) -> Result<(), Fail> {
+    let alloc = rt.alloc();
+    for (content, want) in REFUSED {
+        let text = shown(alloc, read(alloc, content.as_bytes()))?;
+        assert_eq!(rt; text.as_str(), want, "{content}");
+    }
+    Ok(())
 }
 
 const ROW_1: &[u8] =
     b"$var wire 1 ! a $end\n$var wire 1 \" b $end\n$enddefinitions $end\n#0\n1!\n0\"\n#1\n0!\n1\"\n";
 
 #[test]
-fn reads_samples(rt: HostRuntime) -> Result<(), Fail> {
-    let alloc = rt.alloc();
-    let cases: [(&[u8], &str); 9] = [
-        (ROW_1, "10 01 "),
-        // Changes before the first time set values only.
-        (
-            b"$var wire 1 ! a $end $enddefinitions $end 1! #5 #7 0! 1! #9 0!",
-            "1 1 0 ",
-        ),
-        // A signal without a change is 0.
-        (
-            b"$var wire 1 ! a $end\t$enddefinitions\x0b$end\x0c#0\r\n#1",
-            "0 0 ",
-        ),
-        (b"$var wire 1 ! a $end $enddefinitions $end 1! 0!", ""),
-        (b"$enddefinitions $end #0 #1", "  "),
-        (b"$enddefinitions $end", ""),
-        (
-            b"$var wire 1 ab a $end $var wire 1 a b $end $enddefinitions $end #0 1ab #1 1a",
-            "10 11 ",
-        ),
-        (
-            b"$var wire 1 $end a $end $enddefinitions $end #0007 1$end #18446744073709551615 0$end",
-            "1 0 ",
-        ),
-        (
-            b"$var wire 1 # _a$9 $end $enddefinitions $end 1# #1 0# 1#",
-            "1 ",
-        ),
-    ];
-    for (content, want) in cases {
-        let recording = read(alloc, content)?;
-        assert_eq!(rt; shown(alloc, &recording, Edge::Value)?.as_str(), want);
-    }
-    Ok(())
-}
-
-#[test]
-fn tells_edges_and_names(rt: HostRuntime) -> Result<(), Fail> {
+fn tells_edges(rt: HostRuntime) -> Result<(), Fail> {
     let alloc = rt.alloc();
     let recording = read(alloc, ROW_1)?;
-    assert_eq!(rt; recording.samples(), 2);
-    assert_eq!(rt; shown(alloc, &recording, Edge::Rise)?.as_str(), "00 01 ");
-    assert_eq!(rt; shown(alloc, &recording, Edge::Fall)?.as_str(), "00 10 ");
-    let names = recording.names().as_slice();
-    assert_eq!(rt; names.len(), 2);
-    assert!(rt; names[0].text.as_slice() == b"a".as_slice());
-    assert!(rt; names[1].text.as_slice() == b"b".as_slice());
-    for (i, name) in names.iter().enumerate() {
-        assert_eq!(rt; (name.signal as usize, name.left, name.right), (i, 0, 0));
-    }
-    first_form_law();
-    sampled_law();
+    let mut text = String::new(alloc);
+    show_samples(&recording, Edge::Rise, &mut text)?;
+    show_samples(&recording, Edge::Fall, &mut text)?;
+    assert_eq!(rt; text.as_str(), "|0,0|0,1|0,0|1,0");
+    first_fault_law();
+    one_meaning_law();
+    running_law();
     Ok(())
 }
 
@@ -147,54 +205,6 @@ fn judges_booleans(rt: HostRuntime) -> Result<(), Fail> {
     Ok(())
 }
 
-/// Texts that are not of the first form.
-const REFUSED: [&[u8]; 32] = [
-    b"",
-    b"$enddefinitions",
-    b"$enddefinitions $End",
-    b"#0",
-    b"$var wire 1 ! a $end",
-    b"$var reg 1 ! a $end $enddefinitions $end",
-    b"$var wire 2 ! a $end $enddefinitions $end",
-    b"$var wire 01 ! a $end $enddefinitions $end",
-    b"$var wire 1 \x7f a $end $enddefinitions $end",
-    b"$var wire 1 ! 1a $end $enddefinitions $end",
-    b"$var wire 1 ! a.b $end $enddefinitions $end",
-    b"$var wire 1 ! $a $end $enddefinitions $end",
-    b"$var wire 1 ! always $end $enddefinitions $end",
-    b"$var wire 1 ! clock $end $enddefinitions $end",
-    b"$var wire 1 ! a [0] $end $enddefinitions $end",
-    b"$var wire 1 ! a $end $var wire 1 ! b $end $enddefinitions $end",
-    b"$var wire 1 ! a $end $var wire 1 % a $end $enddefinitions $end",
-    b"$scope module m $end $var wire 1 ! a $end $enddefinitions $end",
-    b"$comment a $end $enddefinitions $end",
-    b"$enddefinitions $end $enddefinitions $end",
-    b"$enddefinitions $end #",
-    b"$enddefinitions $end #-1",
-    b"$enddefinitions $end #1_0",
-    b"$enddefinitions $end #18446744073709551616",
-    b"$enddefinitions $end #99999999999999999999999",
-    b"$enddefinitions $end #1 #1",
-    b"$enddefinitions $end #2 #1",
-    b"$enddefinitions $end #0 1!",
-    b"$var wire 1 ! a $end $enddefinitions $end #0 1",
-    b"$var wire 1 ! a $end $enddefinitions $end #0 x!",
-    b"$var wire 1 ! a $end $enddefinitions $end #0 1!!",
-    b"$var wire 1 ! a $end $enddefinitions $end #0 b1 !",
-];
-
-#[test]
-fn refuses_what_is_not_of_the_form(rt: HostRuntime) -> Result<(), Fail> {
-    let alloc = rt.alloc();
-    for content in REFUSED {
-        assert!(rt;
-            matches!(read(alloc, content), Err(VcdFault::NotYet)),
-            "{content:?}"
-        );
-    }
-    Ok(())
-}
-
 #[test]
 fn hands_on_faults_of_the_shelf(rt: HostRuntime) -> Result<(), Fail> {
     let alloc = rt.alloc();
@@ -219,12 +229,76 @@ fn hands_on_faults_of_the_shelf(rt: HostRuntime) -> Result<(), Fail> {
 #[test]
 fn counts_samples(rt: HostRuntime) -> Result<(), Fail> {
     let alloc = rt.alloc();
-    let mut text = String::from_str(alloc, "$enddefinitions $end")?;
+    let mut text = String::from_str(alloc, "$var wire 1 ! a $end\n$enddefinitions $end")?;
     for time in 0..10_000u32 {
-        text.push_str(format!(in alloc; " #{time}")?.as_str())?;
+        text.push_str(format!(in alloc; "\n#{time}")?.as_str())?;
     }
+    let longer = format!(in alloc; "{text}\n#10000")?;
+    assert_eq!(rt;
+        shown(alloc, read(alloc, longer.as_bytes()))?.as_str(),
+        "V13 10003:1"
+    );
+    text.push_str("\n#9999")?;
     assert_eq!(rt; read(alloc, text.as_bytes())?.samples(), 10_000);
-    text.push_str(" #10000")?;
-    assert!(rt; matches!(read(alloc, text.as_bytes()), Err(VcdFault::NotYet)));
+    text.push_str("\n1! #10000")?;
+    assert_eq!(rt;
+        shown(alloc, read(alloc, text.as_bytes()))?.as_str(),
+        "V13 10004:4"
+    );
+    Ok(())
+}
+
+/// A shelf that gives a few bytes at a time.
+#[derive(Drop)]
+struct Pieces {
+    shelf: MemShelf,
+    most: usize,
+    ghost some: { 0 < most },
+}
+
+impl Shelf for Pieces {
+    ghost use Rattle.psl_base.specs.MemShelfState.{shelf_state};
+
+    ghost state = { λ pieces. shelf_state pieces.shelf };
+
+    fn select(&mut self, name: &str) -> Result<(), Failed> {
+        self.shelf.select(name)
+    }
+
+    fn read(&mut self, into: &mut [u8]) -> Result<usize, Failed> {
+        let most = if self.most < into.len() {
+            self.most
+        } else {
+            into.len()
+        };
+        self.shelf.read(&mut into[..most])
+    }
+
+    fn create(&mut self, name: &str) -> Result<(), Failed> {
+        self.shelf.create(name)
+    }
+
+    fn append(&mut self, bytes: &[u8]) -> Result<usize, Failed> {
+        self.shelf.append(bytes)
+    }
+}
+
+#[test]
+fn reads_in_pieces(rt: HostRuntime) -> Result<(), Fail> {
+    let alloc = rt.alloc();
+    for most in [1, 2, 3, 7] {
+        let mut shelf = Pieces {
+            shelf: shelf_of(alloc, ROW_1, &[])?,
+            most,
+        };
+        let text = shown(alloc, read_vcd(alloc, &mut shelf, "r.vcd"))?;
+        assert_eq!(rt; text.as_str(), "a[0:0]0 b[0:0]1|1,0|0,1");
+        let mut shelf = Pieces {
+            shelf: shelf_of(alloc, b"$enddefinitions $end\n#0\nb10", &[])?,
+            most,
+        };
+        let text = shown(alloc, read_vcd(alloc, &mut shelf, "r.vcd"))?;
+        assert_eq!(rt; text.as_str(), "V12 3:4");
+    }
     Ok(())
 }

@@ -1,14 +1,21 @@
-ghost use Rattle.std.specs.Prelude.{◌≡◌, ◌∷◌, ◌++◌, [], true, map, length, OnOk};
+ghost use Rattle.std.specs.Prelude.{◌≡◌, ◌+◌, ◌<◌, ◌^◌, ◌∷◌, ◌++◌, [], true, map, length, vec_len, OnOk, OnErr, IfOk, IfSome};
 ghost use Rattle.vcd_reader.specs.Labels.{place_of, is_new};
+ghost use Rattle.vcd_reader.specs.Short.{short_place, number_of, noted};
 
 use psl_base::NoMemory;
 use std::alloc::Global;
 use std::collections::HashMap;
 use std::marker::Model;
 
-/// Texts of which no two are equal, numbered from 0 in the order in which they came.
+/// How many texts of one byte and of two there are.
+const SHORT: usize = 65_792;
+
+/// Texts of which no two are equal, numbered from 0 in the order in which they came. Those of one byte
+/// or two, which are most of the codes of a recording, are found by a table, which has for each of them
+/// its number and 1 more, or 0.
 #[derive(Drop)]
 pub struct Distinct<'a> {
+    short: Vec<u32>,
     places: HashMap<&'a [u8], usize>,
     texts: Vec<&'a [u8]>,
 }
@@ -18,43 +25,57 @@ impl<'a> Model for Distinct<'a> {
     ghost use Rattle.std.specs.HashMap.{get_by};
     ghost use Rattle.std.specs.Str.{bytes_eq};
     ghost use Rattle.vcd_reader.specs.Labels.{place_of};
+    ghost use Rattle.vcd_reader.specs.Short.{IsShortTable};
 
     ghost Value = { List (List ℕ) };
 
     ghost view = { λ distinct. map (λ text. text.now) distinct.texts.items };
 
-    ghost invariant = { λ distinct. (text : List ℕ) → get_by (λ key. bytes_eq text key.now) distinct.places ≡ place_of (map (λ other. other.now) distinct.texts.items) text };
+    ghost invariant = { λ distinct. ((text : List ℕ) → get_by (λ key. bytes_eq text key.now) distinct.places ≡ place_of (map (λ other. other.now) distinct.texts.items) text) × IsShortTable distinct.short.items (map (λ other. other.now) distinct.texts.items) };
 }
 
 impl<'a> Distinct<'a> {
-    /// No texts. It takes no memory.
-    pub fn new(alloc: Global) -> Distinct<'a>
-        ensures { result ≡ [] }
+    /// No texts.
+    pub fn new(alloc: Global) -> Result<Distinct<'a>, NoMemory>
+        ensures { IfOk result (λ distinct. distinct ≡ []) }
     {
-        Distinct {
+        let mut short = Vec::new(alloc);
+        if short.resize(SHORT, 0).is_err() {
+            return Err(NoMemory);
+        }
+        Ok(Distinct {
+            short,
             places: HashMap::new(alloc),
             texts: Vec::new(alloc),
-        }
+        })
     }
 
     /// The number of a text, if it is there.
     pub fn find(&self, text: &[u8]) -> Option<usize>
         ensures { result ≡ place_of self.now text.now }
     {
-        self.places.get(text).copied()
+        match short_place(text) {
+            Some(at) => number(self.short[at]),
+            None => self.places.get(text).copied(),
+        }
     }
 
     /// One text more, which is not there yet.
     pub fn add(&mut self, text: &'a [u8]) -> Result<(), NoMemory>
-        requires { is_new self.old text.now ≡ true }
-        ensures { OnOk result (self.new ≡ self.old ++ text.now ∷ []) }
+        requires new { is_new self.old text.now ≡ true }
+        requires few { length self.old + 1 < 2 ^ 32 }
+        ensures ok { OnOk result (self.new ≡ self.old ++ text.now ∷ []) }
+        ensures err { OnErr result (self.new ≡ self.old) }
     {
         let place = self.texts.len();
         if self.texts.push(text).is_err() {
             return Err(NoMemory);
         }
         match self.places.insert(text, place) {
-            Ok(_) => Ok(()),
+            Ok(_) => {
+                note(&mut self.short, text, place as u32 + 1);
+                Ok(())
+            }
             Err(_) => {
                 let _ = self.texts.pop();
                 Err(NoMemory)
@@ -74,5 +95,38 @@ impl<'a> Distinct<'a> {
         ensures { map (λ text. text.now) result.now ≡ self.now }
     {
         self.texts.as_slice()
+    }
+}
+
+/// The place of a text of one byte or two in a table of such texts.
+fn short_place(text: &[u8]) -> Option<usize>
+    ensures is { result ≡ short_place text.now }
+    ensures within { IfSome result (λ at. at < 65_792) }
+{
+    match text {
+        [first] => Some(*first as usize),
+        [first, second] => Some(256 + *first as usize * 256 + *second as usize),
+        _ => None,
+    }
+}
+
+/// The number of an entry, if it has one.
+fn number(entry: u32) -> Option<usize>
+    ensures { result ≡ number_of entry }
+{
+    if entry == 0 {
+        None
+    } else {
+        Some(entry as usize - 1)
+    }
+}
+
+/// Writes the entry of a text, if it is short.
+fn note(short: &mut Vec<u32>, text: &[u8], entry: u32)
+    requires { vec_len short.old ≡ 65_792 }
+    ensures { short.new.items ≡ noted short.old.items (short_place text.now) entry }
+{
+    if let Some(at) = short_place(text) {
+        short[at] = entry;
     }
 }

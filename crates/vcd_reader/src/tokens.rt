@@ -19,7 +19,8 @@ pub struct Tokens<'a> {
 
 impl<'a> Model for Tokens<'a> {
     ghost use Rattle.std.specs.Prelude.{List, length, drop, ◌≤◌};
-    ghost use Rattle.vcd_reader.specs.Tokens.{Token, tokens_from, file_limit};
+    ghost use Rattle.psl_base.specs.Places.{file_limit};
+    ghost use Rattle.vcd_reader.specs.Tokens.{Token, tokens_from};
 
     ghost Value = { List Token };
 
@@ -29,12 +30,14 @@ impl<'a> Model for Tokens<'a> {
 }
 
 impl<'a> Tokens<'a> {
-    ghost use Rattle.vcd_reader.specs.Tokens.{tokens, IsNext, file_limit};
+    ghost use Rattle.psl_base.specs.Places.{file_limit};
+    ghost use Rattle.vcd_reader.specs.Tokens.{tokens, IsNext};
 
     /// All tokens of a text.
     pub fn new(bytes: &'a [u8]) -> Tokens<'a>
         requires { length bytes.now ≤ file_limit }
-        ensures { result ≡ tokens bytes.now }
+        ensures tokens { result ≡ tokens bytes.now }
+        ensures few { length result ≤ file_limit }
     {
         Tokens { bytes, at: 0 }
     }

@@ -1,4 +1,4 @@
-use Rattle.pslc.proofs.Completing.{one-first}
+use Rattle.pslc.proofs.OneAnswer.{one-first}
 use Rattle.pslc.proofs.top.one_refusal.Goals as goal
 
 pub returns : goal.returns

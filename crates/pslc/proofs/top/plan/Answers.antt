@@ -1,8 +1,8 @@
 use Rattle.std.proofs.Common.{map, string_bytes}
 use Rattle.pslc.proofs.Completing.{planned-has}
 use Rattle.pslc.proofs.top.plan.Goals as goal
-use Rattle.pslc.specs.Endings.{OfTold}
-use Rattle.pslc.specs.Refusals.{IsOutcomeOf}
+use Rattle.pslc.specs.Stages.{OfTold}
+use Rattle.pslc.specs.Commands.{IsOutcomeOf}
 
 pub returns-in-Ok-clause-outcome : goal.returns-in-Ok-clause-outcome
 returns-in-Ok-clause-outcome g c =

@@ -1,11 +1,12 @@
 use Rattle.std.proofs.Common.{◌≡◌, length}
-use Rattle.vcd_reader.specs.Body.{nothing_held, held_body}
+use Rattle.vcd_reader.specs.Running.{telling, nothing_held}
+use Rattle.vcd_reader.specs.Standing.{Ready}
 use Rattle.vcd_reader.proofs.body.Body.read.Given as goal
 
 abbrev pub invariant-loop-word : goal.invariant-loop-word
 invariant-loop-word l = record {
-  same : held_body l.codes (nothing_held (length l.codes)) l.initial.tokens ≡ held_body l.codes l.body l.tokens;
-  signals : length l.body.tracks ≡ length l.codes;
+  same : telling l.found (nothing_held (length l.found.codes)) Ready l.initial.tokens ≡ telling l.found l.body Ready l.tokens;
+  signals : length l.body.tracks ≡ length l.found.codes;
 }
 
 abbrev pub decreases-loop-word : goal.decreases-loop-word

@@ -1,0 +1,16 @@
+use Rattle.pslc.proofs.Staging.{loading-refuses, loading-named, result-refuses}
+use Rattle.pslc.proofs.unit.load_unit.Goals as goal
+use Rattle.pslc.specs.Waves.{UnitReading}
+
+pub returns-in-Err-clause-refuses : goal.returns-in-Err-clause-refuses
+returns-in-Err-clause-refuses g c =
+    loading-refuses (UnitReading c.args.name.now) c.args.name.now (g.F.Shelf.state c.args.files.now) (g.F.Shelf.state c.load.new.files) c.in-Err.fault c.in-Err.ensures.refuses
+
+pub returns-in-Err-clause-named : goal.returns-in-Err-clause-named
+returns-in-Err-clause-named g c =
+    loading-named c.args.name.now (g.F.Shelf.state c.args.files.now) (g.F.Shelf.state c.load.new.files) c.in-Err.fault c.in-Err.ensures.refuses
+
+pub returns-clause-refuses : goal.returns-clause-refuses
+returns-clause-refuses g c =
+    result-refuses (UnitReading c.args.name.now) c.args.name.now (g.F.Shelf.state c.args.files.now) (g.F.Shelf.state c.load.new.files) c.in-Ok.text
+    c.parse_text.result c.in-Ok.ensures.content c.in-Ok.ensures.within (rw c.as_slice.ensures at c.parse_text.ensures.refuses)

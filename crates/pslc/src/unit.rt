@@ -1,0 +1,57 @@
+ghost use Rattle.std.specs.Prelude.{◌≡◌, ◌≤◌, length, Ok, Err, IfOk, IfErr};
+ghost use Rattle.psl_base.specs.Places.{file_limit};
+ghost use Rattle.psl_base.specs.Shelf.{OnlyReads, IsContent};
+ghost use Rattle.pslc.specs.Stages.{Gives, Refuses, IsOfFileOrMemory, IsCounted, LoadFails, TextFails};
+ghost use Rattle.pslc.specs.Waves.{UnitReading, UnitStage};
+
+use crate::outcome::{Fault, Reason};
+use crate::telling::{of_none, told};
+use psl_base::{Bytes, FILE_LIMIT, ReadAllFault, Shelf, read_all};
+use psl_parser::{ParseFault, parse};
+use psl_tree::UnitTree;
+use std::alloc::Global;
+
+/// The tree of the text in a file.
+pub fn load_unit<F: Shelf>(alloc: Global, files: &mut F, name: &str) -> Result<UnitTree, Fault>
+    ensures gives { IfOk result (λ tree. Gives (F.state files.old) (UnitStage name.now) tree) }
+    ensures refuses { IfErr result (λ fault. Refuses (F.state files.old) (F.state files.new) (UnitStage name.now) fault) }
+    ensures named { IfErr result (λ fault. IsOfFileOrMemory name.now fault) }
+    ensures quiet { IfOk result (λ _. (F.state files.new).read_faults ≡ (F.state files.old).read_faults) }
+    ensures counted { IfErr result (λ fault. IsCounted (F.state files.old) (F.state files.new) fault) }
+    ensures kept { OnlyReads (F.state files.old) (F.state files.new) }
+{
+    let text = match load(alloc, files, name) {
+        Ok(text) => text,
+        Err(fault) => return Err(fault),
+    };
+    parse_text(alloc, text.as_slice(), name)
+}
+
+/// The tree of a text.
+fn parse_text(alloc: Global, text: &[u8], name: &str) -> Result<UnitTree, Fault>
+    ensures gives { IfOk result (λ tree. UnitReading name.now text.now (Ok tree)) }
+    ensures refuses { IfErr result (λ fault. TextFails name.now (λ fault. UnitReading name.now text.now (Err fault)) fault) }
+{
+    match parse(alloc, text) {
+        Ok(tree) => Ok(tree),
+        Err(ParseFault::NotYet) => Err(told(alloc, name, Reason::NotYet, None)),
+        Err(ParseFault::NoMemory) => Err(of_none(Reason::NoMemory)),
+    }
+}
+
+/// The whole content of a file.
+fn load<F: Shelf>(alloc: Global, files: &mut F, name: &str) -> Result<Bytes, Fault>
+    ensures content { IfOk result (λ bytes. IsContent (F.state files.old) name.now bytes) }
+    ensures within { IfOk result (λ bytes. length bytes ≤ file_limit) }
+    ensures refuses { IfErr result (λ fault. LoadFails name.now (F.state files.old) (F.state files.new) fault) }
+    ensures quiet { IfOk result (λ _. (F.state files.new).read_faults ≡ (F.state files.old).read_faults) }
+    ensures counted { IfErr result (λ fault. IsCounted (F.state files.old) (F.state files.new) fault) }
+    ensures kept { OnlyReads (F.state files.old) (F.state files.new) }
+{
+    match read_all(alloc, files, name, FILE_LIMIT) {
+        Ok(bytes) => Ok(bytes),
+        Err(ReadAllFault::ReadFault) => Err(told(alloc, name, Reason::ReadFault, None)),
+        Err(ReadAllFault::TooLong) => Err(told(alloc, name, Reason::TooLong, None)),
+        Err(ReadAllFault::NoMemory) => Err(of_none(Reason::NoMemory)),
+    }
+}

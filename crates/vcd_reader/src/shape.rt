@@ -1,0 +1,152 @@
+ghost use Rattle.std.specs.Prelude.{◌≡◌};
+ghost use Rattle.std.specs.List.{list_all};
+ghost use Rattle.vcd_reader.specs.Shapes.{is_end, is_header, is_dump, keyword_of, is_value, are_values, has_more, shape_of};
+
+/// What a token is by its text alone.
+#[derive(Clone, Copy)]
+pub enum Shape {
+    /// `$end`.
+    End,
+    /// `$comment`.
+    Comment,
+    /// `$date`, `$version` or `$timescale`.
+    Header,
+    /// `$scope`.
+    Scope,
+    /// `$upscope`.
+    Upscope,
+    /// `$var`.
+    Var,
+    /// `$enddefinitions`.
+    EndDefinitions,
+    /// `$dumpvars`, `$dumpall`, `$dumpon` or `$dumpoff`.
+    Dump,
+    /// Another token that begins with `$`.
+    Unknown,
+    /// A token that begins with `#`.
+    Time,
+    /// `b` or `B` and letters of values.
+    Vector,
+    /// A real or a string change, which is not read.
+    Unread,
+    /// A letter of a value and a code.
+    Scalar,
+    /// Any other token.
+    Other,
+}
+
+/// What a token is.
+#[tactic(auto, unfolding(crate::specs::Shapes::shape_of))]
+pub fn shape_of(text: &[u8]) -> Shape
+    ensures { result ≡ shape_of text.now }
+{
+    match text {
+        [] => Shape::Other,
+        [b'0' | b'1', _, ..] => Shape::Scalar,
+        [b'$', ..] => keyword(text),
+        [b'#', ..] => Shape::Time,
+        [b'b' | b'B', letters @ ..] => {
+            if values(letters) {
+                Shape::Vector
+            } else {
+                Shape::Other
+            }
+        }
+        [b'r' | b'R' | b's' | b'S', ..] => Shape::Unread,
+        [first, code @ ..] => {
+            if value(*first) && more(code) {
+                Shape::Scalar
+            } else {
+                Shape::Other
+            }
+        }
+    }
+}
+
+/// What a token that begins with `$` is.
+#[tactic(auto, unfolding(crate::specs::Shapes::keyword_of))]
+fn keyword(text: &[u8]) -> Shape
+    ensures { result ≡ keyword_of text.now }
+{
+    if end(text) {
+        Shape::End
+    } else if text == "$comment".as_bytes() {
+        Shape::Comment
+    } else if header(text) {
+        Shape::Header
+    } else if text == "$scope".as_bytes() {
+        Shape::Scope
+    } else if text == "$upscope".as_bytes() {
+        Shape::Upscope
+    } else if text == "$var".as_bytes() {
+        Shape::Var
+    } else if text == "$enddefinitions".as_bytes() {
+        Shape::EndDefinitions
+    } else if dump(text) {
+        Shape::Dump
+    } else {
+        Shape::Unknown
+    }
+}
+
+/// Whether a token is `$end`.
+pub fn end(text: &[u8]) -> bool
+    ensures { result ≡ is_end text.now }
+{
+    text == "$end".as_bytes()
+}
+
+fn header(text: &[u8]) -> bool
+    ensures { result ≡ is_header text.now }
+{
+    text == "$date".as_bytes() || text == "$version".as_bytes() || text == "$timescale".as_bytes()
+}
+
+fn dump(text: &[u8]) -> bool
+    ensures { result ≡ is_dump text.now }
+{
+    text == "$dumpvars".as_bytes()
+        || text == "$dumpall".as_bytes()
+        || text == "$dumpon".as_bytes()
+        || text == "$dumpoff".as_bytes()
+}
+
+/// Whether a byte is a letter of a value.
+fn value(byte: u8) -> bool
+    ensures { result ≡ is_value byte }
+{
+    byte == b'0'
+        || byte == b'1'
+        || byte == b'x'
+        || byte == b'X'
+        || byte == b'z'
+        || byte == b'Z'
+        || byte == b'u'
+        || byte == b'U'
+        || byte == b'w'
+        || byte == b'W'
+        || byte == b'l'
+        || byte == b'L'
+        || byte == b'h'
+        || byte == b'H'
+        || byte == b'-'
+}
+
+/// Whether there are letters of a value, and nothing else.
+fn values(bytes: &[u8]) -> bool
+    ensures { result ≡ are_values bytes.now }
+{
+    more(bytes) && all_values(bytes)
+}
+
+fn more(bytes: &[u8]) -> bool
+    ensures { result ≡ has_more bytes.now }
+{
+    !bytes.is_empty()
+}
+
+fn all_values(bytes: &[u8]) -> bool
+    ensures { result ≡ list_all is_value bytes.now }
+{
+    bytes.iter().all(|byte| value(*byte))
+}
