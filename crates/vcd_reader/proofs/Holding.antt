@@ -1,5 +1,5 @@
 -- What is held of the body, against the events that it says.
-use Rattle.std.proofs.Common.{◌≡◌, ◌≢◌, ℕ, suc, ◌+◌, ◌-◌, ◌<◌, ◌≤◌, Bool, true, false, not, ◌&&◌, cond, nat_le, eqb, List, [], ◌∷◌, ◌++◌, map, length, get_or, Option, None, Some, refl, sym, ap, subst, ◌∙◌, arith, append_assoc, get_or-set_same, get_or-set_other}
+use Rattle.std.proofs.Common.{◌≡◌, ◌≢◌, ℕ, suc, ◌+◌, ◌<◌, ◌≤◌, Bool, true, false, not, ◌&&◌, cond, nat_le, eqb, List, [], ◌∷◌, ◌++◌, map, length, get_or, Option, None, Some, refl, sym, ap, subst, ◌∙◌, arith, append_assoc, get_or-set_same, get_or-set_other}
 use Rattle.std.proofs.lemmas.Bool.{leb-false, cond-true, cond-false, eqb-true, eqb-false}
 use Rattle.std.proofs.lemmas.List.{append-nil, map-append, length-set}
 use Rattle.std.proofs.lemmas.List.Elements.{All-set, All-push}

@@ -1,11 +1,12 @@
 -- The places of texts in a list that grows at its end.
-use Rattle.std.proofs.Common.{◌≡◌, ℕ, ◌+◌, ◌<◌, Bool, true, false, cond, List, [], ◌∷◌, ◌++◌, length, Option, None, Some, is_none, refl, sym, ap, ◌∙◌, ⊎_elim, arith}
+use Rattle.std.proofs.Common.{◌≡◌, ℕ, ◌+◌, ◌<◌, Bool, true, false, cond, List, [], ◌∷◌, ◌++◌, length, Option, None, Some, is_none, refl, sym, ap, ◌∙◌, ⊎_elim, ◌⊎◌, inl, inr, zero, suc, arith}
 use Rattle.std.proofs.lemmas.Bool.{cases_Bool}
 use Rattle.std.proofs.lemmas.Slice.Eq.{bytes_eq-Decides}
 use Rattle.std.specs.List.{position_from}
 use Rattle.std.specs.Map.{update}
 use Rattle.std.specs.Str.{bytes_eq}
-use Rattle.vcd_reader.specs.Labels.{place_of, is_new}
+use Rattle.std.specs.List.{slice_get}
+use Rattle.vcd_reader.specs.Labels.{place_of, is_new, AreDistinct}
 
 -- a text that fails the test, behind the others
 position_from-failing : (test : List ℕ → Bool) (i : ℕ) (xs : List (List ℕ)) (x : List ℕ) → test x ≡ false → position_from test i (xs ++ x ∷ []) ≡ position_from test i xs
@@ -57,3 +58,32 @@ position_from-high test i n end (x ∷ xs) at found =
 -- the place of a text is one of the list's
 pub place_of-within : (texts : List (List ℕ)) (text : List ℕ) (n : ℕ) → place_of texts text ≡ Some n → n < length texts
 place_of-within texts text n found = position_from-high (λ other. bytes_eq text other) 0 n (length texts) texts (omega arith) found
+
+slice_get-push : (xs : List (List ℕ)) (x y : List ℕ) (k : ℕ) → slice_get (xs ++ x ∷ []) k ≡ Some y → (slice_get xs k ≡ Some y) ⊎ ((k ≡ length xs) × (x ≡ y))
+slice_get-push [] x y zero e = inr (refl, cc)
+slice_get-push [] x y (suc k) e = absurd (let no : None ≡ Some y = e in cc)
+slice_get-push (z ∷ xs) x y zero e = inl e
+slice_get-push (z ∷ xs) x y (suc k) e = later (slice_get-push xs x y k e)
+  where
+    later : (slice_get xs k ≡ Some y) ⊎ ((k ≡ length xs) × (x ≡ y)) → (slice_get xs k ≡ Some y) ⊎ ((suc k ≡ length (z ∷ xs)) × (x ≡ y))
+    later (inl old) = inl old
+    later (inr new) = inr (let at : k ≡ length xs = new.0 in omega arith, new.1)
+
+-- a new text behind distinct ones
+pub distinct-push : (texts : List (List ℕ)) (text : List ℕ) → AreDistinct texts → is_new texts text ≡ true → AreDistinct (texts ++ text ∷ [])
+distinct-push texts text distinct new number other e = go (slice_get-push texts text other number e)
+  where
+    pushed : cond (bytes_eq text other) (Some (length texts)) (place_of texts other) ≡ place_of (texts ++ text ∷ []) other
+    pushed = place_of-push texts text other (length texts) refl new
+
+    old : slice_get texts number ≡ Some other → (bytes_eq text other ≡ true) ⊎ (bytes_eq text other ≡ false) → place_of (texts ++ text ∷ []) other ≡ Some number
+    old at (inl same) =
+        let here : place_of texts other ≡ Some number = distinct number other at in
+        let none : place_of texts other ≡ None = ap (place_of texts) (sym (bytes_eq-true text other same)) ∙ none_from (place_of texts text) new in
+        absurd (let wrong : None ≡ Some number = sym none ∙ here in cc)
+    old at (inr differ) = sym pushed ∙ (ap (λ b. cond b (Some (length texts)) (place_of texts other)) differ ∙ distinct number other at)
+
+    go : (slice_get texts number ≡ Some other) ⊎ ((number ≡ length texts) × (text ≡ other)) → place_of (texts ++ text ∷ []) other ≡ Some number
+    go (inl at) = old at (cases_Bool (bytes_eq text other))
+    go (inr last) =
+        sym pushed ∙ (ap (λ b. cond b (Some (length texts)) (place_of texts other)) ((bytes_eq-Decides text other).1 last.1) ∙ ap Some (sym last.0))

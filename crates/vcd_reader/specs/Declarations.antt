@@ -1,5 +1,5 @@
 -- What the definitions of a recording declare (IEEE 1364, clause 18.2.3).
-use Rattle.std.specs.Prelude.{ℕ, ◌+◌, ◌-◌, nat_lt, Bool, true, false, ◌||◌, cond, List, [], ◌∷◌, ◌++◌, length, take, sum_by, slice_index_or, Option, None, Some, codes}
+use Rattle.std.specs.Prelude.{ℕ, ◌-◌, nat_lt, Bool, true, false, ◌||◌, cond, List, [], ◌∷◌, ◌++◌, length, take, sum_by, slice_index_or, Option, None, Some, codes}
 use Rattle.std.specs.List.{flat_map}
 use Rattle.std.specs.Str.{bytes_eq}
 use Rattle.psl_tree.specs.declared.name.Name.{Name}

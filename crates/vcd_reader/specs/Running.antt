@@ -1,6 +1,6 @@
 -- A recording, read token by token from what was read before: what the code is proved against. That this
 -- is what the definitions say is the law of the reading.
-use Rattle.std.specs.Prelude.{◌≡◌, ℕ, ◌+◌, Bool, true, false, nat_lt, cond, List, [], ◌∷◌, ◌++◌, length, replicate, slice_index_or, slice_set, drop, Option, None, Some, Result, Ok, Err}
+use Rattle.std.specs.Prelude.{◌≡◌, ℕ, Bool, true, false, nat_lt, cond, List, [], ◌∷◌, ◌++◌, length, replicate, slice_index_or, slice_set, drop, Option, None, Some, Result, Ok, Err}
 use Rattle.vcd_reader.specs.declared.shape.Shape.{Shape}
 use Rattle.vcd_reader.specs.declared.shape.Shape.TheVariants.{Scalar}
 use Rattle.vcd_reader.specs.declared.stop.Halt.{Halt}

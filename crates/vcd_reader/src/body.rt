@@ -48,7 +48,7 @@ impl Body {
         ensures ok { IfOk result (λ body. telling found.now (nothing_held (length found.now.codes)) Ready tokens.old ≡ Ok (record { declared = found.now; part = Telling body.told; tracks = body.tracks })) }
         ensures err { IfErr result (λ halt. Halts halt (telling found.now (nothing_held (length found.now.codes)) Ready tokens.old)) }
     {
-        let mut body = Body::new(alloc, found.len())?;
+        let mut body = Body::new(alloc, found.len(), tokens.room())?;
         while let Some(word) = tokens.next() {
             body.take(found, word, tokens)?;
         }
@@ -67,14 +67,15 @@ impl Body {
         (tracks, begun)
     }
 
-    /// Nothing yet of so many signals.
-    fn new(alloc: Global, signals: usize) -> Result<Body, Halt>
+    /// Nothing yet of so many signals, of which so many bytes tell.
+    fn new(alloc: Global, signals: usize, bytes: usize) -> Result<Body, Halt>
         ensures ok { IfOk result (λ body. body ≡ nothing_held signals) }
         ensures err { IfErr result (λ halt. halt ≡ Halt.NoMemory) }
     {
         let mut tracks = Vec::new(alloc);
+        let changes = changes_expected(signals, bytes);
         for _ in 0..signals {
-            if tracks.push(Track::new(alloc)).is_err() {
+            if tracks.push(Track::with_room(alloc, changes)).is_err() {
                 return Err(Halt::NoMemory);
             }
         }
@@ -225,6 +226,15 @@ impl Body {
         let track = &mut self.tracks[number];
         track.push(shot)?;
         Ok(())
+    }
+}
+
+/// How many changes of each signal to make room for before they are read: as many as so many bytes tell of so many
+/// signals, where all change alike. A change has two bytes or more and white space. Room for few is not worth its making.
+fn changes_expected(signals: usize, bytes: usize) -> usize {
+    match (bytes / 3).checked_div(signals) {
+        Some(changes) if changes >= 1024 => changes,
+        _ => 0,
     }
 }
 

@@ -35,14 +35,26 @@ pub enum Shape {
     Other,
 }
 
-/// What a token is.
+/// What a token is. Most are changes to 0 or 1.
+#[inline]
 #[tactic(auto, unfolding(crate::specs::Shapes::shape_of))]
 pub fn shape_of(text: &[u8]) -> Shape
     ensures { result ≡ shape_of text.now }
 {
     match text {
-        [] => Shape::Other,
         [b'0' | b'1', _, ..] => Shape::Scalar,
+        _ => any_shape(text),
+    }
+}
+
+/// The same, whatever the token is.
+#[inline(never)]
+#[tactic(auto, unfolding(crate::specs::Shapes::shape_of))]
+fn any_shape(text: &[u8]) -> Shape
+    ensures { result ≡ shape_of text.now }
+{
+    match text {
+        [] => Shape::Other,
         [b'$', ..] => keyword(text),
         [b'#', ..] => Shape::Time,
         [b'b' | b'B', letters @ ..] => {

@@ -136,23 +136,26 @@ fn shown(alloc: Global, read: Result<Recording, VcdFault>) -> Result<String, Fai
     Ok(text)
 }
 
+/// The first row whose content does not give what is wanted.
+fn first_wrong(alloc: Global, rows: &[(&[u8], &[u8])]) -> Result<Option<usize>, Fail> {
+    for (row, (content, want)) in rows.iter().enumerate() {
+        let text = shown(alloc, read(alloc, content))?;
+        if text.as_bytes() != *want {
+            return Ok(Some(row));
+        }
+    }
+    Ok(None)
+}
+
 #[test]
 fn reads_recordings(rt: HostRuntime) -> Result<(), Fail> {
-    let alloc = rt.alloc();
-    for (content, want) in READ {
-        let text = shown(alloc, read(alloc, content.as_bytes()))?;
-        assert_eq!(rt; text.as_str(), want, "{content}");
-    }
+    assert_eq!(rt; first_wrong(rt.alloc(), &READ)?, None);
     Ok(())
 }
 
 #[test]
 fn tells_first_faults(rt: HostRuntime) -> Result<(), Fail> {
-    let alloc = rt.alloc();
-    for (content, want) in REFUSED {
-        let text = shown(alloc, read(alloc, content.as_bytes()))?;
-        assert_eq!(rt; text.as_str(), want, "{content}");
-    }
+    assert_eq!(rt; first_wrong(rt.alloc(), &REFUSED)?, None);
     Ok(())
 }
 
@@ -205,46 +208,53 @@ fn judges_booleans(rt: HostRuntime) -> Result<(), Fail> {
     Ok(())
 }
 
+/// Whether a recording is read.
+fn reads(alloc: Global, shelf: &mut MemShelf, name: &str) -> bool {
+    read_vcd(alloc, shelf, name).is_ok()
+}
+
+/// Whether reading ends with a fault of the shelf.
+fn fails(alloc: Global, shelf: &mut MemShelf, name: &str) -> bool {
+    matches!(read_vcd(alloc, shelf, name), Err(VcdFault::ReadFault))
+}
+
 #[test]
 fn hands_on_faults_of_the_shelf(rt: HostRuntime) -> Result<(), Fail> {
     let alloc = rt.alloc();
     let mut shelf = shelf_of(alloc, ROW_1, &[])?;
-    assert!(rt;
-        matches!(
-            read_vcd(alloc, &mut shelf, "s.vcd"),
-            Err(VcdFault::ReadFault)
-        )
-    );
-    assert!(rt; matches!(read_vcd(alloc, &mut shelf, "r.vcd"), Ok(_)));
+    let unknown = fails(alloc, &mut shelf, "s.vcd");
+    let known = reads(alloc, &mut shelf, "r.vcd");
     let mut shelf = shelf_of(alloc, ROW_1, &[2])?;
-    assert!(rt;
-        matches!(
-            read_vcd(alloc, &mut shelf, "r.vcd"),
-            Err(VcdFault::ReadFault)
-        )
-    );
+    let refused = fails(alloc, &mut shelf, "r.vcd");
+    assert!(rt; unknown && known && refused);
     Ok(())
+}
+
+/// A recording of 10,000 times.
+fn long_recording(alloc: Global) -> Result<String, Fail> {
+    let mut text = String::from_str(alloc, "$var wire 1 ! a $end\n$enddefinitions $end")?;
+    for time in 0..10_000u32 {
+        text.push_str(format!(in alloc; "\n#{time}")?.as_str())?;
+    }
+    Ok(text)
+}
+
+/// What a text gives with some more behind it.
+fn shown_with(alloc: Global, text: &String, more: &str) -> Result<String, Fail> {
+    let text = format!(in alloc; "{text}{more}")?;
+    shown(alloc, read(alloc, text.as_bytes()))
 }
 
 #[test]
 fn counts_samples(rt: HostRuntime) -> Result<(), Fail> {
     let alloc = rt.alloc();
-    let mut text = String::from_str(alloc, "$var wire 1 ! a $end\n$enddefinitions $end")?;
-    for time in 0..10_000u32 {
-        text.push_str(format!(in alloc; "\n#{time}")?.as_str())?;
-    }
-    let longer = format!(in alloc; "{text}\n#10000")?;
-    assert_eq!(rt;
-        shown(alloc, read(alloc, longer.as_bytes()))?.as_str(),
-        "V13 10003:1"
-    );
-    text.push_str("\n#9999")?;
-    assert_eq!(rt; read(alloc, text.as_bytes())?.samples(), 10_000);
-    text.push_str("\n1! #10000")?;
-    assert_eq!(rt;
-        shown(alloc, read(alloc, text.as_bytes()))?.as_str(),
-        "V13 10004:4"
-    );
+    let text = long_recording(alloc)?;
+    let longer = shown_with(alloc, &text, "\n#10000")?;
+    assert_eq!(rt; longer.as_str(), "V13 10003:1");
+    let longer = shown_with(alloc, &text, "\n#9999\n1! #10000")?;
+    assert_eq!(rt; longer.as_str(), "V13 10004:4");
+    let samples = read(alloc, format!(in alloc; "{text}\n#9999")?.as_bytes())?.samples();
+    assert_eq!(rt; samples, 10_000);
     Ok(())
 }
 

@@ -42,6 +42,11 @@ impl<'a> Tokens<'a> {
         Tokens { bytes, at: 0 }
     }
 
+    /// How many bytes of the text are left.
+    pub fn room(&self) -> usize {
+        self.bytes.len() - self.at
+    }
+
     /// The first of the tokens that are left, which is then left no more.
     pub fn next(&mut self) -> Option<Word<'a>>
         ensures next { IsNext result self.old self.new }

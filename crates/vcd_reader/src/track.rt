@@ -42,6 +42,16 @@ impl Track {
         }
     }
 
+    /// No changes, with room for so many where memory is there for them.
+    pub fn with_room(alloc: Global, changes: usize) -> Track
+        ensures { result ≡ [] }
+    {
+        match Vec::with_capacity(alloc, changes) {
+            Ok(shots) => Track { shots },
+            Err(_) => Track::new(alloc),
+        }
+    }
+
     /// One change more, before which no fewer samples were begun than before the others.
     pub fn push(&mut self, shot: Shot) -> Result<(), NoMemory>
         requires { All (λ other. other.begun ≤ shot.begun) self.old }

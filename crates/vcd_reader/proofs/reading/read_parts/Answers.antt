@@ -2,7 +2,6 @@ use Rattle.std.proofs.Common.{◌∙◌, Result, sym, subst}
 use Rattle.std.proofs.lemmas.Result.{err_from_is_err_and}
 use Rattle.vcd_reader.specs.declared.stop.Stop.{Stop}
 use Rattle.vcd_reader.specs.Running.{Outcome, Halts}
-use Rattle.vcd_reader.specs.Tokens.{tokens}
 use Rattle.vcd_reader.proofs.Joining.{says_recording, sound_recording, says_fault}
 use Rattle.vcd_reader.proofs.reading.read_parts.Goals as goal
 

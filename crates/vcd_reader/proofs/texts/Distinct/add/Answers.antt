@@ -2,7 +2,7 @@ use Rattle.std.proofs.Common.{◌≡◌, ◌∙◌, [], ◌∷◌, ◌++◌, tru
 use Rattle.std.proofs.lemmas.List.{map-append, length-map}
 use Rattle.std.proofs.lemmas.Map.Text.{hash_map_updates_str}
 use Rattle.std.specs.Str.{bytes_eq}
-use Rattle.vcd_reader.proofs.Places.{place_of-push}
+use Rattle.vcd_reader.proofs.Places.{place_of-push, distinct-push}
 use Rattle.vcd_reader.proofs.Short.{short-push}
 use Rattle.vcd_reader.specs.Labels.{is_new}
 use Rattle.vcd_reader.specs.Short.{AreBytes}
@@ -19,4 +19,5 @@ invariant_of-self-in-Ok c =
           let old = ap (λ o. cond (bytes_eq c.args.text.now query) (Some c.len-place.result) o) (c.self.invariant.0 query) in
           rw (pushed, map-append) (updated ∙ old ∙ place_of-push (map (λ text. text.now) c.self.inside.texts.items) c.args.text.now query c.len-place.result at new),
       rw (c.note.ensures, pushed, map-append) (short-push c.self.inside.short.items (map (λ text. text.now) c.self.inside.texts.items) c.args.text.now c.len-place.result c.self.invariant.1 at new bytes),
+      rw (pushed, map-append) (distinct-push (map (λ text. text.now) c.self.inside.texts.items) c.args.text.now c.self.invariant.2 new),
     )
