@@ -1,7 +1,7 @@
 -- The front of a list that passes a test, and what stands behind it.
 use Rattle.std.proofs.Common.{◌≡◌, ℕ, ◌+◌, suc, Bool, true, false, cond, ◌&&◌, List, [], ◌∷◌, ◌++◌, length, take, drop, refl, arith}
 use Rattle.std.specs.List.{prefix_len, list_all}
-use Rattle.psl_parser.specs.Tokens.{Stops}
+use Rattle.psl_first_form.specs.Tokens.{Stops}
 
 -- both of two tests pass
 pub both_pass : (a b : Bool) → (a && b) ≡ true → (a ≡ true) × (b ≡ true)

@@ -6,10 +6,10 @@ use Rattle.std.proofs.lemmas.Map.Views.{Contains-from_any}
 use Rattle.std.proofs.lemmas.Slice.Eq.{bytes_eq-Decides}
 use Rattle.std.specs.List.{list_all, Contains}
 use Rattle.std.specs.Str.{bytes_eq}
-use Rattle.psl_parser.specs.Bytes.{is_space, begins_name, continues_name}
-use Rattle.psl_parser.specs.Tokens.{keywords, IsName, Stops}
-use Rattle.psl_parser.specs.Reading.{is_keyword, is_name}
-use Rattle.psl_parser.proofs.Fronts.{both_pass}
+use Rattle.psl_first_form.specs.Bytes.{is_space, begins_name, continues_name}
+use Rattle.psl_first_form.specs.Tokens.{keywords, IsName, Stops}
+use Rattle.psl_first_form.specs.Reading.{is_keyword, is_name}
+use Rattle.psl_first_form.proofs.Fronts.{both_pass}
 
 -- what the test finds is a keyword
 pub keyword_listed : (w : List ℕ) → is_keyword w ≡ true → Contains keywords w

@@ -6,11 +6,11 @@ use Rattle.std.proofs.lemmas.List.{take-append-drop}
 use Rattle.std.proofs.lemmas.Option.{cond_some, same_Some}
 use Rattle.std.specs.List.{prefix_len, list_all}
 use Rattle.std.specs.Option.{option_or, MatchOption}
-use Rattle.psl_parser.specs.Bytes.{is_space, begins_name, continues_name}
-use Rattle.psl_parser.specs.Tokens.{IsName, Token, Word, Mark, Follows, Begins, Stops}
-use Rattle.psl_parser.specs.Reading.{◌>>=◌, Gives, after_spaces, stripped, ends_word, is_name, mark, word, name, strength}
-use Rattle.psl_parser.proofs.Fronts.{both_pass, front_passes, front_stops, prefix_len-front}
-use Rattle.psl_parser.proofs.Names.{name_tested, name_continues, name_passes, name_no_space}
+use Rattle.psl_first_form.specs.Bytes.{is_space, begins_name, continues_name}
+use Rattle.psl_first_form.specs.Tokens.{IsName, Token, Word, Mark, Follows, Begins, Stops}
+use Rattle.psl_first_form.specs.Reading.{◌>>=◌, Gives, after_spaces, stripped, ends_word, is_name, mark, word, name, strength}
+use Rattle.psl_first_form.proofs.Fronts.{both_pass, front_passes, front_stops, prefix_len-front}
+use Rattle.psl_first_form.proofs.Names.{name_tested, name_continues, name_passes, name_no_space}
 
 -- what was read in two steps
 pub bind_then : {A B P : Type 0} (r : Option A) (f : A → Option B) (y : B) → (r >>= f) ≡ Some y → ((x : A) → r ≡ Some x → f x ≡ Some y → P) → P

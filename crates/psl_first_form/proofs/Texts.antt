@@ -5,11 +5,11 @@ use Rattle.std.specs.List.{list_all}
 use Rattle.psl_tree.specs.declared.surface.UnitTree.{UnitTree}
 use Rattle.psl_tree.specs.declared.surface.Step.{Step}
 use Rattle.psl_tree.specs.declared.surface.Step.TheVariants.{Next, NextStrong}
-use Rattle.psl_parser.specs.Bytes.{is_space}
-use Rattle.psl_parser.specs.Tokens.{IsName, Word, Mark, Begins, Spells}
-use Rattle.psl_parser.specs.FirstForm.{IsText, IsOfFirstForm, tokens_of, target_of}
-use Rattle.psl_parser.specs.Reading.{mark, word, name, strength, step_of, tree_of, reading}
-use Rattle.psl_parser.proofs.Readers.{bind_then, mark_reads, mark_read, word_reads, word_read, name_reads, name_read, strength_token, strength_reads, strong_read, weak_read}
+use Rattle.psl_first_form.specs.Bytes.{is_space}
+use Rattle.psl_first_form.specs.Tokens.{IsName, Word, Mark, Begins, Spells}
+use Rattle.psl_first_form.specs.FirstForm.{IsText, IsOfFirstForm, tokens_of, target_of}
+use Rattle.psl_first_form.specs.Reading.{mark, word, name, strength, step_of, tree_of, reading}
+use Rattle.psl_first_form.proofs.Readers.{bind_then, mark_reads, mark_read, word_reads, word_read, name_reads, name_read, strength_token, strength_reads, strong_read, weak_read}
 
 -- the chain of a text of which each token is known
 spelled : (strong : Bool) (condition target : List ℕ) (text : List ℕ) → (always open_at condition_at arrow_at step_at target_at close_at end_at rest : List ℕ)

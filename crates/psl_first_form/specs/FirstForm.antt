@@ -3,7 +3,7 @@ use Rattle.std.specs.Prelude.{ℕ, List, [], ◌∷◌, ◌++◌, codes}
 use Rattle.psl_tree.specs.declared.surface.UnitTree.{UnitTree}
 use Rattle.psl_tree.specs.declared.surface.Step.{Step}
 use Rattle.psl_tree.specs.declared.surface.Step.TheVariants.{Next, NextStrong}
-use Rattle.psl_parser.specs.Tokens.{Token, Word, Mark, IsName, Spells}
+use Rattle.psl_first_form.specs.Tokens.{Token, Word, Mark, IsName, Spells}
 
 -- the name that the next letter is to have
 abbrev pub target_of : Step → List ℕ

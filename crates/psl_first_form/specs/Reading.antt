@@ -8,8 +8,8 @@ use Rattle.std.specs.Str.{bytes_eq}
 use Rattle.psl_tree.specs.declared.surface.UnitTree.{UnitTree}
 use Rattle.psl_tree.specs.declared.surface.Step.{Step}
 use Rattle.psl_tree.specs.declared.surface.Step.TheVariants.{Next, NextStrong}
-use Rattle.psl_parser.specs.Bytes.{is_space, begins_name, continues_name}
-use Rattle.psl_parser.specs.Tokens.{keywords}
+use Rattle.psl_first_form.specs.Bytes.{is_space, begins_name, continues_name}
+use Rattle.psl_first_form.specs.Tokens.{keywords}
 
 infixl 10 ◌>>=◌
 abbrev pub ◌>>=◌ : {A B : Type 0} → Option A → (A → Option B) → Option B

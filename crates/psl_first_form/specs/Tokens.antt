@@ -2,7 +2,7 @@
 -- (IEEE 1850, clause 4.2).
 use Rattle.std.specs.Prelude.{◌≡◌, ℕ, Bool, List, [], ◌∷◌, ◌++◌, false, codes, IsTrue, Contains}
 use Rattle.std.specs.List.{list_all}
-use Rattle.psl_parser.specs.Bytes.{is_space, begins_name, continues_name}
+use Rattle.psl_first_form.specs.Bytes.{is_space, begins_name, continues_name}
 
 -- The keywords, which are no names. A reserved word of the standard that is not listed is a name here.
 unfoldable pub keywords : List (List ℕ)

@@ -1,5 +1,5 @@
 ghost use Rattle.std.specs.Prelude.{◌≡◌};
-ghost use Rattle.psl_parser.specs.Bytes as spec;
+ghost use Rattle.psl_first_form.specs.Bytes as spec;
 
 /// Whether a byte is white space.
 #[tactic(auto, unfolding(crate::specs::Bytes::is_space))]

@@ -1,9 +1,9 @@
 ghost use Rattle.std.specs.Prelude.{◌≡◌, ℕ, List, IfOk, IsErrOf};
 ghost use Rattle.psl_tree.specs.declared.surface.UnitTree.{UnitTree};
-ghost use Rattle.psl_parser.specs.FirstForm.{IsText, IsOfFirstForm};
-ghost use Rattle.psl_parser.specs.Reading as spec;
-ghost use Rattle.psl_parser.specs.Reading.{Gives, step_of, tree_of};
-ghost use Rattle.psl_parser.specs.declared.first_form.ParseFault.TheVariants.{NoMemory as MemoryFault};
+ghost use Rattle.psl_first_form.specs.FirstForm.{IsText, IsOfFirstForm};
+ghost use Rattle.psl_first_form.specs.Reading as spec;
+ghost use Rattle.psl_first_form.specs.Reading.{Gives, step_of, tree_of};
+ghost use Rattle.psl_first_form.specs.declared.first_form.ParseFault.TheVariants.{NoMemory as MemoryFault};
 
 use crate::scan::{is_blank, mark, name, word};
 use psl_base::{NoMemory, Text};

@@ -1,8 +1,8 @@
 ghost use Rattle.std.specs.Prelude.{◌≡◌, ◌≤◌, length};
 ghost use Rattle.std.specs.List.{list_all, prefix_len};
-ghost use Rattle.psl_parser.specs.Bytes as spec_bytes;
-ghost use Rattle.psl_parser.specs.Reading as spec;
-ghost use Rattle.psl_parser.specs.Reading.{Gives};
+ghost use Rattle.psl_first_form.specs.Bytes as spec_bytes;
+ghost use Rattle.psl_first_form.specs.Reading as spec;
+ghost use Rattle.psl_first_form.specs.Reading.{Gives};
 
 use crate::bytes::{continues_name, is_space};
 use crate::words::is_name;

@@ -1,7 +1,7 @@
 ghost use Rattle.std.specs.Prelude.{◌≡◌};
 ghost use Rattle.std.specs.List.{list_any};
 ghost use Rattle.std.specs.Str.{bytes_eq};
-ghost use Rattle.psl_parser.specs.Reading as spec;
+ghost use Rattle.psl_first_form.specs.Reading as spec;
 
 use crate::bytes::begins_name;
 

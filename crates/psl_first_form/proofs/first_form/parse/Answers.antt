@@ -1,5 +1,5 @@
-use Rattle.psl_parser.proofs.Texts.{reading_is, unread}
-use Rattle.psl_parser.proofs.first_form.parse.Goals as goal
+use Rattle.psl_first_form.proofs.Texts.{reading_is, unread}
+use Rattle.psl_first_form.proofs.first_form.parse.Goals as goal
 
 pub returns-in_default-clause-not_yet : goal.returns-in_default-clause-not_yet
 returns-in_default-clause-not_yet c = λ _. unread c.args.text.now c.in_default.ensures

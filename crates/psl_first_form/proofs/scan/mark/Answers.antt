@@ -1,8 +1,8 @@
 use Rattle.std.proofs.lemmas.Bool.Decides.{Decides-eqb}
 use Rattle.std.proofs.lemmas.Slice.Eq.{strip_prefix_is}
-use Rattle.psl_parser.specs.Reading.{mark}
-use Rattle.psl_parser.proofs.Readers.{stripped_gives}
-use Rattle.psl_parser.proofs.scan.mark.Goals as goal
+use Rattle.psl_first_form.specs.Reading.{mark}
+use Rattle.psl_first_form.proofs.Readers.{stripped_gives}
+use Rattle.psl_first_form.proofs.scan.mark.Goals as goal
 
 pub returns : goal.returns
 unfolding mark

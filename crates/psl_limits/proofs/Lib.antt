@@ -1,0 +1,4 @@
+mod Counting
+mod Placing
+mod Proved
+mod Standing

@@ -1,0 +1,4 @@
+pub mod Statements
+pub mod Limits
+pub mod Counted
+pub mod Laws

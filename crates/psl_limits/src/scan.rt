@@ -1,0 +1,27 @@
+ghost use Rattle.std.specs.Prelude.{length, MatchOption};
+ghost use Rattle.psl_limits.specs.Limits.{NonePasses, IsFirstPassed};
+
+use crate::Passed;
+use crate::spot::Spot;
+use psl_lexer::Token;
+
+/// The first token of a text that passes a limit of its statement, if there is one. A bracket that opens a level too
+/// many is named for its level, also where it is the first token too many. It takes no memory, and reads each token
+/// once.
+pub fn first_passed(tokens: &[Token]) -> Option<Passed>
+    ensures { MatchOption result (NonePasses tokens.now (length tokens.now)) (IsFirstPassed tokens.now) }
+{
+    let mut spot = Spot::Outside;
+    for (index, token) in tokens.iter().enumerate() {
+        match spot.step(token) {
+            Ok(next) => spot = next,
+            Err(limit) => {
+                return Some(Passed {
+                    token: index,
+                    limit,
+                });
+            }
+        }
+    }
+    None
+}

@@ -1,0 +1,4 @@
+pub mod Laws
+pub mod Parsing
+pub mod Pieces
+pub mod Steps
