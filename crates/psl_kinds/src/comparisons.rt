@@ -1,0 +1,93 @@
+// The sides of comparisons.
+ghost use Rattle.std.specs.Prelude.{◌≡◌, ◌≤◌, ◌^◌, nat_le, IfOk};
+ghost use Rattle.psl_layer_meaning.specs.FirstFlaw.{first_of};
+ghost use Rattle.psl_layer_meaning.specs.Flaws as spec;
+
+use crate::signals::{is_declared_whole, refers_in};
+use crate::wants::flaw_where;
+use psl_base::{NoMemory, Place};
+use psl_grammar::{Expression, Statement};
+use psl_layer_meaning::{Cause, Flaw, InfixOperator, Reference, Side};
+use psl_lexer::{Token, TokenKind};
+use psl_names::literal_value;
+use psl_tree::Names;
+use std::alloc::Global;
+
+// One side of a comparison that is a number, a constant, `true` or `false`.
+fn literal_side(token: &Token) -> Side
+    ensures { result ≡ spec.literal_side token.now.kind token.now }
+{
+    match token.kind {
+        TokenKind::Number | TokenKind::Constant => Side::Value(literal_value(token), token.place),
+        _ => Side::Neither,
+    }
+}
+
+/// One side of a comparison.
+pub(crate) fn side_of(
+    alloc: Global,
+    scope: &[Statement],
+    names: &Names,
+    x: &Expression,
+) -> Result<Side, NoMemory>
+    ensures { IfOk result (λ side. side ≡ spec.side_of scope.now names.now x.now) }
+{
+    match x {
+        Expression::Signal(path, index) => signal_side(alloc, scope, names, path.as_slice(), index),
+        Expression::Literal(token) => Ok(literal_side(token)),
+        _ => Ok(Side::Neither),
+    }
+}
+
+// One side of a comparison that is a path.
+fn signal_side(
+    alloc: Global,
+    scope: &[Statement],
+    names: &Names,
+    path: &[Token],
+    index: &Option<Token>,
+) -> Result<Side, NoMemory>
+    ensures { IfOk result (λ side. side ≡ spec.signal_side scope.now names.now path.now index.now) }
+{
+    if is_declared_whole(alloc, scope, path, index)? {
+        return Ok(Side::Neither);
+    }
+    Ok(Side::Bits(refers_in(alloc, scope, names, path, index)?))
+}
+
+// Whether a value needs more bits than there are.
+fn is_past_width(width: u64, value: u64) -> bool
+    ensures { result ≡ nat_le (2 ^ width) value }
+{
+    width < 64 && value >= 1u64 << width
+}
+
+// The fault of a value that needs more bits than there are.
+fn value_flaw(bits: Reference, value: u64, place: Place) -> Option<Flaw>
+    ensures { result ≡ first_of (spec.value_flaws bits value place) }
+{
+    match bits {
+        Reference::Nothing | Reference::Several => None,
+        Reference::Bits { width, .. } => {
+            flaw_where(is_past_width(width, value), Cause::ConstantTooWide, place)
+        }
+    }
+}
+
+/// The fault of a comparison of two sides, of which the left one begins at a place.
+pub(crate) fn side_flaw(left: Side, right: Side, left_place: Place) -> Option<Flaw>
+    ensures { result ≡ first_of (spec.side_flaws left right left_place) }
+{
+    match (left, right) {
+        (Side::Bits(bits), Side::Value(value, place))
+        | (Side::Value(value, place), Side::Bits(bits)) => { value_flaw(bits, value, place) }
+        _ => flaw_where(true, Cause::Kind, left_place),
+    }
+}
+
+/// Whether an operator is `==` or `!=`.
+pub(crate) fn is_comparison(operator: InfixOperator) -> bool
+    ensures { result ≡ spec.is_comparison operator }
+{
+    matches!(operator, InfixOperator::Equal | InfixOperator::Unequal)
+}

@@ -1,0 +1,5 @@
+mod FlawLaws
+mod KindLaws
+mod MeaningLaws
+mod Nodes
+pub mod TreeLaws

@@ -1,0 +1,4 @@
+pub mod ExamplesHold
+pub mod Firsts
+pub mod Order
+pub mod Resolved

@@ -1,0 +1,11 @@
+pub mod Answers
+pub mod Directives
+pub mod Examples
+pub mod FirstFlaw
+pub mod Flaws
+pub mod Kernel
+pub mod Kinds
+pub mod Laws
+pub mod LookUp
+pub mod Operators
+pub mod Texts

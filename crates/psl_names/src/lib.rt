@@ -1,0 +1,19 @@
+//! Which signal or declaration a path of a surface tree stands for, and what its words, numbers and constants say.
+#![tactic(auto)]
+
+mod declared;
+mod matching;
+mod operators;
+mod references;
+mod texts;
+mod values;
+
+pub use declared::{declared_as, declares_clock};
+pub use matching::look_up;
+pub use operators::{
+    declaration_word, directive_kind_of, edge_of, infix_operator, is_endless, prefix_operator,
+    quantifier_of, repetition_operator, strength_of,
+};
+pub use references::{index_number, reference, refers_to};
+pub use texts::{indexed_text, path_text};
+pub use values::{literal_value, number_of};

@@ -1,0 +1,118 @@
+// Which signal a path stands for.
+ghost use Rattle.std.specs.Prelude.{◌≡◌, ◌<◌, ◌^◌, IfOk, IsTrue};
+ghost use Rattle.psl_layer_meaning.specs.LookUp as spec;
+
+use crate::matching::look_up;
+use crate::texts::{indexed_text, path_text};
+use crate::values::number_of;
+use psl_base::NoMemory;
+use psl_layer_meaning::{Found, Reference};
+use psl_lexer::Token;
+use psl_tree::Names;
+use std::alloc::Global;
+
+/// What a text stands for as a signal, perhaps with an index.
+pub fn refers_to(
+    alloc: Global,
+    names: &Names,
+    text: &[u8],
+    index: Option<u64>,
+) -> Result<Reference, NoMemory>
+    ensures { IfOk result (λ reference. reference ≡ spec.refers_to names.now text.now index) }
+{
+    let Some(index) = index else {
+        return Ok(whole_of(look_up(names, text)));
+    };
+    let indexed = indexed_text(alloc, text, index)?;
+    Ok(match look_up(names, indexed.as_slice()) {
+        Found::Nothing => bit_of(look_up(names, text), index),
+        found => whole_of(found),
+    })
+}
+
+/// What a path stands for as a signal, perhaps with an index.
+pub fn reference(
+    alloc: Global,
+    names: &Names,
+    path: &[Token],
+    index: &Option<Token>,
+) -> Result<Reference, NoMemory>
+    ensures { IfOk result (λ reference. reference ≡ spec.reference names.now path.now index.now) }
+{
+    let text = path_text(alloc, path)?;
+    refers_to(alloc, names, text.as_slice(), index_number(index))
+}
+
+/// The number of an index, if there is one.
+pub fn index_number(index: &Option<Token>) -> Option<u64>
+    ensures { result ≡ spec.index_number index.now }
+{
+    match index {
+        Some(token) => Some(number_of(token)),
+        None => None,
+    }
+}
+
+// All bits of what was found.
+fn whole_of(found: Found) -> Reference
+    ensures { result ≡ spec.whole_of found }
+{
+    match found {
+        Found::Nothing => Reference::Nothing,
+        Found::One {
+            signal,
+            left,
+            right,
+        } => Reference::Bits {
+            signal,
+            lowest: 0,
+            width: distance(u64::from(left), u64::from(right)) + 1,
+        },
+        Found::Several => Reference::Several,
+    }
+}
+
+// The bit of what was found that an index stands for.
+fn bit_of(found: Found, index: u64) -> Reference
+    ensures { result ≡ spec.bit_of found index }
+{
+    match found {
+        Found::Nothing => Reference::Nothing,
+        Found::One {
+            signal,
+            left,
+            right,
+        } => {
+            if !is_index(left, right, index) {
+                return Reference::Nothing;
+            }
+            Reference::Bits {
+                signal,
+                lowest: distance(index, u64::from(right)) as u32,
+                width: 1,
+            }
+        }
+        Found::Several => Reference::Several,
+    }
+}
+
+// Whether a number is an index from one end of a range to the other.
+fn is_index(left: u32, right: u32, index: u64) -> bool
+    ensures is { result ≡ spec.is_index left right index }
+    ensures small { IsTrue result → spec.distance index right < 2 ^ 32 }
+{
+    let left = u64::from(left);
+    let right = u64::from(right);
+    (left <= index && index <= right) || (right <= index && index <= left)
+}
+
+// How far two numbers are apart.
+fn distance(first: u64, second: u64) -> u64
+    ensures { result ≡ spec.distance first second }
+{
+    if first < second {
+        second - first
+    } else {
+        first - second
+    }
+}
