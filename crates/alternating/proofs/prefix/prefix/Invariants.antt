@@ -1,0 +1,7 @@
+use Rattle.std.proofs.Common.{◌≡◌, take, map}
+use Rattle.alternating_meaning.specs.Construction.{prefix_obligation}
+use Rattle.alternating.specs.Views.{obligations_of_code}
+use Rattle.alternating.proofs.prefix.prefix.Given as goal
+
+abbrev pub invariant-loop-state : goal.invariant-loop-state
+invariant-loop-state l = obligations_of_code l.rest.items ≡ map (λ state. prefix_obligation l.nfa.states l.offset l.end state.edges) (take l.state l.nfa.states)

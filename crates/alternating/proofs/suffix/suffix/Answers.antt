@@ -1,0 +1,17 @@
+use Rattle.std.proofs.Common.{rules, ◌∙◌, ◌+◌, true, ap, List}
+use Rattle.sere_nfa.specs.Acceptance.{Edge, State}
+use Rattle.sere_nfa.specs.Views.{edges_of}
+use Rattle.sere_nfa.specs.declared.edge.NfaEdge.{NfaEdge}
+use Rattle.alternating_meaning.specs.Construction.{suffix_obligation}
+use Rattle.alternating.specs.Views.{obligation_of, obligations_of_code}
+use Rattle.alternating.proofs.Edges.{obligation-more}
+use Rattle.alternating.proofs.suffix.suffix.Goals as goal
+
+pub loop-state-preserved : goal.loop-state-preserved
+loop-state-preserved c =
+    obligation-more (λ (state : State). suffix_obligation c.args.nfa.now.states (c.args.offset + c.len.result) true (obligation_of c.args.part.start) state.edges) c.args.nfa.now.states c.loop-state.state (search rules)
+    (obligations_of_code c.args.part.rest.items)
+    c.loop-state.rest.items c.add.new.obligations.items c.in_ok-new.new c.loop-state.invariant c.in_ok-add.ensures
+    (c.in_ok-new.ensures
+    ∙ ap (λ (l : List NfaEdge). suffix_obligation c.args.nfa.now.states (c.args.offset + c.len.result) true (obligation_of c.args.part.start) (edges_of l)) c.as_slice-edges-in-loop-state.ensures
+    ∙ ap (λ (l : List Edge). suffix_obligation c.args.nfa.now.states (c.args.offset + c.len.result) true (obligation_of c.args.part.start) l) c.edges.ensures.shown)

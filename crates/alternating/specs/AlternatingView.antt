@@ -1,0 +1,14 @@
+-- What contracts see of the program's automaton, and what it keeps.
+use Rattle.std.specs.Prelude.{◌<◌, ◌^◌, length}
+use Rattle.alternating_meaning.specs.Obligations.{Automaton}
+use Rattle.alternating.specs.Views.{obligations_of_code, ObligationsWithin}
+use Rattle.alternating.specs.declared.automaton.Alternating.TheInside.{Inside}
+
+abbrev pub automaton_of : Inside → Automaton
+automaton_of inside = record { start = inside.start; obligations = obligations_of_code inside.obligations.items }
+
+-- the start and all numbers that are owed are those of its obligations
+pub record IsWhole (inside : Inside) : Type 0 where
+  pub start_below : inside.start < length inside.obligations.items
+  pub owed_below : ObligationsWithin 0 (length inside.obligations.items) inside.obligations.items
+  pub few : length inside.obligations.items < 2 ^ 32

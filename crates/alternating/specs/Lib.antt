@@ -1,0 +1,11 @@
+pub mod AlternatingView
+pub mod Atoms
+pub mod Beyonds
+pub mod Codes
+pub mod Limits
+pub mod Packed
+pub mod Search
+pub mod Stages
+pub mod Stepped
+pub mod TruthsView
+pub mod Views

@@ -1,0 +1,23 @@
+-- Which formulas have a sequence that is too large.
+use Rattle.std.specs.Prelude.{◌⊎◌, ◌<◌}
+use Rattle.psl_tree.specs.Counts.{states_of}
+use Rattle.psl_tree.specs.Trees.{Sequence, Formula, Now, NowStrong, Weak, Strong, Not, And, Next, Until, Suffix, Abort, SyncAbort, Clocked}
+
+-- some sequence of the formula has P
+abbrev pub SomeSequence : (Sequence → Type 0) → Formula → Type 0
+SomeSequence P (Now _) = ⊥
+SomeSequence P (NowStrong _) = ⊥
+SomeSequence P (Weak sequence) = P sequence
+SomeSequence P (Strong sequence) = P sequence
+SomeSequence P (Not part) = SomeSequence P part
+SomeSequence P (And left right) = SomeSequence P left ⊎ SomeSequence P right
+SomeSequence P (Next part) = SomeSequence P part
+SomeSequence P (Until left right) = SomeSequence P left ⊎ SomeSequence P right
+SomeSequence P (Suffix sequence part) = P sequence ⊎ SomeSequence P part
+SomeSequence P (Abort part _) = SomeSequence P part
+SomeSequence P (SyncAbort part _) = SomeSequence P part
+SomeSequence P (Clocked part _) = SomeSequence P part
+
+-- some sequence of the formula counts more than 1,024 states
+abbrev pub HasLargeSequence : Formula → Type 0
+HasLargeSequence formula = SomeSequence (λ sequence. 1024 < states_of sequence) formula

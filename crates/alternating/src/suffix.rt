@@ -1,0 +1,146 @@
+ghost use Rattle.std.specs.Prelude.{◌≡◌, ◌+◌, ◌<◌, ◌++◌, All, length, map, IfOk};
+ghost use Rattle.psl_tree.specs.Trees.{boolean_of, Not};
+ghost use Rattle.alternating_meaning.specs.Positive.{Holds};
+ghost use Rattle.sere_nfa.specs.Views.{edge_of, edges_of};
+ghost use Rattle.alternating_meaning.specs.Construction.{going, going_edge, quiet, quiet_edge, suffix_obligation, suffix_part};
+ghost use Rattle.alternating.specs.Stages.{IsStage};
+ghost use Rattle.alternating.specs.Views.{positive_of, obligation_of, part_of_code};
+
+use crate::obligation::Obligation;
+use crate::part::{Part, add};
+use crate::positive::{Positive, all_of, one_of};
+use crate::stage::{entry, goes_on, leads_on};
+use psl_base::{NoMemory, boxed};
+use psl_tree::Bool;
+use sere_nfa::{Nfa, NfaEdge};
+use std::alloc::Global;
+
+/// The part that each prefix of the sequence is followed by. The obligations of the sequence's states
+/// follow those of the part, from the offset on.
+pub(crate) fn suffix(
+    alloc: Global,
+    nfa: &Nfa,
+    ongoing: &[bool],
+    offset: u32,
+    part: Part,
+) -> Result<Part, NoMemory>
+    requires { IsStage nfa.now ongoing.now (offset + length part.rest.items) }
+    ensures { IfOk result (λ new. part_of_code new ≡ suffix_part offset nfa.now (part_of_code part)) }
+{
+    let Part {
+        start: follows,
+        mut rest,
+    } = part;
+    let from = offset + rest.len() as u32;
+    let edges = entry(nfa).as_slice();
+    let start = suffix_obligation(alloc, nfa, ongoing, from, false, &follows, edges)?;
+    for state in 0..nfa.len() as u32 {
+        let edges = nfa.edges(state).as_slice();
+        let new = suffix_obligation(alloc, nfa, ongoing, from, true, &follows, edges)?;
+        add(&mut rest, new)?;
+    }
+    Ok(Part { start, rest })
+}
+
+// Each prefix that is read over these edges is followed by what the part asks, from its last letter
+// on.
+fn suffix_obligation(
+    alloc: Global,
+    nfa: &Nfa,
+    ongoing: &[bool],
+    offset: u32,
+    accepting: bool,
+    part: &Obligation,
+    edges: &[NfaEdge],
+) -> Result<Obligation, NoMemory>
+    requires stage { IsStage nfa.now ongoing.now offset }
+    requires below { All (λ edge. edge.target < length nfa.now.states) edges.now }
+    ensures { IfOk result (λ new. obligation_of new ≡ suffix_obligation nfa.now.states offset accepting (obligation_of part.now) (edges_of edges.now)) }
+{
+    let steps = going(alloc, nfa, ongoing, offset, edges)?;
+    let ends = quiet(alloc, nfa, edges)?;
+    let follows = one_of(alloc, ends, part.delta.copy(alloc)?)?;
+    Ok(Obligation {
+        delta: all_of(alloc, steps, follows)?,
+        accepting,
+        end: true,
+        top: true,
+        bottom: !goes_on(nfa, edges) || part.bottom,
+    })
+}
+
+// Where the dual letter takes an edge, the state that it leads to is owed next, if it goes on.
+fn going(
+    alloc: Global,
+    nfa: &Nfa,
+    ongoing: &[bool],
+    offset: u32,
+    edges: &[NfaEdge],
+) -> Result<Positive, NoMemory>
+    requires stage { IsStage nfa.now ongoing.now offset }
+    requires below { All (λ edge. edge.target < length nfa.now.states) edges.now }
+    ensures { IfOk result (λ new. positive_of new ≡ going nfa.now.states offset (edges_of edges.now)) }
+{
+    let mut found = Positive::Const(true);
+    for done in 0..edges.len() {
+        let edge = &edges[edges.len() - 1 - done];
+        found = going_edge(alloc, nfa, ongoing, offset, edge, found)?;
+    }
+    Ok(found)
+}
+
+fn going_edge(
+    alloc: Global,
+    nfa: &Nfa,
+    ongoing: &[bool],
+    offset: u32,
+    edge: &NfaEdge,
+    others: Positive,
+) -> Result<Positive, NoMemory>
+    requires stage { IsStage nfa.now ongoing.now offset }
+    requires below { edge.now.target < length nfa.now.states }
+    ensures { IfOk result (λ new. positive_of new ≡ going_edge nfa.now.states offset (edge_of edge.now) (positive_of others)) }
+{
+    if !leads_on(nfa, ongoing, edge.target) {
+        return Ok(others);
+    }
+    let next = Positive::Owed(offset + edge.target);
+    let step = one_of(alloc, not_label(alloc, edge)?, next)?;
+    all_of(alloc, step, others)
+}
+
+// The dual letter takes no edge to a final state.
+fn quiet(alloc: Global, nfa: &Nfa, edges: &[NfaEdge]) -> Result<Positive, NoMemory>
+    requires { All (λ edge. edge.target < length nfa.now.states) edges.now }
+    ensures { IfOk result (λ new. positive_of new ≡ quiet nfa.now.states (edges_of edges.now)) }
+{
+    let mut found = Positive::Const(true);
+    for done in 0..edges.len() {
+        let edge = &edges[edges.len() - 1 - done];
+        found = quiet_edge(alloc, nfa, edge, found)?;
+    }
+    Ok(found)
+}
+
+fn quiet_edge(
+    alloc: Global,
+    nfa: &Nfa,
+    edge: &NfaEdge,
+    others: Positive,
+) -> Result<Positive, NoMemory>
+    requires { edge.now.target < length nfa.now.states }
+    ensures { IfOk result (λ new. positive_of new ≡ quiet_edge nfa.now.states (edge_of edge.now) (positive_of others)) }
+{
+    if !nfa.is_final(edge.target) {
+        return Ok(others);
+    }
+    all_of(alloc, not_label(alloc, edge)?, others)
+}
+
+// The edge's label does not hold.
+fn not_label(alloc: Global, edge: &NfaEdge) -> Result<Positive, NoMemory>
+    ensures { IfOk result (λ new. positive_of new ≡ Holds (Not (boolean_of edge.now.label))) }
+{
+    let label = boxed(alloc, edge.label.copy(alloc)?)?;
+    Ok(Positive::Holds(Bool::Not(label)))
+}
