@@ -1,10 +1,16 @@
 -- Why a run ended as it did, and that where nothing fails the answer is the first refusal.
-use Rattle.std.proofs.Common.{◌≡◌, refl, sym, ◌∙◌, ap, subst, ℕ, ◌<◌, ◌≤◌, List, Option, None, Some, arith, inl, inr}
+use Rattle.std.proofs.Common.{◌≡◌, refl, sym, ◌∙◌, ap, subst, ℕ, ◌<◌, ◌≤◌, ◌^◌, List, Option, None, Some, arith, inl, inr}
 use Rattle.std.specs.Prelude.{◌⊎◌, Result, Ok, Err, IfOk, IfErr}
 use Rattle.psl_base.specs.Faults.{Rose}
 use Rattle.psl_base.specs.Shelf.{Contents, ShelfState, OnlyReads}
 use Rattle.pslc.proofs.Staging.{cause-moved, same_state}
-use Rattle.pslc.specs.Commands.{CommandStage, FirstRefusal, IsOutcomeOf, IsWave, Waved}
+use Rattle.pslc.specs.Commands.{CommandStage, FirstRefusal, IsOutcomeOf, IsWave, IsGen, IsNoCommand, Waved}
+use Rattle.command_words.proofs.Meanings.{one_meaning}
+use Rattle.command_words.specs.Commands as words_of
+use Rattle.command_words.specs.Commands.{IsCommand}
+use Rattle.command_words.specs.Commands.{Meaning as meaning}
+use Rattle.pslc.specs.Generated.{GeneratedStage}
+use Rattle.vcd_reader.specs.Rules.{sample_limit}
 use Rattle.pslc.specs.Endings.{Explained, IsOutOfMemory, EndsWith, EndsFaulted}
 use Rattle.pslc.specs.Faults.{of_none, fault_of}
 use Rattle.pslc.specs.Stages.{Then, Cause, OfWords, OfReading, OfWriting, OfText, OfMemory, cause_of, HasCause, OfTold, Gives, Refuses}
@@ -12,7 +18,7 @@ use Rattle.pslc.specs.Waves.{WaveStage}
 use Rattle.pslc.specs.declared.finish.Planned.{Planned}
 use Rattle.pslc.specs.declared.outcome.Fault.{Fault}
 use Rattle.pslc.specs.declared.outcome.Outcome.{Outcome}
-use Rattle.pslc.specs.declared.outcome.Outcome.TheVariants.{Wave}
+use Rattle.pslc.specs.declared.outcome.Outcome.TheVariants.{Wave, Made}
 use Rattle.pslc.specs.declared.outcome.Reason.{Reason}
 use Rattle.pslc.specs.declared.outcome.Reason.TheVariants.{Usage, ReadFault, WriteFault, NoMemory}
 use Rattle.wave_judge.specs.declared.verdict.Verdict.{Verdict}
@@ -77,15 +83,57 @@ planned-has P o (Err fault) e h = tt
 
 module _ (words : List (List ℕ)) (unit recording : List ℕ) (is : IsWave words unit recording) (old new : ShelfState) where
   pub wave-found : (verdicts : List Verdict) → Gives old (WaveStage unit recording) verdicts → OfTold old (λ files. IsOutcomeOf words files (Wave verdicts))
-  wave-found verdicts h = λ files told. inr (unit, recording, is, inr (verdicts, h files told, refl))
+  wave-found verdicts h = λ files told. inr (inl (unit, recording, is, inr (verdicts, h files told, refl)))
 
   pub wave-unrefused : (verdicts : List Verdict) → Gives old (WaveStage unit recording) verdicts → Explained ⊥ old new (FirstRefusal words) None
-  wave-unrefused verdicts h = λ files told. (Ok (Wave verdicts), inr (unit, recording, is, inr (verdicts, h files told, refl)), refl)
+  wave-unrefused verdicts h = λ files told. (Ok (Wave verdicts), inr (inl (unit, recording, is, inr (verdicts, h files told, refl))), refl)
 
   refused : (files : Contents) (fault : Fault) → WaveStage unit recording files (Err fault) → FirstRefusal words files (Some fault)
-  refused files fault h = (Err fault, inr (unit, recording, is, inl (fault, h, refl)), refl)
+  refused files fault h = (Err fault, inr (inl (unit, recording, is, inl (fault, h, refl))), refl)
 
   pub wave-refused : (fault : Fault) → Refuses old new (WaveStage unit recording) fault → Explained ⊥ old new (FirstRefusal words) (Some fault)
   wave-refused fault h =
       cause-moved (cause_of fault.reason) ⊥ old old new (λ files. WaveStage unit recording files (Err fault)) (λ files. FirstRefusal words files (Some fault)) (same_state old)
       (λ files told. refused files fault) (λ e files. refused files fault) h
+
+module _ (words : List (List ℕ)) (seed samples : ℕ) (is : IsGen words seed samples) where
+  pub made-found : (outcome : Outcome) (files : Contents) → GeneratedStage seed samples (Ok outcome) → IsOutcomeOf words files outcome
+  made-found outcome files (verdicts, are, e) =
+      let same : outcome ≡ Made seed samples _ verdicts = (let whole : Ok outcome ≡ Ok (Made seed samples _ verdicts) = e in cc) in
+      subst (IsOutcomeOf words files) (sym same) (inr (inr (seed, samples, is, (verdicts, are, refl))))
+
+  pub made-unrefused : (outcome : Outcome) (old new : ShelfState) → GeneratedStage seed samples (Ok outcome) → Explained ⊥ old new (FirstRefusal words) None
+  made-unrefused outcome old new stage = λ files told. (Ok outcome, inr (inr (seed, samples, is, stage)), refl)
+
+  pub made-explained : (old new : ShelfState) (result : Result Outcome Fault) → IfOk result (λ outcome. GeneratedStage seed samples (Ok outcome)) → IfErr result (λ fault. fault ≡ of_none NoMemory)
+      → Explained ⊥ old new (FirstRefusal words) (fault_of result)
+  made-explained old new (Ok outcome) stage memory = made-unrefused outcome old new stage
+  made-explained old new (Err fault) stage memory = subst (λ (f : Fault). Explained ⊥ old new (FirstRefusal words) (Some f)) (sym memory) tt
+
+  pub made-outcome : (old : ShelfState) (result : Result Outcome Fault) → IfOk result (λ outcome. GeneratedStage seed samples (Ok outcome))
+      → IfOk result (λ outcome. OfTold old (λ files. IsOutcomeOf words files outcome))
+  made-outcome old (Ok outcome) stage = λ files told. made-found outcome files stage
+  made-outcome old (Err fault) stage = tt
+
+-- words that are another command, or none, are none that runs
+
+pub refused-words : (words : List (List ℕ)) → words_of.IsNoCommand sample_limit words → IsNoCommand words
+refused-words words none = record { no_wave = λ unit recording is. none (meaning.wave unit recording) is; no_gen = λ seed samples is. none (meaning.gen seed samples) is }
+
+show-wave : (u r unit names : List ℕ) → meaning.show unit names ≡ meaning.wave u r → ⊥
+show-wave u r unit names e = cc
+
+show-gen : (seed samples : ℕ) (unit names : List ℕ) → meaning.show unit names ≡ meaning.gen seed samples → ⊥
+show-gen seed samples unit names e = cc
+
+limit-small : sample_limit < 2 ^ 32
+limit-small = omega arith
+
+pub show-words : (words : List (List ℕ)) (unit names : List ℕ) → IsCommand sample_limit words (meaning.show unit names) → IsNoCommand words
+show-words words unit names shows = record {
+  no_wave = λ u r is. show-wave u r unit names (one_meaning sample_limit words (meaning.show unit names) (meaning.wave u r) limit-small shows is);
+  no_gen = λ seed samples is. show-gen seed samples unit names (one_meaning sample_limit words (meaning.show unit names) (meaning.gen seed samples) limit-small shows is);
+}
+
+pub unused-refused : (words : List (List ℕ)) (old new : ShelfState) → IsNoCommand words → Explained ⊥ old new (FirstRefusal words) (Some (of_none Usage))
+unused-refused words old new none = λ files. (Err (of_none Usage), inl (none, refl), refl)

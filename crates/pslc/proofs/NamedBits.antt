@@ -47,7 +47,7 @@ match-any names text span e = by (matched (fits WholeText text) names) refl e
 ranged : (names : List Name) (atom : Atom) → atom.bit ≡ 0 → Names names atom.signal → AtomInRange names atom
 ranged names atom zero' any = record { named = any; within = λ k d lt e. let low : atom.bit ≡ 0 = zero' in omega arith }
 
-bit-ranged : (names : List Name) (text : List ℕ) (atom : Atom) → bit_named names text ≡ Some atom → AtomInRange names atom
+pub bit-ranged : (names : List Name) (text : List ℕ) (atom : Atom) → bit_named names text ≡ Some atom → AtomInRange names atom
 bit-ranged names text atom e = by (matches names (46 ∷ text)) refl e
   where
     made : (span : Span) (b : Bool) → matches names (46 ∷ text) ≡ One span → cond b (Some (record { signal = span.signal; bit = 0; edge = Value })) None ≡ Some atom → AtomInRange names atom

@@ -1,13 +1,16 @@
 -- Words over contents have one first refusal, or none.
-use Rattle.std.proofs.Common.{◌≡◌, refl, sym, ◌∙◌, ap, subst, ℕ, ◌<◌, ◌≤◌, List, ◌∷◌, [], length, Option, None, Some, Ok, Err, arith, inl, inr}
+use Rattle.std.proofs.Common.{◌≡◌, refl, sym, ◌∙◌, ap, subst, ℕ, ◌<◌, ◌≤◌, ◌^◌, List, ◌∷◌, [], length, Option, None, Some, Ok, Err, arith, inl, inr}
 use Rattle.std.specs.Prelude.{◌⊎◌, ◌≢◌, Result}
 use Rattle.psl_base.specs.Places.{file_limit}
 use Rattle.psl_base.specs.Shelf.{Contents}
 use Rattle.psl_base.specs.declared.place.Place.{Place}
-use Rattle.pslc.specs.Commands.{CommandStage, FirstRefusal, IsWave, Waved}
+use Rattle.command_words.proofs.Meanings.{one_meaning}
+use Rattle.command_words.specs.Commands.{Meaning as meaning}
+use Rattle.pslc.specs.Commands.{CommandStage, FirstRefusal, IsWave, IsGen, IsNoCommand, Waved}
+use Rattle.pslc.specs.Generated.{GeneratedStage}
 use Rattle.pslc.specs.Faults.{fault_in, of_none, fault_of}
 use Rattle.pslc.specs.Stages.{AndThen, Then, ToldBy, OfContent, OfFile}
-use Rattle.psl_parser.proofs.Texts.{same_tree}
+use Rattle.psl_first_form.proofs.Texts.{same_tree}
 use Rattle.psl_tree.specs.declared.name.Name.{Name}
 use Rattle.psl_tree.specs.declared.directive.Directive.{Directive}
 use Rattle.psl_tree.specs.declared.surface.UnitTree.{UnitTree}
@@ -15,6 +18,7 @@ use Rattle.pslc.specs.Causes.{vcd_reason, vcd_place}
 use Rattle.pslc.specs.Kernel.{AreNamed, IsUnitOf}
 use Rattle.pslc.specs.Waves.{UnitReading, RecordingReading, VerdictsReading, UnitStage, RecordingStage, WaveStage}
 use Rattle.vcd_reader.specs.Meaning.{reading}
+use Rattle.vcd_reader.specs.Rules.{sample_limit}
 use Rattle.vcd_reader.specs.Sampled.{Sampled}
 use Rattle.vcd_reader.specs.declared.fault.VcdFault.{VcdFault}
 use Rattle.wave_judge.specs.declared.verdict.Verdict.{Verdict}
@@ -125,14 +129,41 @@ one-waved unit recording files a b (inl (x, h, e)) (inr (v, k, _)) = absurd (som
 one-waved unit recording files a b (inr (v, h, _)) (inl (y, k, d)) = absurd (some-none y (one-wave unit recording files (Err y) (Ok v) k h))
 one-waved unit recording files a b (inr (_, _, e)) (inr (_, _, f)) = ap fault_of e ∙ sym (ap fault_of f)
 
+-- words are one command at most
+
+limit-small : sample_limit < 2 ^ 32
+limit-small = omega arith
+
+same-wave : (u v r s : List ℕ) → meaning.wave u r ≡ meaning.wave v s → (u ≡ v) × (r ≡ s)
+same-wave u v r s e = (cc, cc)
+
+wave-gen : (u r : List ℕ) (seed samples : ℕ) → meaning.wave u r ≡ meaning.gen seed samples → ⊥
+wave-gen u r seed samples e = cc
+
+abbrev Runs : List (List ℕ) → Contents → Result Outcome Fault → Type 0
+Runs words files result =
+    ((unit recording : List ℕ) × IsWave words unit recording × Then (WaveStage unit recording) Waved files result)
+    ⊎ ((seed samples : ℕ) × IsGen words seed samples × GeneratedStage seed samples result)
+
+no-run : (words : List (List ℕ)) (files : Contents) (a : Result Outcome Fault) → IsNoCommand words → Runs words files a → ⊥
+no-run words files a none (inl (u, r, is, _)) = none.no_wave u r is
+no-run words files a none (inr (seed, samples, is, _)) = none.no_gen seed samples is
+
+one-run : (words : List (List ℕ)) (files : Contents) → OneFault (Runs words files)
+one-run words files a b (inl (u, r, is, h)) (inl (v, s, is', k)) =
+    let same = same-wave u v r s (one_meaning sample_limit words (meaning.wave u r) (meaning.wave v s) limit-small is is') in
+    one-waved v s files a b (subst (λ (q : List ℕ). Then (WaveStage v q) Waved files a) same.1 (subst (λ (q : List ℕ). Then (WaveStage q r) Waved files a) same.0 h)) k
+one-run words files a b (inl (u, r, is, _)) (inr (seed, samples, is', _)) =
+    absurd (wave-gen u r seed samples (one_meaning sample_limit words (meaning.wave u r) (meaning.gen seed samples) limit-small is is'))
+one-run words files a b (inr (seed, samples, is, _)) (inl (u, r, is', _)) =
+    absurd (wave-gen u r seed samples (one_meaning sample_limit words (meaning.wave u r) (meaning.gen seed samples) limit-small is' is))
+one-run words files a b (inr (_, _, _, (_, _, e))) (inr (_, _, _, (_, _, f))) = ap fault_of e ∙ sym (ap fault_of f)
+
 one-command : (words : List (List ℕ)) (files : Contents) → OneFault (CommandStage words files)
 one-command words files a b (inl (_, e)) (inl (_, f)) = ap fault_of e ∙ sym (ap fault_of f)
-one-command words files a b (inl (n, _)) (inr (u, r, is, _)) = absurd (n u r is)
-one-command words files a b (inr (u, r, is, _)) (inl (n, _)) = absurd (n u r is)
-one-command words files a b (inr (u, r, is, h)) (inr (v, s, is', k)) =
-    let units : u ≡ v = cc in
-    let recordings : r ≡ s = cc in
-    one-waved v s files a b (subst (λ (q : List ℕ). Then (WaveStage v q) Waved files a) recordings (subst (λ (q : List ℕ). Then (WaveStage q r) Waved files a) units h)) k
+one-command words files a b (inl (n, _)) (inr runs) = absurd (no-run words files b n runs)
+one-command words files a b (inr runs) (inl (n, _)) = absurd (no-run words files a n runs)
+one-command words files a b (inr h) (inr k) = one-run words files a b h k
 
 pub one-first : (words : List (List ℕ)) (files : Contents) (a b : Option Fault) → FirstRefusal words files a → FirstRefusal words files b → a ≡ b
 one-first words files a b (r, h, e) (s, k, f) = e ∙ one-command words files r s h k ∙ sym f

@@ -1,22 +1,31 @@
 -- The commands: what the words after the program's name ask for, and what a run of them gives or refuses.
-use Rattle.std.specs.Prelude.{◌≡◌, ℕ, ◌⊎◌, List, [], ◌∷◌, Option, Result, Ok, Err, Some, codes}
+use Rattle.std.specs.Prelude.{◌≡◌, ℕ, ◌⊎◌, List, Option, Result, Ok, Err, Some}
+use Rattle.command_words.specs.Commands.{IsCommand}
+use Rattle.command_words.specs.Commands.{Meaning as meaning}
 use Rattle.psl_base.specs.Shelf.{Contents}
 use Rattle.pslc.specs.Faults.{of_none, fault_of}
+use Rattle.pslc.specs.Generated.{GeneratedStage}
 use Rattle.pslc.specs.Stages.{Then, IsOfFile}
 use Rattle.pslc.specs.Waves.{WaveStage}
 use Rattle.pslc.specs.declared.outcome.Fault.{Fault}
 use Rattle.pslc.specs.declared.outcome.Outcome.{Outcome}
 use Rattle.pslc.specs.declared.outcome.Outcome.TheVariants.{Nothing, Wave}
 use Rattle.pslc.specs.declared.outcome.Reason.TheVariants.{Usage, WriteFault, NoMemory}
+use Rattle.vcd_reader.specs.Rules.{sample_limit}
 use Rattle.wave_judge.specs.declared.verdict.Verdict.{Verdict}
 
--- the words are `wave` and two names
+-- the words are `wave UNIT RECORDING`
 abbrev pub IsWave : List (List ℕ) → List ℕ → List ℕ → Type 0
-IsWave words unit recording = words ≡ codes "wave" ∷ unit ∷ recording ∷ []
+IsWave words unit recording = IsCommand sample_limit words (meaning.wave unit recording)
+
+-- the words are `gen SEED SAMPLES`, a seed below 2^31 and a number of samples from 1 to the limit
+abbrev pub IsGen : List (List ℕ) → ℕ → ℕ → Type 0
+IsGen words seed samples = IsCommand sample_limit words (meaning.gen seed samples)
 
 -- the words are no command
-abbrev pub IsNoCommand : List (List ℕ) → Type 0
-IsNoCommand words = (unit recording : List ℕ) → IsWave words unit recording → ⊥
+pub record IsNoCommand (words : List (List ℕ)) : Type 0 where
+  pub no_wave : (unit recording : List ℕ) → IsWave words unit recording → ⊥
+  pub no_gen : (seed samples : ℕ) → IsGen words seed samples → ⊥
 
 -- the last stage: verdicts are the outcome
 abbrev pub Waved : List Verdict → Contents → Result Outcome Fault → Type 0
@@ -26,7 +35,8 @@ Waved verdicts files result = result ≡ Ok (Wave verdicts)
 abbrev pub CommandStage : List (List ℕ) → Contents → Result Outcome Fault → Type 0
 CommandStage words files result =
     (IsNoCommand words × (result ≡ Err (of_none Usage)))
-    ⊎ ((unit recording : List ℕ) × IsWave words unit recording × Then (WaveStage unit recording) Waved files result)
+    ⊎ (((unit recording : List ℕ) × IsWave words unit recording × Then (WaveStage unit recording) Waved files result)
+    ⊎ ((seed samples : ℕ) × IsGen words seed samples × GeneratedStage seed samples result))
 
 -- the first refusal of words over contents, or that there is none
 abbrev pub FirstRefusal : List (List ℕ) → Contents → Option Fault → Type 0

@@ -9,7 +9,7 @@ use Rattle.pslc.specs.Stages.{Cause, OfWriting, cause_of, OfTold, HasCause}
 use Rattle.pslc.specs.Text.{text_of, line_of}
 use Rattle.pslc.specs.declared.outcome.Fault.{Fault}
 use Rattle.pslc.specs.declared.outcome.Outcome.{Outcome}
-use Rattle.pslc.specs.declared.outcome.Outcome.TheVariants.{Nothing, Wave}
+use Rattle.pslc.specs.declared.outcome.Outcome.TheVariants.{Nothing, Wave, Made}
 use Rattle.pslc.specs.declared.outcome.Reason.{Reason}
 use Rattle.pslc.specs.declared.outcome.Reason.TheVariants.{Usage, ReadFault, WriteFault, TooLong, NoMemory, TooManySamples, TooManySignals}
 use Rattle.wave_judge.specs.declared.verdict.Verdict.{Verdict}
@@ -31,6 +31,7 @@ verdicts_status verdicts = if list_all passes verdicts then 0 else 1
 abbrev pub outcome_status : Outcome → ℕ
 outcome_status Nothing = 0
 outcome_status (Wave verdicts) = verdicts_status verdicts
+outcome_status (Made seed samples bytes verdicts) = verdicts_status verdicts
 
 -- 2 for the words, 3 for reading, 4 for writing, 7 for a limit, 8 for memory, and 5 for the other faults of a text
 abbrev pub reason_status : Reason → ℕ

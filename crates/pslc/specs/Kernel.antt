@@ -2,7 +2,7 @@
 use Rattle.std.specs.Prelude.{◌≡◌, List, [], ◌∷◌, None, Some}
 use Rattle.pslc.specs.Names.{bit_named}
 use Rattle.psl_meaning.specs.Sugar.{always, implication, next_strong, next_weak}
-pub use Rattle.psl_parser.specs.FirstForm.{target_of}
+pub use Rattle.psl_first_form.specs.FirstForm.{target_of}
 use Rattle.psl_tree.specs.declared.atom.Atom.{Atom}
 use Rattle.psl_tree.specs.declared.directive.Directive.{Directive}
 use Rattle.psl_tree.specs.declared.directive.Kind.TheVariants.{Assert}

@@ -2,6 +2,7 @@ pub mod Causes
 pub mod Commands
 pub mod Endings
 pub mod Faults
+pub mod Generated
 pub mod Kernel
 pub mod Names
 pub mod Stages

@@ -6,7 +6,7 @@ use Rattle.psl_tree.specs.declared.directive.Kind.{Kind}
 use Rattle.psl_tree.specs.declared.directive.Kind.TheVariants.{Assert, Assume, Cover}
 use Rattle.pslc.specs.declared.outcome.Fault.{Fault}
 use Rattle.pslc.specs.declared.outcome.Outcome.{Outcome}
-use Rattle.pslc.specs.declared.outcome.Outcome.TheVariants.{Nothing, Wave}
+use Rattle.pslc.specs.declared.outcome.Outcome.TheVariants.{Nothing, Wave, Made}
 use Rattle.pslc.specs.declared.outcome.Reason.{Reason}
 use Rattle.pslc.specs.declared.outcome.Reason.TheVariants.{Usage, ReadFault, WriteFault, TooLong, NoMemory, UnknownKeyword, MissingEnd, BadVar, CodeSizeDiffers, ScopeNotOpen, BadTime, TimeFalls, CodeNotDeclared, BadValue, VectorTooLong, ChangeBeforeDefinitionsEnd, EndsInside, TooManySamples, TooManySignals, NotYet}
 use Rattle.wave_judge.specs.Levels.{level_of}
@@ -52,10 +52,15 @@ verdict_line verdict =
     ++ codes ", strong " ++ answer_word verdict.strong
     ++ codes ")" ++ line_feed
 
+-- the line that says what was made: from which seed, how many samples, in how many bytes
+abbrev pub made_line : ℕ → ℕ → ℕ → List ℕ
+made_line seed samples bytes = codes "gen " ++ decimal seed ++ codes " " ++ decimal samples ++ codes " bytes " ++ decimal bytes ++ line_feed
+
 -- the lines of an outcome
 abbrev pub text_of : Outcome → List ℕ
 text_of Nothing = []
 text_of (Wave verdicts) = flat_map verdict_line verdicts
+text_of (Made seed samples bytes verdicts) = made_line seed samples bytes ++ flat_map verdict_line verdicts
 
 -- a name, perhaps with a place, and what is said of it
 abbrev pub about : Option (List ℕ) → Option Place → List ℕ → List ℕ

@@ -1,7 +1,7 @@
 -- `wave UNIT RECORDING`: the text, the recording, and the verdicts of the text's kernel over the names of the recording.
 use Rattle.std.specs.Prelude.{◌≡◌, ℕ, ◌⊎◌, List, Result, Ok, Err}
 use Rattle.psl_base.specs.Shelf.{Contents}
-use Rattle.psl_parser.specs.FirstForm.{IsOfFirstForm, IsText}
+use Rattle.psl_first_form.specs.FirstForm.{IsOfFirstForm, IsText}
 use Rattle.psl_tree.specs.declared.directive.Directive.{Directive}
 use Rattle.psl_tree.specs.declared.surface.UnitTree.{UnitTree}
 use Rattle.pslc.specs.Causes.{vcd_reason, vcd_place}

@@ -113,7 +113,9 @@ fn status_of_outcome(outcome: &Outcome) -> u8
 {
     match outcome {
         Outcome::Nothing => 0,
-        Outcome::Wave(verdicts) => status_of_verdicts(verdicts.as_slice()),
+        Outcome::Wave(verdicts) | Outcome::Made(_, _, _, verdicts) => {
+            status_of_verdicts(verdicts.as_slice())
+        }
     }
 }
 

@@ -2,6 +2,7 @@
 #![tactic(auto)]
 
 mod finish;
+mod generated;
 mod names;
 mod outcome;
 mod report;

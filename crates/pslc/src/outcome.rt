@@ -7,6 +7,9 @@ pub enum Outcome {
     Nothing,
     /// `wave`: the verdicts on a recording.
     Wave(Verdicts),
+    /// `gen`: the seed, how many samples the made recording has, how many bytes its text has, and the
+    /// verdicts on it.
+    Made(u64, u32, u64, Verdicts),
 }
 
 /// Why a run ended without an outcome, or could not write it.

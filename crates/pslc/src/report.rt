@@ -1,6 +1,6 @@
 ghost use Rattle.std.specs.Prelude.{◌≡◌, ◌++◌, IfOk, OnOk, decimal};
 ghost use Rattle.std.specs.List.{flat_map};
-ghost use Rattle.pslc.specs.Text.{text_of, line_of, verdict_line, head, label_part, kind_word, level_words, answer_word, about, fault_words};
+ghost use Rattle.pslc.specs.Text.{text_of, line_of, made_line, verdict_line, head, label_part, kind_word, level_words, answer_word, about, fault_words};
 
 use crate::outcome::{Fault, Outcome, Reason};
 use itoa::Buffer;
@@ -17,6 +17,10 @@ pub fn report(alloc: Global, outcome: &Outcome) -> Result<Bytes, NoMemory>
     match outcome {
         Outcome::Nothing => {}
         Outcome::Wave(verdicts) => add_verdicts(&mut text, verdicts.as_slice())?,
+        Outcome::Made(seed, samples, bytes, verdicts) => {
+            add_made(&mut text, *seed, *samples, *bytes)?;
+            add_verdicts(&mut text, verdicts.as_slice())?;
+        }
     }
     Ok(Bytes::from_vec(text))
 }
@@ -87,6 +91,19 @@ pub fn words_of(reason: Reason) -> &'static [u8]
         Reason::TooManySamples => b"V13 TooManySamples",
         Reason::TooManySignals => b"V14 TooManySignals",
     }
+}
+
+/// The line that says what was made.
+fn add_made(text: &mut Vec<u8>, seed: u64, samples: u32, bytes: u64) -> Result<(), NoMemory>
+    ensures { OnOk result (text.new.items ≡ text.old.items ++ made_line seed samples bytes) }
+{
+    add(text, b"gen ")?;
+    add_number(text, seed)?;
+    add(text, b" ")?;
+    add_number(text, samples as u64)?;
+    add(text, b" bytes ")?;
+    add_number(text, bytes)?;
+    add(text, b"\n")
 }
 
 fn add_verdicts(text: &mut Vec<u8>, verdicts: &[Verdict]) -> Result<(), NoMemory>

@@ -237,7 +237,12 @@ fn rows(rt: HostRuntime) -> Result<(), Fail> {
 #[test]
 fn words_that_are_no_command(rt: HostRuntime) -> Result<(), Fail> {
     let alloc = rt.alloc();
-    let cases: [&[&str]; 5] = [
+    let cases: [&[&str]; 10] = [
+        &["wave", "u.psl", "-x"],
+        &["show", "u.psl", "r.vcd"],
+        &["gen", "1"],
+        &["gen", "2147483648", "7"],
+        &["gen", "1", "10001"],
         &["wave", "u.psl"],
         &[],
         &["prove", "u.psl", "r.vcd"],
@@ -253,6 +258,25 @@ fn words_that_are_no_command(rt: HostRuntime) -> Result<(), Fail> {
             b"pslc: usage: pslc wave|prove|check|show|gen ARGUMENTS\n".as_slice()
         );
         assert_eq!(rt; (ran.status, ran.reason), (2, Some(Reason::Usage)));
+    }
+    Ok(())
+}
+
+#[test]
+fn made_recordings(rt: HostRuntime) -> Result<(), Fail> {
+    let alloc = rt.alloc();
+    let cases: [(&str, &str, &str, u8); 4] = [
+        ("1", "7", "gen 1 7 bytes 130\nassert 1: holds (weak yes, neutral yes, strong no)\n", 0),
+        ("1", "4", "gen 1 4 bytes 103\nassert 1: pending (weak yes, neutral no, strong no)\n", 1),
+        ("1", "10000", "gen 1 10000 bytes 118957\nassert 1: holds (weak yes, neutral yes, strong no)\n", 0),
+        ("2147483647", "1", "gen 2147483647 1 bytes 76\nassert 1: pending (weak yes, neutral no, strong no)\n", 1),
+    ];
+    for (seed, samples, out, status) in cases {
+        let words = words_of(alloc, &["gen", seed, samples])?;
+        let ran = run_on(alloc, words.as_slice(), "", "", None, &[])?;
+        assert_eq!(rt; ran.out.bytes(), out.as_bytes());
+        assert_eq!(rt; ran.err.bytes(), b"".as_slice());
+        assert_eq!(rt; ran.status, status);
     }
     Ok(())
 }

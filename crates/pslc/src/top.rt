@@ -1,19 +1,24 @@
 ghost use Rattle.std.specs.Prelude.{◌≡◌, ◌≢◌, ◌⊎◌, ◌<◌, ℕ, List, Option, map, None, Some, IfOk, IfErr, IfSome, IsNone, IsErrOf, string_bytes};
 ghost use Rattle.psl_base.specs.Faults.{Rose};
 ghost use Rattle.psl_base.specs.Shelf.{Contents, OnlyReads};
-ghost use Rattle.pslc.specs.Commands.{FirstRefusal, IsOutcomeOf, IsNamed, IsWave, IsNoCommand};
+ghost use Rattle.pslc.specs.Commands.{FirstRefusal, IsOutcomeOf, IsNamed, IsNoCommand};
 ghost use Rattle.pslc.specs.Endings.{status_of, Explained, Prints, IsUnwritten, IsOutOfMemory, IsDeviceStatus};
 ghost use Rattle.pslc.specs.Faults.{of_none, fault_of};
 ghost use Rattle.pslc.specs.Stages.{OfTold, IsCounted};
 ghost use Rattle.pslc.specs.Text.{text_of};
 
 use crate::finish::{Planned, finish};
+use crate::generated::generate;
 use crate::outcome::{Fault, Outcome, Reason, Report};
 use crate::report::report;
 use crate::telling::of_none;
 use crate::wave::wave;
+use command_words::{Command, WordsFault, read_words};
 use psl_base::{Shelf, Sink};
 use std::alloc::Global;
+
+/// How many samples a recording has at most.
+const SAMPLE_LIMIT: u32 = 10_000;
 
 /// Runs the command that the words after the program's name give. It reads files, prints what it finds
 /// out on `out` or a fault's line on `err`, and tells how it ended.
@@ -66,7 +71,7 @@ pub fn run<F: Shelf, O: Sink, E: Sink>(
 /// What the command finds out, with its text. Nothing is written.
 fn plan<F: Shelf>(alloc: Global, words: &[String], files: &mut F) -> Result<Planned, Fault>
     ensures explained { Explained ⊥ (F.state files.old) (F.state files.new) (FirstRefusal (map string_bytes words.now)) (fault_of result) }
-    ensures no_command { IsNoCommand (map string_bytes words.now) → IsErrOf result (of_none Reason.Usage) }
+    ensures no_command { IsNoCommand (map string_bytes words.now) → IsErrOf result (of_none Reason.Usage) ⊎ IsErrOf result (of_none Reason.NoMemory) }
     ensures named { IfErr result (λ fault. IsNamed (map string_bytes words.now) fault) }
     ensures unwritten { IfErr result (λ fault. IsUnwritten fault) }
     ensures outcome { IfOk result (λ made. OfTold (F.state files.old) (λ told. IsOutcomeOf (map string_bytes words.now) told made.outcome)) }
@@ -85,7 +90,7 @@ fn plan<F: Shelf>(alloc: Global, words: &[String], files: &mut F) -> Result<Plan
 /// The outcome of the command.
 fn command<F: Shelf>(alloc: Global, words: &[String], files: &mut F) -> Result<Outcome, Fault>
     ensures explained { Explained ⊥ (F.state files.old) (F.state files.new) (FirstRefusal (map string_bytes words.now)) (fault_of result) }
-    ensures no_command { IsNoCommand (map string_bytes words.now) → IsErrOf result (of_none Reason.Usage) }
+    ensures no_command { IsNoCommand (map string_bytes words.now) → IsErrOf result (of_none Reason.Usage) ⊎ IsErrOf result (of_none Reason.NoMemory) }
     ensures named { IfErr result (λ fault. IsNamed (map string_bytes words.now) fault) }
     ensures outcome { IfOk result (λ outcome. OfTold (F.state files.old) (λ told. IsOutcomeOf (map string_bytes words.now) told outcome)) }
     ensures found { IfOk result (λ outcome. outcome ≢ Outcome.Nothing) }
@@ -93,27 +98,15 @@ fn command<F: Shelf>(alloc: Global, words: &[String], files: &mut F) -> Result<O
     ensures counted { IfErr result (λ fault. IsCounted (F.state files.old) (F.state files.new) fault) }
     ensures kept { OnlyReads (F.state files.old) (F.state files.new) }
 {
-    match wave_words(words) {
-        Some((unit, recording)) => match wave(alloc, files, unit, recording) {
+    match read_words(alloc, words, SAMPLE_LIMIT) {
+        Ok(Command::Wave { unit, recording }) => match wave(alloc, files, unit, recording) {
             Ok(verdicts) => Ok(Outcome::Wave(verdicts)),
             Err(fault) => Err(fault),
         },
-        None => Err(of_none(Reason::Usage)),
-    }
-}
-
-/// The two names of `wave UNIT RECORDING`; none for other words.
-fn wave_words(words: &[String]) -> Option<(&str, &str)>
-    ensures names { IfSome result (λ names. IsWave (map string_bytes words.now) names.0.now names.1.now) }
-    ensures none { IsNone result → IsNoCommand (map string_bytes words.now) }
-{
-    let [first, unit, recording] = words else {
-        return None;
-    };
-    if first.as_str() == "wave" {
-        Some((unit.as_str(), recording.as_str()))
-    } else {
-        None
+        Ok(Command::Gen { seed, samples }) => generate(alloc, seed, samples),
+        Ok(Command::Show { .. }) => Err(of_none(Reason::Usage)),
+        Err(WordsFault::Usage) => Err(of_none(Reason::Usage)),
+        Err(WordsFault::NoMemory) => Err(of_none(Reason::NoMemory)),
     }
 }
 

@@ -7,7 +7,7 @@ ghost use Rattle.pslc.specs.Waves.{UnitReading, UnitStage};
 use crate::outcome::{Fault, Reason};
 use crate::telling::{of_none, told};
 use psl_base::{Bytes, FILE_LIMIT, ReadAllFault, Shelf, read_all};
-use psl_parser::{ParseFault, parse};
+use psl_first_form::{ParseFault, parse};
 use psl_tree::UnitTree;
 use std::alloc::Global;
 

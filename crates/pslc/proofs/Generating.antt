@@ -1,0 +1,54 @@
+-- What `gen` gives: the made recording is read as it was made, and its one directive can be judged.
+use Rattle.std.proofs.Common.{◌≡◌, refl, sym, ◌∙◌, ap, subst, ℕ, ◌≤◌, List, [], ◌∷◌, length, Option, None, Some, Ok, Err, inl, inr}
+use Rattle.std.specs.Prelude.{◌⊎◌, Result, All, codes}
+use Rattle.std.proofs.lemmas.List.Elements.{All-cons, All-nil}
+use Rattle.psl_base.specs.Files.{content_of}
+use Rattle.psl_base.specs.MemShelfState.{MemoryShelf, shelf_state}
+use Rattle.psl_tree.specs.declared.directive.Directive.{Directive}
+use Rattle.psl_tree.specs.Trees.{Formula, formula_of}
+use Rattle.pslc.proofs.NamedBits.{bit-ranged}
+use Rattle.pslc.specs.Generated.{AreMade, AreAnswered, answered, value_of}
+use Rattle.recording_maker.proofs.Accepting.{accepted}
+use Rattle.recording_maker.specs.Made.{made_text, made_names, made_sampled}
+use Rattle.vcd_reader.specs.declared.fault.VcdFault.{VcdFault}
+use Rattle.vcd_reader.specs.Meaning.{reading}
+use Rattle.vcd_reader.specs.Rules.{sample_limit}
+use Rattle.vcd_reader.specs.Sampled.{Sampled, AtomInRange, letters_of}
+use Rattle.vcd_reader.specs.Told.{Says}
+use Rattle.wave_judge.specs.Judged.{AtomsOf, AreVerdicts}
+use Rattle.wave_judge.specs.declared.verdict.Verdict.{Verdict}
+
+same-some : (a b : List ℕ) → Some a ≡ Some b → a ≡ b
+same-some a b e = cc
+
+same-read : (a b : Sampled) (r : Result Sampled VcdFault) → r ≡ Ok a → r ≡ Ok b → a ≡ b
+same-read a b r p q = let e : Ok a ≡ Ok b = sym p ∙ q in cc
+
+-- what is read of the shelf is what was made
+pub read-made : (shelf : MemoryShelf) (name text : List ℕ) (seed samples : ℕ) (recording : Sampled) → content_of shelf.store.files name ≡ Some text
+    → text ≡ made_text seed samples → samples ≤ sample_limit → Says (shelf_state shelf) name (Ok recording) → recording ≡ made_sampled seed samples
+read-made shelf name text seed samples recording holds made few says =
+    let found = says (content_of shelf.store.files) refl in
+    let same : found.0 ≡ text = same-some found.0 text (sym found.1 ∙ holds) in
+    same-read recording (made_sampled seed samples) (reading (made_text seed samples))
+    (ap reading (sym (same ∙ made)) ∙ found.3) (accepted seed samples few)
+
+one-all : (P : Directive → Type 0) (d : Directive) → P d → All P (d ∷ [])
+one-all P d h = All-cons P d [] h (All-nil P)
+
+-- the atoms of the directive are those of the names
+pub answered-in-range : (names : List _) (unit : List Directive) → names ≡ made_names → AreAnswered unit → All (λ directive. AtomsOf (AtomInRange names) (formula_of directive.formula)) unit
+answered-in-range names unit named (directive, is, answers) =
+    subst (λ (all : List _). All (λ (d : Directive). AtomsOf (AtomInRange all) (formula_of d.formula)) unit) (sym named)
+    (subst (All (λ (d : Directive). AtomsOf (AtomInRange made_names) (formula_of d.formula))) (sym is)
+    (one-all (λ (d : Directive). AtomsOf (AtomInRange made_names) (formula_of d.formula)) directive (subst (λ (f : Formula). AtomsOf (AtomInRange made_names) f) (sym answers.formula) (tt, (bit-ranged made_names (codes "req") (value_of 0) refl, bit-ranged made_names (codes "ack") (value_of 1) refl)))))
+
+pub made-verdicts : (seed samples : ℕ) (recording : Sampled) (unit : List Directive) (verdicts : List Verdict) → samples ≤ sample_limit → recording ≡ made_sampled seed samples
+    → AreAnswered unit → AreVerdicts (letters_of recording) unit verdicts → AreMade seed samples verdicts
+made-verdicts seed samples recording unit verdicts few made answers judged = record {
+  sampled = recording;
+  read = accepted seed samples few ∙ ap Ok (sym made);
+  directives = unit;
+  are_answered = answers;
+  judged = judged;
+}

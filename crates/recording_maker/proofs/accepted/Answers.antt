@@ -1,0 +1,5 @@
+use Rattle.recording_maker.proofs.Accepting.{accepted}
+use Rattle.recording_maker.proofs.accepted.Goals as goal
+
+pub returns : goal.returns
+returns c = accepted
