@@ -86,7 +86,10 @@ fn answered(alloc: Global) -> Result<Fl, NoMemory>
     ensures { IfOk result (λ formula. formula_of formula ≡ answered) }
 {
     let next = next_strong(alloc, Fl::Now(Bool::Test(value_of(1))))?;
-    always(alloc, implication(alloc, Fl::Now(Bool::Test(value_of(0))), next)?)
+    always(
+        alloc,
+        implication(alloc, Fl::Now(Bool::Test(value_of(0))), next)?,
+    )
 }
 
 /// The value of a signal of one bit.

@@ -266,10 +266,30 @@ fn words_that_are_no_command(rt: HostRuntime) -> Result<(), Fail> {
 fn made_recordings(rt: HostRuntime) -> Result<(), Fail> {
     let alloc = rt.alloc();
     let cases: [(&str, &str, &str, u8); 4] = [
-        ("1", "7", "gen 1 7 bytes 130\nassert 1: holds (weak yes, neutral yes, strong no)\n", 0),
-        ("1", "4", "gen 1 4 bytes 103\nassert 1: pending (weak yes, neutral no, strong no)\n", 1),
-        ("1", "10000", "gen 1 10000 bytes 118957\nassert 1: holds (weak yes, neutral yes, strong no)\n", 0),
-        ("2147483647", "1", "gen 2147483647 1 bytes 76\nassert 1: pending (weak yes, neutral no, strong no)\n", 1),
+        (
+            "1",
+            "7",
+            "gen 1 7 bytes 130\nassert 1: holds (weak yes, neutral yes, strong no)\n",
+            0,
+        ),
+        (
+            "1",
+            "4",
+            "gen 1 4 bytes 103\nassert 1: pending (weak yes, neutral no, strong no)\n",
+            1,
+        ),
+        (
+            "1",
+            "10000",
+            "gen 1 10000 bytes 118957\nassert 1: holds (weak yes, neutral yes, strong no)\n",
+            0,
+        ),
+        (
+            "2147483647",
+            "1",
+            "gen 2147483647 1 bytes 76\nassert 1: pending (weak yes, neutral no, strong no)\n",
+            1,
+        ),
     ];
     for (seed, samples, out, status) in cases {
         let words = words_of(alloc, &["gen", seed, samples])?;
