@@ -1,0 +1,4 @@
+pub mod LookedFor
+pub mod Operated
+pub mod Sizes
+pub mod Widths

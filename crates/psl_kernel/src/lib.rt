@@ -1,0 +1,22 @@
+//! What an expression of the Property Specification Language stands for, built: a Boolean, a sequence or a property of
+//! at most 4,096 constructors (IEEE 1850, clauses 5 and 6).
+#![tactic(auto)]
+
+mod booleans;
+mod connective;
+mod expressions;
+mod formulas;
+mod meaning;
+mod occurrences;
+mod operators;
+mod repetitions;
+mod scope;
+mod sequences;
+mod signals;
+#[cfg(test)]
+mod tests;
+
+pub use expressions::meaning_of;
+pub use meaning::Meaning;
+pub use operators::clocked;
+pub use scope::{Declared, Scope};

@@ -1,0 +1,56 @@
+// Next forms and next events.
+ghost use Rattle.psl_layer_meaning.specs.Kernel as kernel;
+ghost use Rattle.psl_kernel.specs.Rows.{FormulaRow, FormulaTestRow};
+
+use psl_grammar::Count;
+use psl_lexer::TokenKind;
+use psl_names::{number_of, quantifier_of, strength_of};
+use psl_sugar::{MeasuredBool, MeasuredFl, SugarFault};
+use std::alloc::Global;
+
+/// A next form, with one number or a range.
+#[tactic(auto, using(crate::proofs::Sizes::next_size))]
+pub(crate) fn next_form(
+    alloc: Global,
+    word: TokenKind,
+    count: &Count,
+    part: Result<MeasuredFl, SugarFault>,
+) -> Result<MeasuredFl, SugarFault>
+    ensures { FormulaRow (kernel.next_meaning word count.now) part result }
+{
+    let part = part?;
+    let strength = strength_of(word);
+    match count {
+        Count::Times(times) => part.next_times(alloc, strength, number_of(times)),
+        Count::Between(low, high) => {
+            let (low, high) = (number_of(low), number_of(high));
+            part.next_range(alloc, quantifier_of(word), strength, low, high)
+        }
+    }
+}
+
+/// A next event, without a count, with one number or with a range.
+#[tactic(auto, using(crate::proofs::Sizes::event_size))]
+pub(crate) fn next_event(
+    alloc: Global,
+    word: TokenKind,
+    test: Result<MeasuredBool, SugarFault>,
+    count: &Option<Count>,
+    part: Result<MeasuredFl, SugarFault>,
+) -> Result<MeasuredFl, SugarFault>
+    ensures { FormulaTestRow (λ formula wanted. kernel.event_meaning word wanted count.now formula) part test result }
+{
+    let test = test?;
+    let part = part?;
+    let strength = strength_of(word);
+    match count {
+        None => part.next_event(alloc, strength, test),
+        Some(Count::Times(times)) => {
+            part.next_event_times(alloc, strength, test, number_of(times))
+        }
+        Some(Count::Between(low, high)) => {
+            let (low, high) = (number_of(low), number_of(high));
+            part.next_event_range(alloc, quantifier_of(word), strength, test, low, high)
+        }
+    }
+}

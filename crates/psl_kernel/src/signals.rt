@@ -1,0 +1,184 @@
+// Signals, edges, numbers and comparisons.
+ghost use Rattle.std.specs.Prelude.{◌≡◌, ◌+◌, ◌<◌, ◌≤◌, ◌^◌, IfOk, IfErr};
+ghost use Rattle.psl_sugar.specs.Budget.{GivesBoolean};
+ghost use Rattle.psl_layer_meaning.specs.Kernel as kernel;
+ghost use Rattle.psl_layer_meaning.specs.LookUp.{reference as spec_reference};
+ghost use Rattle.psl_layer_meaning.specs.Texts.{literal_value as spec_value};
+ghost use Rattle.psl_layer_meaning.specs.declared.found.Reference.TheVariants as references;
+ghost use Rattle.psl_kernel.specs.Placed.{IsPlaced};
+
+use psl_base::NoMemory;
+use psl_grammar::{Expression, Path};
+use psl_layer_meaning::Reference;
+use psl_lexer::{Token, TokenKind};
+use psl_names::{literal_value, reference};
+use psl_sugar::{MOST_CONSTRUCTORS, MeasuredBool, SugarFault, Vector};
+use psl_tree::{Atom, Edge, Names};
+use std::alloc::Global;
+
+// What a path stands for as a signal, perhaps with an index.
+fn referred(
+    alloc: Global,
+    names: &Names,
+    path: &Path,
+    index: &Option<Token>,
+) -> Result<Reference, NoMemory>
+    ensures is { IfOk result (λ found. found ≡ spec_reference names.now path.now index.now) }
+    ensures placed { IfOk result IsPlaced }
+{
+    let found = reference(alloc, names, path.as_slice(), index)?;
+    Ok(found)
+}
+
+// Bits that stand side by side as a vector, if there are not too many for a tree.
+fn vector(signal: u32, lowest: u32, width: u64) -> Result<Vector, SugarFault>
+    requires { IsPlaced (references.Bits signal lowest width) }
+    ensures same { IfOk result (λ new. new ≡ kernel.vector signal lowest width) }
+    ensures some { IfOk result (λ new. 1 ≤ new.width) }
+    ensures places { IfOk result (λ new. new.lowest + new.width ≤ 2 ^ 32) }
+    ensures wide { IfErr result (λ fault. 4096 < width) }
+{
+    if width > u64::from(MOST_CONSTRUCTORS) {
+        return Err(SugarFault::TooLarge);
+    }
+    Ok(Vector {
+        signal,
+        lowest,
+        width: width as u32,
+    })
+}
+
+// A signal, a bit or a vector as a Boolean.
+fn some_bit(alloc: Global, found: Reference) -> Result<MeasuredBool, SugarFault>
+    requires { IsPlaced found }
+    ensures { GivesBoolean result (kernel.bits_meaning found) }
+{
+    match found {
+        Reference::Nothing | Reference::Several => Ok(MeasuredBool::constant(false)),
+        Reference::Bits {
+            signal,
+            lowest,
+            width,
+        } => MeasuredBool::some_bit(alloc, vector(signal, lowest, width)?),
+    }
+}
+
+// A comparison of bits with a value.
+fn compared_bits(
+    alloc: Global,
+    is_equal: bool,
+    found: Reference,
+    value: u64,
+) -> Result<MeasuredBool, SugarFault>
+    requires { IsPlaced found }
+    ensures { GivesBoolean result (kernel.compared_bits is_equal found value) }
+{
+    let Reference::Bits {
+        signal,
+        lowest,
+        width,
+    } = found
+    else {
+        return Ok(MeasuredBool::constant(false));
+    };
+    let vector = vector(signal, lowest, width)?;
+    if is_equal {
+        MeasuredBool::equality(alloc, vector, value)
+    } else {
+        MeasuredBool::inequality(alloc, vector, value)
+    }
+}
+
+// A comparison of a path with a number or a constant.
+fn compared_path(
+    alloc: Global,
+    names: &Names,
+    is_equal: bool,
+    path: &Path,
+    index: &Option<Token>,
+    token: &Token,
+) -> Result<MeasuredBool, SugarFault>
+    ensures { GivesBoolean result (kernel.compared_bits is_equal (spec_reference names.now path.now index.now) (spec_value token.now)) }
+{
+    let found = referred(alloc, names, path, index)?;
+    compared_bits(alloc, is_equal, found, literal_value(token))
+}
+
+/// A comparison: `==`, or `!=`.
+pub(crate) fn compared(
+    alloc: Global,
+    names: &Names,
+    is_equal: bool,
+    x: &Expression,
+    y: &Expression,
+) -> Result<MeasuredBool, SugarFault>
+    ensures { GivesBoolean result (kernel.compared names.now is_equal x.now y.now) }
+{
+    match x {
+        Expression::Signal(path, index) => match y {
+            Expression::Literal(token) => {
+                compared_path(alloc, names, is_equal, path, index, token)
+            }
+            _ => Ok(MeasuredBool::constant(false)),
+        },
+        Expression::Literal(token) => match y {
+            Expression::Signal(path, index) => {
+                compared_path(alloc, names, is_equal, path, index, token)
+            }
+            _ => Ok(MeasuredBool::constant(false)),
+        },
+        _ => Ok(MeasuredBool::constant(false)),
+    }
+}
+
+/// A path as a Boolean.
+pub(crate) fn path_bits(
+    alloc: Global,
+    names: &Names,
+    path: &Path,
+    index: &Option<Token>,
+) -> Result<MeasuredBool, SugarFault>
+    ensures { GivesBoolean result (kernel.bits_meaning (spec_reference names.now path.now index.now)) }
+{
+    let found = referred(alloc, names, path, index)?;
+    some_bit(alloc, found)
+}
+
+// A rise or a fall of a bit.
+fn edge_of_bit(edge: Edge, found: Reference) -> MeasuredBool
+    ensures { result ≡ kernel.edge_meaning edge found }
+{
+    match found {
+        Reference::Nothing | Reference::Several => MeasuredBool::constant(false),
+        Reference::Bits { signal, lowest, .. } => MeasuredBool::test(Atom {
+            signal,
+            bit: lowest,
+            edge,
+        }),
+    }
+}
+
+/// A rise or a fall of a path.
+pub(crate) fn path_edge(
+    alloc: Global,
+    names: &Names,
+    edge: Edge,
+    path: &Path,
+    index: &Option<Token>,
+) -> Result<MeasuredBool, SugarFault>
+    ensures { GivesBoolean result (kernel.edge_meaning edge (spec_reference names.now path.now index.now)) }
+{
+    let found = reference(alloc, names, path.as_slice(), index)?;
+    Ok(edge_of_bit(edge, found))
+}
+
+/// `true` or `false`, a number or a constant.
+pub(crate) fn literal(token: &Token) -> MeasuredBool
+    ensures { result ≡ kernel.literal_meaning token.now.kind (spec_value token.now) }
+{
+    match token.kind {
+        TokenKind::True => MeasuredBool::constant(true),
+        TokenKind::False => MeasuredBool::constant(false),
+        _ => MeasuredBool::number(literal_value(token)),
+    }
+}
