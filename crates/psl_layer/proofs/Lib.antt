@@ -1,0 +1,4 @@
+pub mod Longer
+pub mod Owned
+pub mod Scopes
+pub mod Whole

@@ -1,0 +1,10 @@
+//! The meaning of a whole text of the Property Specification Language: its directives in the kernel, over the names of
+//! signals, or its first fault (IEEE 1850, clauses 5 to 7).
+#![tactic(auto)]
+
+mod declarations;
+mod directives;
+mod statements;
+mod texts;
+
+pub use texts::resolve;

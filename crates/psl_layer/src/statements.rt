@@ -1,0 +1,103 @@
+// Directives in order.
+ghost use Rattle.std.specs.Prelude.{◌≡◌, suc, length, IfOk};
+ghost use Rattle.psl_layer_meaning.specs.Directives as spec;
+ghost use Rattle.psl_layer.specs.Asked.{IsLonger, IsLongerBy};
+
+use crate::declarations::{Clock, after, default_clock};
+use crate::directives::{copy_of, directive_formula};
+use psl_base::{Items, NoMemory, Text};
+use psl_grammar::Statement;
+use psl_kernel::Scope;
+use psl_layer_meaning::LayerFault;
+use psl_lexer::Token;
+use psl_names::directive_kind_of;
+use psl_sugar::{MOST_CONSTRUCTORS, SugarFault};
+use psl_tree::{Directive, Names, Unit};
+use std::alloc::Global;
+
+// The text of a label, if there is one.
+fn label_text(alloc: Global, label: &Option<Token>) -> Result<Option<Text>, NoMemory>
+    ensures { IfOk result (λ text. text ≡ spec.label_text label.now) }
+{
+    Ok(match label {
+        Some(label) => Some(label.text.copy(alloc)?),
+        None => None,
+    })
+}
+
+// The number of the next directive, if there is one.
+fn next_number(unit: &Unit) -> Result<u32, NoMemory>
+    ensures { IfOk result (λ number. number ≡ suc (length unit.now)) }
+{
+    let count = unit.len();
+    if count < u32::MAX as usize {
+        Ok(count as u32 + 1)
+    } else {
+        Err(NoMemory)
+    }
+}
+
+// The directives of a text with one more, if the statement is one.
+#[tactic(auto, using(crate::proofs::Longer::longer_none, crate::proofs::Longer::longer_one, crate::proofs::Longer::longer_large))]
+fn with_statement(
+    alloc: Global,
+    unit: Unit,
+    scope: &Scope,
+    names: &Names,
+    clock: &Clock,
+    statement: &Statement,
+) -> Result<Unit, LayerFault>
+    ensures { IsLongerBy scope.now names.now clock.now unit statement.now result }
+{
+    let Statement::Directive {
+        label,
+        word,
+        property,
+        ..
+    } = statement
+    else {
+        return Ok(unit);
+    };
+    let mut unit = unit;
+    let kind = directive_kind_of(word.kind);
+    let clock = copy_of(alloc, clock)?;
+    let formula = match directive_formula(alloc, scope, names, clock, kind, property) {
+        Ok(formula) => formula,
+        Err(SugarFault::TooLarge) => return Err(LayerFault::TooLarge(word.place)),
+        Err(SugarFault::NoMemory) => return Err(LayerFault::NoMemory),
+    };
+    let size = formula.size();
+    prove!(size <= MOST_CONSTRUCTORS);
+    let number = next_number(&unit)?;
+    let label = label_text(alloc, label)?;
+    unit.push(Directive {
+        number,
+        kind,
+        label,
+        formula: formula.into_tree(),
+    })?;
+    Ok(unit)
+}
+
+/// The directives of a text with those of a list of statements behind them.
+#[tactic(auto, using(crate::proofs::Longer::unit_begun, crate::proofs::Longer::unit_more, crate::proofs::Longer::unit_err, crate::proofs::Longer::unit_end))]
+pub(crate) fn with_statements(
+    alloc: Global,
+    unit: Unit,
+    names: &Names,
+    all: &[Statement],
+) -> Result<Unit, LayerFault>
+    ensures { IsLonger unit (spec.asked_in names.now all.now) result }
+{
+    let clock = default_clock(alloc, names, all)?;
+    let mut unit = unit;
+    let mut scope = Items::new(alloc);
+    for statement in all {
+        unit = match with_statement(alloc, unit, &scope, names, &clock, statement) {
+            Ok(longer) => longer,
+            Err(fault) => return Err(fault),
+        };
+        scope = after(alloc, scope, names, statement)?;
+    }
+    Ok(unit)
+}

@@ -1,0 +1,73 @@
+// Whole texts.
+ghost use Rattle.std.specs.Prelude.{◌≡◌, [], IfOk, IfErr};
+ghost use Rattle.psl_layer_meaning.specs.Answers.{IsUnit, IsLayerFault};
+ghost use Rattle.psl_layer_meaning.specs.Directives as spec;
+ghost use Rattle.psl_layer_meaning.specs.FirstFlaw as flaws;
+ghost use Rattle.psl_layer.specs.Asked.{IsLonger};
+
+use crate::statements::with_statements;
+use psl_base::Items;
+use psl_grammar::{UnitTree, VerificationUnit};
+use psl_kinds::first_flaw;
+use psl_layer_meaning::{Cause, Flaw, LayerFault};
+use psl_tree::{Names, Unit};
+use std::alloc::Global;
+
+// The directives of verification units.
+#[tactic(auto, using(crate::proofs::Longer::units_begun, crate::proofs::Longer::units_more, crate::proofs::Longer::units_err, crate::proofs::Longer::units_end))]
+fn units_directives(
+    alloc: Global,
+    names: &Names,
+    units: &[VerificationUnit],
+) -> Result<Unit, LayerFault>
+    ensures { IsLonger [] (spec.asked_in_units names.now units.now) result }
+{
+    let mut all = Items::new(alloc);
+    for unit in units {
+        all = match with_statements(alloc, all, names, unit.statements.as_slice()) {
+            Ok(longer) => longer,
+            Err(fault) => return Err(fault),
+        };
+    }
+    Ok(all)
+}
+
+// The directives of a text.
+fn directives(alloc: Global, tree: &UnitTree, names: &Names) -> Result<Unit, LayerFault>
+    ensures { IsLonger [] (spec.kernel names.now tree.now) result }
+{
+    match tree {
+        UnitTree::Units(units) => units_directives(alloc, names, units.as_slice()),
+        UnitTree::Statements(all) => {
+            with_statements(alloc, Items::new(alloc), names, all.as_slice())
+        }
+    }
+}
+
+// The fault that is named for a fault of kinds and names.
+fn fault_of(flaw: Flaw) -> LayerFault
+    ensures { result ≡ flaws.fault_of flaw }
+{
+    match flaw.cause {
+        Cause::Kind => LayerFault::Kind(flaw.place),
+        Cause::UnknownName => LayerFault::UnknownName(flaw.place),
+        Cause::Ambiguous => LayerFault::Ambiguous(flaw.place),
+        Cause::DeclaredTwice => LayerFault::DeclaredTwice(flaw.place),
+        Cause::EmptyRange => LayerFault::EmptyRange(flaw.place),
+        Cause::ConstantTooWide => LayerFault::ConstantTooWide(flaw.place),
+    }
+}
+
+/// The directives of a text over the names of signals, numbered from 1, in the kernel. Where kinds and names are at fault
+/// it is refused with the first fault of them, and else where a formula has more than 4,096 constructors at the word of
+/// the first directive that has one.
+#[tactic(auto, using(crate::proofs::Whole::flaw_is, crate::proofs::Whole::unit_is, crate::proofs::Whole::fault_is))]
+pub fn resolve(alloc: Global, tree: &UnitTree, names: &Names) -> Result<Unit, LayerFault>
+    ensures unit { IfOk result (IsUnit tree.now names.now) }
+    ensures fault { IfErr result (IsLayerFault tree.now names.now) }
+{
+    if let Some(flaw) = first_flaw(alloc, tree, names)? {
+        return Err(fault_of(flaw));
+    }
+    directives(alloc, tree, names)
+}
