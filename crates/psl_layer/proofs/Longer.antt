@@ -48,7 +48,7 @@ numbered-append next [] second = rw add-zero refl
 numbered-append next (one ∷ more) second =
     let rest : numbered (suc next) (more ++ second) ≡ numbered (suc next) more ++ numbered (suc next + length more) second = numbered-append (suc next) more second in
     let number : suc next + length more ≡ next + suc (length more) = omega arith in
-    let head : Numbered = record { number = next; kind = one.kind; label = one.label; formula = one.formula } in
+    let head : Numbered = record { number = next; kind = one.kind; label = one.label; place = one.place; formula = one.formula } in
     ap (λ (tail : List Numbered). head ∷ tail) (rest ∙ ap (λ (from : ℕ). numbered (suc next) more ++ numbered from second) number)
 
 length-numbered : (next : ℕ) (all : List Asked) → length (numbered next all) ≡ length all
@@ -73,7 +73,7 @@ longer_none old = (refl, sym (append-nil (map directive_of old)))
 
 -- one that fits
 pub longer_one : (old : List Directive) (asked : Asked) (new : Directive) → is_too_large asked ≡ false →
-    directive_of new ≡ record { number = suc (length old); kind = asked.kind; label = asked.label; formula = asked.formula } → IsLonger old (asked ∷ []) (Ok (old ++ new ∷ []))
+    directive_of new ≡ record { number = suc (length old); kind = asked.kind; label = asked.label; place = asked.place; formula = asked.formula } → IsLonger old (asked ∷ []) (Ok (old ++ new ∷ []))
 longer_one old asked new fits is = (
   ap (λ (test : Bool). option_map (λ (one : Asked). one.place) (if test then Some asked else None)) fits,
   map-append directive_of old (new ∷ []) ∙ ap (λ (one : Numbered). map directive_of old ++ one ∷ []) is,

@@ -74,6 +74,7 @@ fn with_statement(
         number,
         kind,
         label,
+        place: word.place,
         formula: formula.into_tree(),
     })?;
     Ok(unit)

@@ -17,23 +17,24 @@ use Rattle.psl_layer_meaning.specs.declared.fault.Cause.TheVariants as causes
 use Rattle.psl_layer_meaning.specs.declared.fault.LayerFault.{LayerFault}
 use Rattle.psl_layer_meaning.specs.declared.fault.LayerFault.TheVariants as faults
 
--- a directive with its number
+-- a directive with its number, and the place of its word
 pub record Numbered : Type 0 where
   pub number : ℕ
   pub kind : directive_kind.Kind
   pub label : Option (List ℕ)
+  pub place : Place
   pub formula : Formula
 
 -- the directives in order, numbered from a number on
 abbrev pub numbered : ℕ → List Asked → List Numbered
 numbered next [] = []
 numbered next (asked ∷ more) =
-    record { number = next; kind = asked.kind; label = asked.label; formula = asked.formula } ∷ numbered (suc next) more
+    record { number = next; kind = asked.kind; label = asked.label; place = asked.place; formula = asked.formula } ∷ numbered (suc next) more
 
 -- a directive of the program
 abbrev pub directive_of : Directive → Numbered
 directive_of directive =
-    record { number = directive.number; kind = directive.kind; label = directive.label; formula = formula_of directive.formula }
+    record { number = directive.number; kind = directive.kind; label = directive.label; place = directive.place; formula = formula_of directive.formula }
 
 -- a formula has more constructors than the 4,096 that it may have
 abbrev pub is_too_large : Asked → Truth

@@ -17,6 +17,10 @@ pub record AtomInRange (names : List Name) (atom : Atom) : Type 0 where
   pub named : Any (λ name. name.signal ≡ atom.signal) names
   pub within : All (λ name. name.signal ≡ atom.signal → atom.bit < indices name) names
 
+-- all names of one signal have the same number of indices
+abbrev pub AreAlike : List Name → Type 0
+AreAlike names = All (λ name. All (λ other. name.signal ≡ other.signal → indices name ≡ indices other) names) names
+
 -- the first name of a signal
 abbrev pub first_name : List Name → ℕ → Option Name
 first_name names signal = find (λ name. name.signal == signal) names

@@ -1,5 +1,5 @@
 use crate::Fl;
-use psl_base::{Items, Text};
+use psl_base::{Items, Place, Text};
 
 /// What a directive asks for (IEEE 1850, clause 7).
 #[derive(Clone, Copy, Debug, PartialEq, Eq)]
@@ -16,6 +16,8 @@ pub struct Directive {
     pub number: u32,
     pub kind: Kind,
     pub label: Option<Text>,
+    /// The place of the word `assert`, `assume` or `cover`.
+    pub place: Place,
     pub formula: Fl,
 }
 

@@ -13,7 +13,7 @@ use Rattle.vcd_reader.specs.Standing.{Told, Part, Defining, Telling, Open, Ready
 
 -- how many samples a recording has at most
 abbrev pub sample_limit : ℕ
-sample_limit = 10_000
+sample_limit = 1_000_000
 
 -- UnknownKeyword: begins with `$` where a section or a change is wanted, and is none that may stand in
 -- that part. A word that begins a block is another fault in the definitions.

@@ -1,5 +1,5 @@
 -- A recording as values at samples, and the letters that it stands for.
-use Rattle.std.specs.Prelude.{◌≡◌, ℕ, ◌+◌, ◌-◌, ◌<◌, ◌==◌, nat_lt, Bool as Truth, false, not, ◌&&◌, ◌||◌, cond, List, [], ◌∷◌, map, length, slice_index, slice_index_or, filter, Option, None, Some, Any, All}
+use Rattle.std.specs.Prelude.{◌≡◌, ℕ, ◌+◌, ◌-◌, ◌==◌, nat_lt, Bool as Truth, false, not, ◌&&◌, ◌||◌, cond, List, [], ◌∷◌, map, length, slice_index, slice_index_or, filter, Option, None, Some}
 use Rattle.std.specs.List.{range_with_len, flat_map}
 use Rattle.psl_tree.specs.declared.atom.Atom.{Atom}
 use Rattle.psl_tree.specs.declared.atom.Edge.{Edge}
@@ -7,7 +7,7 @@ use Rattle.psl_tree.specs.declared.atom.Edge.TheVariants.{Value, Rise, Fall}
 use Rattle.psl_tree.specs.declared.letter.Letter.{Letter}
 use Rattle.psl_tree.specs.declared.letter.Letter.TheVariants.{Holds}
 use Rattle.psl_tree.specs.declared.name.Name.{Name}
-use Rattle.psl_tree.specs.Trees.{Boolean, Const, Test, Not, And, Or}
+pub use Rattle.psl_tree.specs.Names.{indices, AtomInRange, AreAlike}
 
 -- what contracts see of a recording
 pub record Sampled : Type 0 where
@@ -51,27 +51,6 @@ edge_at Fall recording sample signal bit =
 -- whether an atom holds at a sample
 abbrev pub atom_at : Sampled → ℕ → Atom → Truth
 atom_at recording sample atom = edge_at atom.edge recording sample atom.signal atom.bit
-
--- how many indices a name has, from its left one to its right one
-abbrev pub indices : Name → ℕ
-indices name = (name.left - name.right) + (name.right - name.left) + 1
-
--- some name has the atom's signal, and each name that has it has the atom's bit
-pub record AtomInRange (names : List Name) (atom : Atom) : Type 0 where
-  pub named : Any (λ name. name.signal ≡ atom.signal) names
-  pub within : All (λ name. name.signal ≡ atom.signal → atom.bit < indices name) names
-
--- each atom of a Boolean has P
-abbrev pub AtomsIn : (Atom → Type 0) → Boolean → Type 0
-AtomsIn P (Const value) = Unit {0}
-AtomsIn P (Test atom) = P atom
-AtomsIn P (Not part) = AtomsIn P part
-AtomsIn P (And left right) = AtomsIn P left × AtomsIn P right
-AtomsIn P (Or left right) = AtomsIn P left × AtomsIn P right
-
--- all names of one signal have the same number of indices
-abbrev pub AreAlike : List Name → Type 0
-AreAlike names = All (λ name. All (λ other. name.signal ≡ other.signal → indices name ≡ indices other) names) names
 
 -- what can be asked of a bit
 abbrev pub atoms_of_bit : ℕ → ℕ → List Atom

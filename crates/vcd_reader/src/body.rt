@@ -19,7 +19,7 @@ use std::alloc::Global;
 use std::marker::Model;
 
 /// How many samples a recording has at most.
-const SAMPLES: u32 = 10_000;
+pub const SAMPLE_LIMIT: u32 = 1_000_000;
 
 /// What is kept of a recording's times and changes while they are read.
 #[derive(Drop)]
@@ -157,7 +157,7 @@ impl Body {
         if same(self.last, time) {
             return Ok(());
         }
-        if self.begun >= SAMPLES {
+        if self.begun >= SAMPLE_LIMIT {
             return Err(Halt::at(word.at, Rule::TooManySamples));
         }
         self.last = Some(time);

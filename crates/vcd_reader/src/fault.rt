@@ -57,7 +57,7 @@ pub enum VcdFault {
     #[error("the text ends too early")]
     EndsInside(Place),
 
-    /// A time that would begin a sample past the limit, which is 10,000.
+    /// A time that would begin a sample past the limit, which is 1,000,000.
     #[error("too many samples")]
     TooManySamples(Place),
 

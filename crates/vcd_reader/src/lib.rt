@@ -23,6 +23,7 @@ mod texts;
 mod tokens;
 mod track;
 
+pub use body::SAMPLE_LIMIT;
 pub use fault::VcdFault;
 pub use laws::{first_fault_law, one_meaning_law, running_law};
 pub use reading::read_vcd;

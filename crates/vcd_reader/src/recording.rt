@@ -1,8 +1,9 @@
 ghost use Rattle.std.specs.Prelude.{◌≡◌, ◌<◌, ◌≤◌, ◌+◌, length, Any};
+ghost use Rattle.psl_tree.specs.Atoms.{AtomsOfBoolean};
 ghost use Rattle.psl_tree.specs.Holds.{holds};
 ghost use Rattle.psl_tree.specs.Trees.{boolean_of};
 ghost use Rattle.vcd_reader.specs.Rules.{sample_limit};
-ghost use Rattle.vcd_reader.specs.Sampled.{letter_before, letter_of, reads_one, bit_at, atom_at, letter_at, AtomInRange, AtomsIn, AreAlike};
+ghost use Rattle.vcd_reader.specs.Sampled.{letter_before, letter_of, reads_one, bit_at, atom_at, letter_at, AtomInRange, AreAlike};
 ghost use Rattle.vcd_reader.specs.Shots.{letters_in};
 
 use crate::track::{Shot, Track};
@@ -56,7 +57,7 @@ impl Recording {
         &self.names
     }
 
-    /// How many samples there are, 10,000 at most.
+    /// How many samples there are, 1,000,000 at most.
     pub fn samples(&self) -> u32
         ensures count { result ≡ length self.now.samples }
         ensures few { result ≤ sample_limit }
@@ -89,7 +90,7 @@ impl Recording {
     /// Whether a Boolean holds on the letter of a sample, counted from 0.
     pub fn holds(&self, sample: u32, test: &Bool) -> bool
         requires sample { sample < length self.now.samples }
-        requires atoms { AtomsIn (AtomInRange self.now.names) (boolean_of test.now) }
+        requires atoms { AtomsOfBoolean (AtomInRange self.now.names) (boolean_of test.now) }
         ensures { result ≡ holds (letter_at self.now sample) (boolean_of test.now) }
     {
         match test {

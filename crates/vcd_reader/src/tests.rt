@@ -230,10 +230,10 @@ fn hands_on_faults_of_the_shelf(rt: HostRuntime) -> Result<(), Fail> {
     Ok(())
 }
 
-/// A recording of 10,000 times.
+/// A recording of 1,000,000 times.
 fn long_recording(alloc: Global) -> Result<String, Fail> {
     let mut text = String::from_str(alloc, "$var wire 1 ! a $end\n$enddefinitions $end")?;
-    for time in 0..10_000u32 {
+    for time in 0..1_000_000u32 {
         text.push_str(format!(in alloc; "\n#{time}")?.as_str())?;
     }
     Ok(text)
@@ -249,12 +249,12 @@ fn shown_with(alloc: Global, text: &String, more: &str) -> Result<String, Fail> 
 fn counts_samples(rt: HostRuntime) -> Result<(), Fail> {
     let alloc = rt.alloc();
     let text = long_recording(alloc)?;
-    let longer = shown_with(alloc, &text, "\n#10000")?;
-    assert_eq!(rt; longer.as_str(), "V13 10003:1");
-    let longer = shown_with(alloc, &text, "\n#9999\n1! #10000")?;
-    assert_eq!(rt; longer.as_str(), "V13 10004:4");
-    let samples = read(alloc, format!(in alloc; "{text}\n#9999")?.as_bytes())?.samples();
-    assert_eq!(rt; samples, 10_000);
+    let longer = shown_with(alloc, &text, "\n#1000000")?;
+    assert_eq!(rt; longer.as_str(), "V13 1000003:1");
+    let longer = shown_with(alloc, &text, "\n#999999\n1! #1000000")?;
+    assert_eq!(rt; longer.as_str(), "V13 1000004:4");
+    let samples = read(alloc, format!(in alloc; "{text}\n#999999")?.as_bytes())?.samples();
+    assert_eq!(rt; samples, 1_000_000);
     Ok(())
 }
 

@@ -1,2 +1,4 @@
-pub mod Suffixes
+pub mod Faults
+pub mod Samples
+pub mod Tested
 pub mod Verdicts

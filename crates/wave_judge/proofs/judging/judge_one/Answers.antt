@@ -1,15 +1,12 @@
-use Rattle.std.proofs.Common.{refl}
+use Rattle.alternating.specs.Atoms.{is_among}
 use Rattle.psl_tree.specs.Trees.{formula_of}
-use Rattle.wave_judge.proofs.Verdicts.{weak-seen, neutral-seen, strong-seen}
+use Rattle.vcd_reader.specs.Sampled.{AtomInRange}
+use Rattle.wave_judge.proofs.Tested.{tested-have}
 use Rattle.wave_judge.proofs.judging.judge_one.Goals as goal
-use Rattle.vcd_reader.specs.Sampled.{letters_of}
 
-pub returns : goal.returns
-returns c = record {
-  number = refl;
-  kind = refl;
-  label = c.in_ok-copy_of.ensures;
-  weak = weak-seen (formula_of c.args.directive.now.formula) c.requires.judged (letters_of c.args.recording.now) c.satisfies.result c.satisfies.ensures;
-  neutral = neutral-seen (formula_of c.args.directive.now.formula) c.requires.judged (letters_of c.args.recording.now) c.satisfies-2.result c.satisfies-2.ensures;
-  strong = strong-seen (formula_of c.args.directive.now.formula) c.requires.judged (letters_of c.args.recording.now) c.satisfies-3.result c.satisfies-3.ensures;
-}
+pub pass-requires-clause-tested : goal.pass-requires-clause-tested
+pass-requires-clause-tested c = c.in_ok-automaton.ensures.meaning.atoms (λ atom. is_among c.in_ok-atoms.atoms atom) c.in_ok-atoms.ensures.all
+
+pub pass-requires-clause-in_range : goal.pass-requires-clause-in_range
+pass-requires-clause-in_range c =
+    tested-have (AtomInRange c.args.recording.now.names) (formula_of c.args.directive.now.formula) c.in_ok-atoms.atoms c.in_ok-atoms.ensures c.requires.in_range

@@ -1,4 +1,0 @@
-pub mod Faults
-pub mod Samples
-pub mod Tested
-pub mod Verdicts

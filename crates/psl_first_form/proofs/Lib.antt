@@ -1,4 +1,0 @@
-pub mod Fronts
-pub mod Names
-pub mod Readers
-pub mod Texts

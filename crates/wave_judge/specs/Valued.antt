@@ -1,0 +1,27 @@
+-- The values of all obligations in the three views, and the answers that they come to.
+use Rattle.std.specs.Prelude.{◌≡◌, List, length}
+use Rattle.psl_meaning.specs.Followed.{Nothing, Tops, Bottoms}
+use Rattle.psl_tree.specs.declared.letter.Letter.{Letter}
+use Rattle.alternating_meaning.specs.Obligations.{Automaton, value_on}
+use Rattle.alternating.specs.Stepped.{values_of}
+use Rattle.wave_judge.specs.declared.pass.Answers.{Answers}
+use Rattle.wave_judge.specs.declared.pass.Values.{Values}
+
+-- one value for each obligation, in each view
+pub record HasLengths (automaton : Automaton) (values : Values) : Type 0 where
+  pub weak : length values.weak ≡ length automaton.obligations
+  pub neutral : length values.neutral ≡ length automaton.obligations
+  pub strong : length values.strong ≡ length automaton.obligations
+
+-- the values of all obligations at the first of some letters, which Top follows in the weak view,
+-- nothing in the neutral one and Bottom in the strong one
+pub record AreValues (automaton : Automaton) (letters : List Letter) (values : Values) : Type 0 where
+  pub weak : values.weak ≡ values_of automaton Tops letters
+  pub neutral : values.neutral ≡ values_of automaton Nothing letters
+  pub strong : values.strong ≡ values_of automaton Bottoms letters
+
+-- the automaton's values on some letters in the three views
+pub record AreAnswers (automaton : Automaton) (letters : List Letter) (answers : Answers) : Type 0 where
+  pub weak : answers.weak ≡ value_on automaton Tops letters
+  pub neutral : answers.neutral ≡ value_on automaton Nothing letters
+  pub strong : answers.strong ≡ value_on automaton Bottoms letters
