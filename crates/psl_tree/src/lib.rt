@@ -13,7 +13,6 @@ mod printing;
 #[cfg(test)]
 mod printing_tests;
 mod sere;
-mod surface;
 #[cfg(test)]
 mod tests;
 
@@ -25,4 +24,3 @@ pub use letter::{Letter, Letters, Word, holds};
 pub use name::{Name, Names};
 pub use printing::print_fl;
 pub use sere::{Sere, states};
-pub use surface::{Step, UnitTree};
