@@ -1,0 +1,106 @@
+-- The atoms of what expressions stand for are in range of the names.
+use Rattle.std.proofs.Common.{◌≡◌, ℕ, ◌+◌, ◌-◌, ◌<◌, ◌≤◌, Bool, true, false, List, length, get_or, Option, None, Some, arith}
+use Rattle.psl_lexer.specs.declared.token.Token.{Token}
+use Rattle.psl_grammar.specs.declared.tree.Expression as code_expression
+use Rattle.psl_grammar.specs.declared.tree.Expression.TheVariants as expressions
+use Rattle.psl_layer_laws.proofs.RangedBooleans as booleans
+use Rattle.psl_layer_laws.proofs.RangedLookUp.{AreBits, InRange, reference-has}
+use Rattle.psl_layer_laws.proofs.RangedOperators.{MeaningHas, NamedHave, boolean-has, sequence-has, formula-has, strong-has, prefix-has, infix-has, literal-has, repeated-has, alone-has, clocked-in-has, grouped-has, next-form-has, event-form-has, declared-has}
+use Rattle.psl_layer_meaning.specs.declared.found.Reference.{Reference}
+use Rattle.psl_layer_meaning.specs.declared.found.Reference.TheVariants as references
+use Rattle.psl_layer_meaning.specs.declared.operator.InfixOperator.{InfixOperator}
+use Rattle.psl_layer_meaning.specs.declared.operator.InfixOperator.TheVariants as operators
+use Rattle.psl_layer_meaning.specs.Kernel.{Meaning, Named, boolean_in, formula_in, vector, bits_meaning, compared_bits, compared, operated, edge_meaning, optional_count, signal_meaning, meaning_of}
+use Rattle.psl_layer_meaning.specs.Kinds.{operator_before}
+use Rattle.psl_layer_meaning.specs.LookUp.{reference}
+use Rattle.psl_layer_meaning.specs.Operators.{prefix_operator, repetition_operator, strength_of, edge_of}
+use Rattle.psl_layer_meaning.specs.Texts.{path_text, literal_value}
+use Rattle.psl_sugar.specs.Booleans.{bit_of as bit_of_vector}
+use Rattle.psl_sugar.specs.declared.operator.Strength.{Strength}
+use Rattle.psl_tree.specs.Atoms.{AtomsOfBoolean}
+use Rattle.psl_tree.specs.Names.{indices, AtomInRange, AreAlike}
+use Rattle.psl_tree.specs.declared.atom.Edge as atom_edge
+use Rattle.psl_tree.specs.declared.name.Name.{Name}
+
+module _ (names : List Name) (alike : AreAlike names) where
+  each-bit : (signal lowest width : ℕ) → AreBits names signal lowest width → (bit : ℕ) → AtomsOfBoolean (AtomInRange names) (bit_of_vector (vector signal lowest width) bit)
+  each-bit signal lowest width bits bit = record {
+    named = bits.named;
+    within = λ (k : ℕ) (d : Name) (below : k < length names) (same : (get_or names k d).signal ≡ signal).
+        inside (indices (get_or names k d)) (bits.within k d below same);
+  }
+    where
+      inside : (count : ℕ) → lowest + width ≤ count → lowest + (width - 1 - bit) < count
+      inside count le = let some : 1 ≤ width = bits.some in omega arith
+
+  bits-have : (found : Reference) → InRange names found → AtomsOfBoolean (AtomInRange names) (bits_meaning found)
+  bits-have references.Nothing h = tt
+  bits-have references.Several h = tt
+  bits-have (references.Bits signal lowest width) h = booleans.some-has (AtomInRange names) (vector signal lowest width) (each-bit signal lowest width h)
+
+  compared-bits-have : (is_equal : Bool) (found : Reference) (value : ℕ) → InRange names found → AtomsOfBoolean (AtomInRange names) (compared_bits is_equal found value)
+  compared-bits-have true references.Nothing value h = tt
+  compared-bits-have false references.Nothing value h = tt
+  compared-bits-have true references.Several value h = tt
+  compared-bits-have false references.Several value h = tt
+  compared-bits-have true (references.Bits signal lowest width) value h =
+      booleans.equality-has (AtomInRange names) (vector signal lowest width) (each-bit signal lowest width h) value
+  compared-bits-have false (references.Bits signal lowest width) value h =
+      booleans.inequality-has (AtomInRange names) (vector signal lowest width) (each-bit signal lowest width h) value
+
+  edge-has : (edge : atom_edge.Edge) (found : Reference) → InRange names found → AtomsOfBoolean (AtomInRange names) (edge_meaning edge found)
+  edge-has edge references.Nothing h = tt
+  edge-has edge references.Several h = tt
+  edge-has edge (references.Bits signal lowest width) bits = record {
+    named = bits.named;
+    within = λ (k : ℕ) (d : Name) (below : k < length names) (same : (get_or names k d).signal ≡ signal).
+        inside (indices (get_or names k d)) (bits.within k d below same);
+  }
+    where
+      inside : (count : ℕ) → lowest + width ≤ count → lowest < count
+      inside count le = let some : 1 ≤ width = bits.some in omega arith
+
+  compared-has : (is_equal : Bool) (x y : code_expression.Expression) → AtomsOfBoolean (AtomInRange names) (compared names is_equal x y)
+  compared-has is_equal (expressions.Signal path index) (expressions.Literal token) =
+      compared-bits-have is_equal (reference names path index) (literal_value token) (reference-has names alike path index)
+  compared-has is_equal (expressions.Literal token) (expressions.Signal path index) =
+      compared-bits-have is_equal (reference names path index) (literal_value token) (reference-has names alike path index)
+  compared-has is_equal _ _ = tt
+
+  operated-has : (operator : InfixOperator) (strength : Strength) (x y : code_expression.Expression) (left right : Meaning)
+      → MeaningHas (AtomInRange names) left → MeaningHas (AtomInRange names) right → MeaningHas (AtomInRange names) (operated names operator strength x y left right)
+  operated-has operators.Equal strength x y left right h k = compared-has true x y
+  operated-has operators.Unequal strength x y left right h k = compared-has false x y
+  operated-has operator strength x y left right h k = infix-has (AtomInRange names) operator strength left right h k
+
+  module _ (scope : List Named) (have : NamedHave (AtomInRange names) scope) where
+    signal-has : (path : List Token) (index : Option Token) → MeaningHas (AtomInRange names) (signal_meaning scope names path index)
+    signal-has path None =
+        declared-has (AtomInRange names) scope (path_text path) (bits_meaning (reference names path None)) have (bits-have (reference names path None) (reference-has names alike path None))
+    signal-has path (Some index) = bits-have (reference names path (Some index)) (reference-has names alike path (Some index))
+
+    pub meaning-has : (in_sere : Bool) (x : code_expression.Expression) → MeaningHas (AtomInRange names) (meaning_of scope names in_sere x)
+    meaning-has in_sere (expressions.Prefix' operator _ x) =
+        prefix-has (AtomInRange names) (prefix_operator operator.kind) (strength_of operator.kind) (meaning_of scope names in_sere x) (meaning-has in_sere x)
+    meaning-has in_sere (expressions.Infix' _ x operator _ y) =
+        operated-has (operator_before in_sere operator.kind y) (strength_of operator.kind) x y (meaning_of scope names in_sere x) (meaning_of scope names in_sere y)
+        (meaning-has in_sere x) (meaning-has in_sere y)
+    meaning-has in_sere (expressions.Postfix' _ x operator) = strong-has (AtomInRange names) (meaning_of scope names in_sere x) (meaning-has in_sere x)
+    meaning-has in_sere (expressions.Repeated' _ x opening count) =
+        repeated-has (AtomInRange names) (repetition_operator opening.kind) (optional_count count) (meaning_of scope names in_sere x) (meaning-has in_sere x)
+    meaning-has in_sere (expressions.Clocked' _ x at _ clock) =
+        clocked-in-has (AtomInRange names) in_sere (meaning_of scope names in_sere x) (boolean_in (meaning_of scope names false clock)) (meaning-has in_sere x)
+        (boolean-has (AtomInRange names) (meaning_of scope names false clock) (meaning-has false clock))
+    meaning-has in_sere (expressions.Grouped' opening _ x) = grouped-has (AtomInRange names) (meaning_of scope names false x) (meaning-has false x)
+    meaning-has in_sere (expressions.Braced' opening _ x) = sequence-has (AtomInRange names) (meaning_of scope names true x) (meaning-has true x)
+    meaning-has in_sere (expressions.Repetition opening count) = alone-has (AtomInRange names) (repetition_operator opening.kind) (optional_count count)
+    meaning-has in_sere (expressions.Literal token) = literal-has (AtomInRange names) token.kind (literal_value token)
+    meaning-has in_sere (expressions.Signal path index) = signal-has path index
+    meaning-has in_sere (expressions.Edge edge path index) = edge-has (edge_of edge.kind) (reference names path index) (reference-has names alike path index)
+    meaning-has in_sere (expressions.NextTimes' word count _ x) =
+        next-form-has (AtomInRange names) word.kind count (formula_in (meaning_of scope names false x))
+        (formula-has (AtomInRange names) (meaning_of scope names false x) (meaning-has false x))
+    meaning-has in_sere (expressions.NextEvent' word _ condition count _ x) =
+        event-form-has (AtomInRange names) word.kind (boolean_in (meaning_of scope names false condition)) count (formula_in (meaning_of scope names false x))
+        (boolean-has (AtomInRange names) (meaning_of scope names false condition) (meaning-has false condition))
+        (formula-has (AtomInRange names) (meaning_of scope names false x) (meaning-has false x))
