@@ -1,3 +1,4 @@
+pub mod Bounds
 pub mod Longer
 pub mod Owned
 pub mod Scopes

@@ -1,8 +1,12 @@
 // Whole texts.
-ghost use Rattle.std.specs.Prelude.{◌≡◌, [], IfOk, IfErr};
+ghost use Rattle.std.specs.Prelude.{◌≡◌, ◌≤◌, [], All, IfOk, IfErr};
 ghost use Rattle.psl_layer_meaning.specs.Answers.{IsUnit, IsLayerFault};
 ghost use Rattle.psl_layer_meaning.specs.Directives as spec;
 ghost use Rattle.psl_layer_meaning.specs.FirstFlaw as flaws;
+ghost use Rattle.psl_tree.specs.Atoms.{AtomsOfFormula};
+ghost use Rattle.psl_tree.specs.Counts.{formula_size};
+ghost use Rattle.psl_tree.specs.Names.{AreAlike, AtomInRange};
+ghost use Rattle.psl_tree.specs.Trees.{formula_of};
 ghost use Rattle.psl_layer.specs.Asked.{IsLonger};
 
 use crate::statements::with_statements;
@@ -60,11 +64,14 @@ fn fault_of(flaw: Flaw) -> LayerFault
 
 /// The directives of a text over the names of signals, numbered from 1, in the kernel. Where kinds and names are at fault
 /// it is refused with the first fault of them, and else where a formula has more than 4,096 constructors at the word of
-/// the first directive that has one.
-#[tactic(auto, using(crate::proofs::Whole::flaw_is, crate::proofs::Whole::unit_is, crate::proofs::Whole::fault_is))]
+/// the first directive that has one. Where all names of one signal have the same number of indices, each atom is in
+/// range: some name has its signal, and each name that has it has its bit.
+#[tactic(auto, using(crate::proofs::Whole::flaw_is, crate::proofs::Whole::unit_is, crate::proofs::Whole::fault_is, crate::proofs::Bounds::ranged, crate::proofs::Bounds::small))]
 pub fn resolve(alloc: Global, tree: &UnitTree, names: &Names) -> Result<Unit, LayerFault>
     ensures unit { IfOk result (IsUnit tree.now names.now) }
     ensures fault { IfErr result (IsLayerFault tree.now names.now) }
+    ensures in_range { AreAlike names.now → IfOk result (λ unit. All (λ directive. AtomsOfFormula (AtomInRange names.now) (formula_of directive.formula)) unit) }
+    ensures small { IfOk result (λ unit. All (λ directive. formula_size (formula_of directive.formula) ≤ 4096) unit) }
 {
     if let Some(flaw) = first_flaw(alloc, tree, names)? {
         return Err(fault_of(flaw));

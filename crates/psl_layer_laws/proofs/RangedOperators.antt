@@ -7,6 +7,7 @@ use Rattle.psl_lexer.specs.declared.kind.TokenKind.{TokenKind}
 use Rattle.psl_lexer.specs.declared.kind.TokenKind.TheVariants as kinds
 use Rattle.psl_grammar.specs.declared.tree.Count as code_count
 use Rattle.psl_grammar.specs.declared.tree.Count.TheVariants as counts
+use Rattle.psl_layer_laws.proofs.RangedBooleans as booleans
 use Rattle.psl_layer_laws.proofs.RangedProperties as properties
 use Rattle.psl_layer_laws.proofs.RangedSequences as sequences
 use Rattle.psl_layer_meaning.specs.declared.operator.InfixOperator.{InfixOperator}
@@ -22,7 +23,7 @@ use Rattle.psl_sugar.specs.Sequences.{any_letter}
 use Rattle.psl_sugar.specs.declared.count.Count as sugar_count
 use Rattle.psl_sugar.specs.declared.operator.Strength.{Strength}
 use Rattle.psl_tree.specs.Atoms.{AtomsOfBoolean, AtomsOfSequence, AtomsOfFormula}
-use Rattle.psl_tree.specs.Trees.{Boolean, Formula}
+use Rattle.psl_tree.specs.Trees.{Boolean, Formula, Now}
 use Rattle.psl_tree.specs.declared.atom.Atom.{Atom}
 
 module _ (P : Atom → Type 0) where
@@ -57,11 +58,11 @@ module _ (P : Atom → Type 0) where
   prefix-has prefixes.Not strength (OfSequence sequence) h = h
   prefix-has prefixes.Not strength (OfProperty formula) h = h
   prefix-has prefixes.Always strength part h = properties.always-has P (formula_in part) (formula-has part h)
-  prefix-has prefixes.Never strength (OfBoolean test) h = (tt, h)
+  prefix-has prefixes.Never strength (OfBoolean test) h = properties.never-has P (Now test) h
   prefix-has prefixes.Never strength (OfSequence sequence) h = properties.never-sequence-has P sequence h
   prefix-has prefixes.Never strength (OfProperty formula) h = properties.never-has P formula h
   prefix-has prefixes.Next strength part h = properties.next-has P strength (formula_in part) (formula-has part h)
-  prefix-has prefixes.Eventually strength (OfBoolean test) h = (tt, h)
+  prefix-has prefixes.Eventually strength (OfBoolean test) h = properties.eventually-has P (Now test) h
   prefix-has prefixes.Eventually strength (OfSequence sequence) h = properties.eventually-sequence-has P sequence h
   prefix-has prefixes.Eventually strength (OfProperty formula) h = properties.eventually-has P formula h
 
@@ -71,16 +72,15 @@ module _ (P : Atom → Type 0) where
 
   disjunction-has : (left right : Meaning) → MeaningHas left → MeaningHas right → MeaningHas (disjunction_meaning left right)
   disjunction-has (OfBoolean left) (OfBoolean right) h k = (h, k)
-  disjunction-has left right h k = (formula-has left h, formula-has right k)
+  disjunction-has left right h k = properties.disjunction-has P (formula_in left) (formula_in right) (formula-has left h) (formula-has right k)
 
   implication-has : (left right : Meaning) → MeaningHas left → MeaningHas right → MeaningHas (implication_meaning left right)
-  implication-has (OfBoolean left) (OfBoolean right) h k = (h, k)
-  implication-has left right h k = (formula-has left h, formula-has right k)
+  implication-has (OfBoolean left) (OfBoolean right) h k = booleans.implication-has P left right h k
+  implication-has left right h k = properties.implication-has P (formula_in left) (formula_in right) (formula-has left h) (formula-has right k)
 
   equivalence-has : (left right : Meaning) → MeaningHas left → MeaningHas right → MeaningHas (equivalence_meaning left right)
-  equivalence-has (OfBoolean left) (OfBoolean right) h k = ((h, k), (k, h))
-  equivalence-has left right h k =
-      ((formula-has left h, formula-has right k), (formula-has right k, formula-has left h))
+  equivalence-has (OfBoolean left) (OfBoolean right) h k = booleans.iff-has P left right h k
+  equivalence-has left right h k = properties.iff-has P (formula_in left) (formula_in right) (formula-has left h) (formula-has right k)
 
   pub infix-has : (operator : InfixOperator) (strength : Strength) (left right : Meaning) → MeaningHas left → MeaningHas right → MeaningHas (infix_meaning operator strength left right)
   infix-has operators.Conjunction strength left right h k = conjunction-has left right h k
@@ -114,7 +114,7 @@ module _ (P : Atom → Type 0) where
   pub literal-has : (kind : TokenKind) (value : ℕ) → AtomsOfBoolean P (literal_meaning kind value)
   literal-has kinds.True value = tt
   literal-has kinds.False value = tt
-  literal-has _ value = tt
+  literal-has _ value = booleans.number-has P value
 
   pub repeated-has : (operator : RepetitionOperator) (count : Option sugar_count.Count) (part : Meaning) → MeaningHas part → AtomsOfSequence P (repeated_meaning operator count part)
   repeated-has repetitions.Star None part h = sequence-has part h

@@ -11,11 +11,12 @@ use Rattle.psl_grammar.specs.declared.tree.UnitTree as code_tree
 use Rattle.psl_grammar.specs.declared.tree.UnitTree.TheVariants as trees
 use Rattle.psl_grammar.specs.declared.tree.VerificationUnit.{VerificationUnit}
 use Rattle.psl_layer_laws.proofs.RangedExpressions.{meaning-has}
+use Rattle.psl_layer_laws.proofs.RangedProperties as properties
 use Rattle.psl_layer_laws.proofs.RangedOperators.{MeaningHas, NamedHave, boolean-has, sequence-has, formula-has, clocked-has}
 use Rattle.psl_layer_meaning.specs.declared.operator.DeclarationWord.{DeclarationWord}
 use Rattle.psl_layer_meaning.specs.declared.operator.DeclarationWord.TheVariants as declarations
 use Rattle.psl_layer_meaning.specs.Directives.{Asked, named_by, declared_by, clock_by, clock_of, default_clock, under_clock, asserted, covered_under, cover_formula, directive_formula, label_text, asked_by, asked_after, asked_in, asked_in_units, kernel}
-use Rattle.psl_layer_meaning.specs.Kernel.{Meaning, Named, OfSequence, OfProperty, sequence_in, formula_in, clocked_meaning, meaning_of}
+use Rattle.psl_layer_meaning.specs.Kernel.{Meaning, Named, OfSequence, OfProperty, boolean_in, sequence_in, formula_in, clocked_meaning, meaning_of}
 use Rattle.psl_layer_meaning.specs.Operators.{declaration_word, directive_kind_of}
 use Rattle.psl_tree.specs.Atoms.{AtomsOfBoolean, AtomsOfFormula}
 use Rattle.psl_tree.specs.Names.{AtomInRange, AreAlike}
@@ -60,8 +61,8 @@ module _ (P : Atom → Type 0) where
   asserted-has clock _ part h k = under-has clock part h k
 
   covered-under-has : (clock : Option Boolean) (part : Meaning) → ClockHas clock → MeaningHas P part → AtomsOfFormula P (covered_under clock part)
-  covered-under-has None part h k = (tt, sequence-has P part k)
-  covered-under-has (Some clock) part h k = ((tt, sequence-has P part k), h)
+  covered-under-has None part h k = properties.covered-has P (sequence_in part) (sequence-has P part k)
+  covered-under-has (Some clock) part h k = properties.covered-at-has P (sequence_in part) clock (sequence-has P part k) h
 
 -- ---- statements
 
@@ -78,10 +79,10 @@ module _ (names : List Name) (alike : AreAlike names) where
         clock-by-has (AtomInRange names) (declaration_word word.kind) (meaning_of scope names false body) (meaning-has names alike scope have false body)
 
     cover-has : (clock : Option Boolean) → ClockHas (AtomInRange names) clock → (x : code_expression.Expression) → AtomsOfFormula (AtomInRange names) (cover_formula scope names clock x)
-    cover-has clock h (expressions.Clocked' _ x at _ own) = (
-      (tt, sequence-has (AtomInRange names) (meaning_of scope names false x) (meaning-has names alike scope have false x)),
-      boolean-has (AtomInRange names) (meaning_of scope names false own) (meaning-has names alike scope have false own),
-    )
+    cover-has clock h (expressions.Clocked' _ x at _ own) =
+        properties.covered-at-has (AtomInRange names) (sequence_in (meaning_of scope names false x)) (boolean_in (meaning_of scope names false own))
+        (sequence-has (AtomInRange names) (meaning_of scope names false x) (meaning-has names alike scope have false x))
+        (boolean-has (AtomInRange names) (meaning_of scope names false own) (meaning-has names alike scope have false own))
     cover-has clock h x = covered-under-has (AtomInRange names) clock (meaning_of scope names false x) h (meaning-has names alike scope have false x)
 
     directive-has : (clock : Option Boolean) → ClockHas (AtomInRange names) clock → (kind : directive_kind.Kind) (x : code_expression.Expression)

@@ -19,7 +19,7 @@ pub fn same_tree()
 {}
 
 /// A law of the definitions, which runs nothing: where all names of one signal have the same number of indices, each atom
-/// of the kernel is a bit of a signal that some name has.
+/// of the kernel is in range: some name has its signal, and each name that has it has its bit.
 pub fn atoms_in_range()
     ensures { (names : List Name) (tree : code_tree.UnitTree) → AreAlike names
         → All (λ asked. AtomsOfFormula (AtomInRange names) asked.formula) (kernel names tree) }

@@ -1,27 +1,24 @@
 -- Why a run ended as it did, and that where nothing fails the answer is the first refusal.
-use Rattle.std.proofs.Common.{◌≡◌, refl, sym, ◌∙◌, ap, subst, ℕ, ◌<◌, ◌≤◌, ◌^◌, List, Option, None, Some, arith, inl, inr}
+use Rattle.std.proofs.Common.{◌≡◌, refl, sym, ◌∙◌, ap, subst, ℕ, List, Option, None, Some, inl, inr}
 use Rattle.std.specs.Prelude.{◌⊎◌, Result, Ok, Err, IfOk, IfErr}
 use Rattle.psl_base.specs.Faults.{Rose}
 use Rattle.psl_base.specs.Shelf.{Contents, ShelfState, OnlyReads}
 use Rattle.pslc.proofs.Staging.{cause-moved, same_state}
-use Rattle.pslc.specs.Commands.{CommandStage, FirstRefusal, IsOutcomeOf, IsWave, IsGen, IsNoCommand, Waved}
-use Rattle.command_words.proofs.Meanings.{one_meaning}
+use Rattle.pslc.specs.Commands.{CommandStage, FirstRefusal, IsOutcomeOf, IsNamed, IsWave, IsShow, IsGen, IsNoCommand, Waved, LinesShown}
 use Rattle.command_words.specs.Commands as words_of
-use Rattle.command_words.specs.Commands.{IsCommand}
 use Rattle.command_words.specs.Commands.{Meaning as meaning}
 use Rattle.pslc.specs.Generated.{GeneratedStage}
 use Rattle.vcd_reader.specs.Rules.{sample_limit}
 use Rattle.pslc.specs.Endings.{Explained, IsOutOfMemory, EndsWith, EndsFaulted}
 use Rattle.pslc.specs.Faults.{of_none, fault_of}
-use Rattle.pslc.specs.Stages.{Then, Cause, OfWords, OfReading, OfWriting, OfText, OfMemory, cause_of, HasCause, OfTold, Gives, Refuses}
-use Rattle.pslc.specs.Waves.{WaveStage}
+use Rattle.pslc.specs.Stages.{Then, Cause, OfWords, OfReading, OfWriting, OfText, OfMemory, cause_of, HasCause, OfTold, Gives, Refuses, IsOfFile, IsOfFileOrMemory}
+use Rattle.pslc.specs.Waves.{WaveStage, ShowStage}
 use Rattle.pslc.specs.declared.finish.Planned.{Planned}
 use Rattle.pslc.specs.declared.outcome.Fault.{Fault}
 use Rattle.pslc.specs.declared.outcome.Outcome.{Outcome}
-use Rattle.pslc.specs.declared.outcome.Outcome.TheVariants.{Wave, Made}
+use Rattle.pslc.specs.declared.outcome.Outcome.TheVariants.{Made}
 use Rattle.pslc.specs.declared.outcome.Reason.{Reason}
 use Rattle.pslc.specs.declared.outcome.Reason.TheVariants.{Usage, ReadFault, WriteFault, NoMemory}
-use Rattle.wave_judge.specs.declared.verdict.Verdict.{Verdict}
 
 -- want of memory alone has its cause
 of_memory : (reason : Reason) → cause_of reason ≡ OfMemory → reason ≡ NoMemory
@@ -81,29 +78,39 @@ planned-has P o (Err fault) e h = tt
 
 -- from the stages of a command to the first refusal
 
-module _ (words : List (List ℕ)) (unit recording : List ℕ) (is : IsWave words unit recording) (old new : ShelfState) where
-  pub wave-found : (verdicts : List Verdict) → Gives old (WaveStage unit recording) verdicts → OfTold old (λ files. IsOutcomeOf words files (Wave verdicts))
-  wave-found verdicts h = λ files told. inr (inl (unit, recording, is, inr (verdicts, h files told, refl)))
+pub wave-runs : (words : List (List ℕ)) (unit recording : List ℕ) → IsWave words unit recording → (files : Contents) (result : Result Outcome Fault)
+    → Then (WaveStage unit recording) Waved files result → CommandStage words files result
+wave-runs words unit recording is files result h = inr (inl (unit, recording, is, h))
 
-  pub wave-unrefused : (verdicts : List Verdict) → Gives old (WaveStage unit recording) verdicts → Explained ⊥ old new (FirstRefusal words) None
-  wave-unrefused verdicts h = λ files told. (Ok (Wave verdicts), inr (inl (unit, recording, is, inr (verdicts, h files told, refl))), refl)
+pub show-runs : (words : List (List ℕ)) (unit names : List ℕ) → IsShow words unit names → (files : Contents) (result : Result Outcome Fault)
+    → Then (ShowStage unit names) LinesShown files result → CommandStage words files result
+show-runs words unit names is files result h = inr (inr (inl (unit, names, is, h)))
 
-  refused : (files : Contents) (fault : Fault) → WaveStage unit recording files (Err fault) → FirstRefusal words files (Some fault)
-  refused files fault h = (Err fault, inr (inl (unit, recording, is, inl (fault, h, refl))), refl)
+module _ {A : Type 0} (words : List (List ℕ)) (Stage : Contents → Result A Fault → Type 0) (outcome : A → Outcome)
+    (runs : (files : Contents) (result : Result Outcome Fault) → Then Stage (λ value f r. r ≡ Ok (outcome value)) files result → CommandStage words files result)
+    (old new : ShelfState) where
+  pub stage-found : (value : A) → Gives old Stage value → OfTold old (λ files. CommandStage words files (Ok (outcome value)))
+  stage-found value h = λ files told. runs files (Ok (outcome value)) (inr (value, h files told, refl))
 
-  pub wave-refused : (fault : Fault) → Refuses old new (WaveStage unit recording) fault → Explained ⊥ old new (FirstRefusal words) (Some fault)
-  wave-refused fault h =
-      cause-moved (cause_of fault.reason) ⊥ old old new (λ files. WaveStage unit recording files (Err fault)) (λ files. FirstRefusal words files (Some fault)) (same_state old)
-      (λ files told. refused files fault) (λ e files. refused files fault) h
+  pub stage-unrefused : (value : A) → Gives old Stage value → Explained ⊥ old new (FirstRefusal words) None
+  stage-unrefused value h = λ files told. (Ok (outcome value), stage-found value h files told, refl)
+
+  refused : (files : Contents) (fault : Fault) → Stage files (Err fault) → FirstRefusal words files (Some fault)
+  refused files fault h = (Err fault, runs files (Err fault) (inl (fault, h, refl)), refl)
+
+  pub stage-refused : (fault : Fault) → Refuses old new Stage fault → Explained ⊥ old new (FirstRefusal words) (Some fault)
+  stage-refused fault h =
+      cause-moved (cause_of fault.reason) ⊥ old old new (λ files. Stage files (Err fault)) (λ files. FirstRefusal words files (Some fault)) (same_state old)
+      (λ files told. refused files fault) (λ e files p. refused files fault p) h
 
 module _ (words : List (List ℕ)) (seed samples : ℕ) (is : IsGen words seed samples) where
   pub made-found : (outcome : Outcome) (files : Contents) → GeneratedStage seed samples (Ok outcome) → IsOutcomeOf words files outcome
   made-found outcome files (verdicts, are, e) =
       let same : outcome ≡ Made seed samples _ verdicts = (let whole : Ok outcome ≡ Ok (Made seed samples _ verdicts) = e in cc) in
-      subst (IsOutcomeOf words files) (sym same) (inr (inr (seed, samples, is, (verdicts, are, refl))))
+      subst (IsOutcomeOf words files) (sym same) (inr (inr (inr (seed, samples, is, (verdicts, are, refl)))))
 
   pub made-unrefused : (outcome : Outcome) (old new : ShelfState) → GeneratedStage seed samples (Ok outcome) → Explained ⊥ old new (FirstRefusal words) None
-  made-unrefused outcome old new stage = λ files told. (Ok outcome, inr (inr (seed, samples, is, stage)), refl)
+  made-unrefused outcome old new stage = λ files told. (Ok outcome, inr (inr (inr (seed, samples, is, stage))), refl)
 
   pub made-explained : (old new : ShelfState) (result : Result Outcome Fault) → IfOk result (λ outcome. GeneratedStage seed samples (Ok outcome)) → IfErr result (λ fault. fault ≡ of_none NoMemory)
       → Explained ⊥ old new (FirstRefusal words) (fault_of result)
@@ -115,24 +122,27 @@ module _ (words : List (List ℕ)) (seed samples : ℕ) (is : IsGen words seed s
   made-outcome old (Ok outcome) stage = λ files told. made-found outcome files stage
   made-outcome old (Err fault) stage = tt
 
--- words that are another command, or none, are none that runs
+-- which file the fault is of
+
+pub wave-named : (words : List (List ℕ)) (unit recording : List ℕ) (fault : Fault) → IsWave words unit recording
+    → IsOfFileOrMemory unit fault ⊎ IsOfFile recording fault → IsNamed words fault
+wave-named words unit recording fault is (inl (inl e)) = inr (inr (inl e))
+wave-named words unit recording fault is (inl (inr t)) = inr (inr (inr (inl (unit, recording, is, inl t))))
+wave-named words unit recording fault is (inr t) = inr (inr (inr (inl (unit, recording, is, inr t))))
+
+pub show-named : (words : List (List ℕ)) (unit names : List ℕ) (fault : Fault) → IsShow words unit names
+    → IsOfFileOrMemory unit fault ⊎ IsOfFile names fault → IsNamed words fault
+show-named words unit names fault is (inl (inl e)) = inr (inr (inl e))
+show-named words unit names fault is (inl (inr t)) = inr (inr (inr (inr (unit, names, is, inl t))))
+show-named words unit names fault is (inr t) = inr (inr (inr (inr (unit, names, is, inr t))))
+
+-- words that are no command
 
 pub refused-words : (words : List (List ℕ)) → words_of.IsNoCommand sample_limit words → IsNoCommand words
-refused-words words none = record { no_wave = λ unit recording is. none (meaning.wave unit recording) is; no_gen = λ seed samples is. none (meaning.gen seed samples) is }
-
-show-wave : (u r unit names : List ℕ) → meaning.show unit names ≡ meaning.wave u r → ⊥
-show-wave u r unit names e = cc
-
-show-gen : (seed samples : ℕ) (unit names : List ℕ) → meaning.show unit names ≡ meaning.gen seed samples → ⊥
-show-gen seed samples unit names e = cc
-
-limit-small : sample_limit < 2 ^ 32
-limit-small = omega arith
-
-pub show-words : (words : List (List ℕ)) (unit names : List ℕ) → IsCommand sample_limit words (meaning.show unit names) → IsNoCommand words
-show-words words unit names shows = record {
-  no_wave = λ u r is. show-wave u r unit names (one_meaning sample_limit words (meaning.show unit names) (meaning.wave u r) limit-small shows is);
-  no_gen = λ seed samples is. show-gen seed samples unit names (one_meaning sample_limit words (meaning.show unit names) (meaning.gen seed samples) limit-small shows is);
+refused-words words none = record {
+  no_wave = λ unit recording is. none (meaning.wave unit recording) is;
+  no_show = λ unit names is. none (meaning.show unit names) is;
+  no_gen = λ seed samples is. none (meaning.gen seed samples) is;
 }
 
 pub unused-refused : (words : List (List ℕ)) (old new : ShelfState) → IsNoCommand words → Explained ⊥ old new (FirstRefusal words) (Some (of_none Usage))

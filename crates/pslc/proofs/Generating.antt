@@ -1,21 +1,25 @@
 -- What `gen` gives: the made recording is read as it was made, and its one directive can be judged.
-use Rattle.std.proofs.Common.{◌≡◌, refl, sym, ◌∙◌, ap, subst, ℕ, ◌≤◌, List, [], ◌∷◌, length, Option, None, Some, Ok, Err, inl, inr}
-use Rattle.std.specs.Prelude.{◌⊎◌, Result, All, codes}
+use Rattle.std.proofs.Common.{◌≡◌, refl, sym, ◌∙◌, ap, subst, ℕ, ◌≤◌, List, [], ◌∷◌, length, Option, None, Some, Ok, Err, arith, inl, inr}
+use Rattle.std.specs.Prelude.{◌⊎◌, Result, All, Any, codes}
 use Rattle.std.proofs.lemmas.List.Elements.{All-cons, All-nil}
 use Rattle.psl_base.specs.Files.{content_of}
 use Rattle.psl_base.specs.MemShelfState.{MemoryShelf, shelf_state}
+use Rattle.psl_tree.specs.Atoms.{AtomsOfFormula}
+use Rattle.psl_tree.specs.Counts.{formula_size}
+use Rattle.psl_tree.specs.Names.{AtomInRange}
+use Rattle.psl_tree.specs.declared.atom.Atom.{Atom}
 use Rattle.psl_tree.specs.declared.directive.Directive.{Directive}
+use Rattle.psl_tree.specs.declared.name.Name.{Name}
 use Rattle.psl_tree.specs.Trees.{Formula, formula_of}
-use Rattle.pslc.proofs.NamedBits.{bit-ranged}
 use Rattle.pslc.specs.Generated.{AreMade, AreAnswered, answered, value_of}
 use Rattle.recording_maker.proofs.Accepting.{accepted}
 use Rattle.recording_maker.specs.Made.{made_text, made_names, made_sampled}
 use Rattle.vcd_reader.specs.declared.fault.VcdFault.{VcdFault}
 use Rattle.vcd_reader.specs.Meaning.{reading}
 use Rattle.vcd_reader.specs.Rules.{sample_limit}
-use Rattle.vcd_reader.specs.Sampled.{Sampled, AtomInRange, letters_of}
+use Rattle.vcd_reader.specs.Sampled.{Sampled, letters_of}
 use Rattle.vcd_reader.specs.Told.{Says}
-use Rattle.wave_judge.specs.Judged.{AtomsOf, AreVerdicts}
+use Rattle.wave_judge.specs.Judged.{AreVerdicts}
 use Rattle.wave_judge.specs.declared.verdict.Verdict.{Verdict}
 
 same-some : (a b : List ℕ) → Some a ≡ Some b → a ≡ b
@@ -36,12 +40,30 @@ read-made shelf name text seed samples recording holds made few says =
 one-all : (P : Directive → Type 0) (d : Directive) → P d → All P (d ∷ [])
 one-all P d h = All-cons P d [] h (All-nil P)
 
+-- the lowest bit of a signal that is named
+ranged : (names : List Name) (atom : Atom) → atom.bit ≡ 0 → Any (λ (name : Name). name.signal ≡ atom.signal) names → AtomInRange names atom
+ranged names atom zero' any = record { named = any; within = λ k d lt e. let low : atom.bit ≡ 0 = zero' in omega arith }
+
+request-named : AtomInRange made_names (value_of 0)
+request-named = ranged made_names (value_of 0) refl (0, record { text = codes "req"; signal = 0; left = 0; right = 0 }, omega arith, refl, refl)
+
+answer-named : AtomInRange made_names (value_of 1)
+answer-named = ranged made_names (value_of 1) refl (1, record { text = codes "ack"; signal = 1; left = 0; right = 0 }, omega arith, refl, refl)
+
+-- what the formula has, the directives have
+of-answered : (P : Formula → Type 0) (unit : List Directive) → AreAnswered unit → P answered → All (λ directive. P (formula_of directive.formula)) unit
+of-answered P unit (directive, is, answers) h =
+    subst (All (λ (d : Directive). P (formula_of d.formula))) (sym is)
+    (one-all (λ (d : Directive). P (formula_of d.formula)) directive (subst P (sym answers.formula) h))
+
 -- the atoms of the directive are those of the names
-pub answered-in-range : (names : List _) (unit : List Directive) → names ≡ made_names → AreAnswered unit → All (λ directive. AtomsOf (AtomInRange names) (formula_of directive.formula)) unit
-answered-in-range names unit named (directive, is, answers) =
-    subst (λ (all : List _). All (λ (d : Directive). AtomsOf (AtomInRange all) (formula_of d.formula)) unit) (sym named)
-    (subst (All (λ (d : Directive). AtomsOf (AtomInRange made_names) (formula_of d.formula))) (sym is)
-    (one-all (λ (d : Directive). AtomsOf (AtomInRange made_names) (formula_of d.formula)) directive (subst (λ (f : Formula). AtomsOf (AtomInRange made_names) f) (sym answers.formula) (tt, (bit-ranged made_names (codes "req") (value_of 0) refl, bit-ranged made_names (codes "ack") (value_of 1) refl)))))
+pub answered-in-range : (names : List Name) (unit : List Directive) → names ≡ made_names → AreAnswered unit → All (λ directive. AtomsOfFormula (AtomInRange names) (formula_of directive.formula)) unit
+answered-in-range names unit named answers =
+    subst (λ (all : List Name). All (λ (d : Directive). AtomsOfFormula (AtomInRange all) (formula_of d.formula)) unit) (sym named)
+    (of-answered (AtomsOfFormula (AtomInRange made_names)) unit answers (tt, (request-named, answer-named)))
+
+pub answered-small : (unit : List Directive) → AreAnswered unit → All (λ directive. formula_size (formula_of directive.formula) ≤ 4096) unit
+answered-small unit answers = of-answered (λ f. formula_size f ≤ 4096) unit answers (omega arith)
 
 pub made-verdicts : (seed samples : ℕ) (recording : Sampled) (unit : List Directive) (verdicts : List Verdict) → samples ≤ sample_limit → recording ≡ made_sampled seed samples
     → AreAnswered unit → AreVerdicts (letters_of recording) unit verdicts → AreMade seed samples verdicts

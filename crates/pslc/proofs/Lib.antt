@@ -1,8 +1,10 @@
+pub mod Alike
 pub mod Completing
 pub mod Ending
 pub mod Generating
-pub mod NamedBits
 pub mod OneAnswer
+pub mod Reasons
 pub mod Recordings
+pub mod SameUnits
 pub mod Staging
 pub mod Waving

@@ -6,7 +6,7 @@ use Rattle.psl_base.specs.Places.{file_limit}
 use Rattle.psl_base.specs.Shelf.{Contents, ShelfState, OnlyReads, IsContent, IsLonger, ReadingFails, Tells}
 use Rattle.psl_base.specs.declared.place.Place.{Place}
 use Rattle.pslc.specs.Faults.{fault_in, of_file, of_none}
-use Rattle.pslc.specs.Stages.{SpeaksOfFile, Then, OfContent, OfFile, Cause, OfWords, OfReading, OfWriting, OfText, OfMemory, cause_of, OfTold, HasCause, Gives, Refuses, IsOfFile, IsOfFileOrMemory, IsCounted, LoadFails, for_memory, unread, longer, IsTextFault, TextFails}
+use Rattle.pslc.specs.Stages.{SpeaksOfFile, AndThen, Then, ToldBy, OfContent, OfFile, Cause, OfWords, OfReading, OfWriting, OfText, OfMemory, cause_of, OfTold, HasCause, Gives, Refuses, IsOfFile, IsOfFileOrMemory, IsCounted, LoadFails, for_memory, unread, longer, IsTextFault, TextFails}
 use Rattle.pslc.specs.declared.outcome.Fault.{Fault}
 use Rattle.pslc.specs.declared.outcome.Reason.{Reason}
 use Rattle.pslc.specs.declared.outcome.Reason.TheVariants.{ReadFault, TooLong, NoMemory}
@@ -83,12 +83,44 @@ result-refuses Reading name old new bytes (Ok _) is le h = tt
 result-refuses Reading name old new bytes (Err fault) is le h = read-refuses Reading name old new bytes fault is le h
 
 -- what is told of a fault, by its reason and its place
+abbrev pub IsTold : {F : Type 0} → List ℕ → (F → Reason) → (F → Option Place) → F → Fault → Type 0
+IsTold name reason place cause fault = (fault ≡ of_none NoMemory) ⊎ ((reason cause ≢ NoMemory) × (fault ≡ fault_in name (reason cause) (place cause)))
+
 pub told-cause : {F : Type 0} (name : List ℕ) (reason : F → Reason) (place : F → Option Place) (cause : F) (fault : Fault) (r : Reason) (p : Option Place)
-    → r ≡ reason cause → p ≡ place cause → (fault ≡ of_none NoMemory) ⊎ ((r ≢ NoMemory) × (fault ≡ fault_in name r p))
-    → (fault ≡ of_none NoMemory) ⊎ ((reason cause ≢ NoMemory) × (fault ≡ fault_in name (reason cause) (place cause)))
+    → r ≡ reason cause → p ≡ place cause → (fault ≡ of_none NoMemory) ⊎ ((r ≢ NoMemory) × (fault ≡ fault_in name r p)) → IsTold name reason place cause fault
 told-cause name reason place cause fault r p er ep (inl e) = inl e
 told-cause name reason place cause fault r p er ep (inr (other, e)) =
     inr (λ h. other (er ∙ h), e ∙ ap (λ x. fault_in name x p) er ∙ ap (λ y. fault_in name (reason cause) y) ep)
+
+-- a fault that was told is what the reading refuses
+pub told-fails : {A F : Type 0} (name : List ℕ) (reason : F → Reason) (place : F → Option Place) (IsValue : A → Type 0) (IsFault : F → Type 0) (cause : F) (fault : Fault)
+    → IsFault cause → ((reason cause ≢ NoMemory) → cause_of (reason cause) ≡ OfText) → IsTold name reason place cause fault
+    → TextFails name (λ f. ToldBy name reason place IsValue IsFault (Err f)) fault
+told-fails name reason place IsValue IsFault cause fault is text (inl e) = inl e
+told-fails name reason place IsValue IsFault cause fault is text (inr (other, e)) = inr record {
+  cause = ap (λ (f : Fault). cause_of f.reason) e ∙ text other;
+  file = ap (λ (f : Fault). f.file) e;
+  refusal = (cause, is, other, e);
+}
+
+-- one reading after the other
+module _ {A B : Type 0} (First : Result A Fault → Type 0) (Next : A → Result B Fault → Type 0) where
+  pub first-fails : (name : List ℕ) (fault : Fault) → TextFails name (λ f. First (Err f)) fault → TextFails name (λ f. AndThen First Next (Err f)) fault
+  first-fails name fault (inl e) = inl e
+  first-fails name fault (inr t) = inr record { cause = t.cause; file = t.file; refusal = inl (fault, t.refusal, refl) }
+
+  next-fails : (name : List ℕ) (a : A) (fault : Fault) → First (Ok a) → TextFails name (λ f. Next a (Err f)) fault → TextFails name (λ f. AndThen First Next (Err f)) fault
+  next-fails name a fault h (inl e) = inl e
+  next-fails name a fault h (inr t) = inr record { cause = t.cause; file = t.file; refusal = inr (a, h, t.refusal) }
+
+  pub result-fails : (name : List ℕ) (a : A) (result : Result B Fault) → First (Ok a) → IfErr result (λ fault. TextFails name (λ f. Next a (Err f)) fault)
+      → IfErr result (λ fault. TextFails name (λ f. AndThen First Next (Err f)) fault)
+  result-fails name a (Ok _) h k = tt
+  result-fails name a (Err fault) h k = next-fails name a fault h k
+
+  pub result-gives : (a : A) (result : Result B Fault) → First (Ok a) → IfOk result (λ b. Next a (Ok b)) → IfOk result (λ b. AndThen First Next (Ok b))
+  result-gives a (Ok b) h k = inr (a, h, k)
+  result-gives a (Err _) h k = tt
 
 -- what a stage that reads no file refuses
 pub text-stage-refuses : {A : Type 0} (Stage : Contents → Result A Fault → Type 0) (name : List ℕ) (old new : ShelfState) (fault : Fault)

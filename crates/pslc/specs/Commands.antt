@@ -6,10 +6,11 @@ use Rattle.psl_base.specs.Shelf.{Contents}
 use Rattle.pslc.specs.Faults.{of_none, fault_of}
 use Rattle.pslc.specs.Generated.{GeneratedStage}
 use Rattle.pslc.specs.Stages.{Then, IsOfFile}
-use Rattle.pslc.specs.Waves.{WaveStage}
+use Rattle.pslc.specs.Waves.{WaveStage, ShowStage}
 use Rattle.pslc.specs.declared.outcome.Fault.{Fault}
+use Rattle.pslc.specs.declared.outcome.Line.{Line}
 use Rattle.pslc.specs.declared.outcome.Outcome.{Outcome}
-use Rattle.pslc.specs.declared.outcome.Outcome.TheVariants.{Nothing, Wave}
+use Rattle.pslc.specs.declared.outcome.Outcome.TheVariants.{Nothing, Wave, Shown}
 use Rattle.pslc.specs.declared.outcome.Reason.TheVariants.{Usage, WriteFault, NoMemory}
 use Rattle.vcd_reader.specs.Rules.{sample_limit}
 use Rattle.wave_judge.specs.declared.verdict.Verdict.{Verdict}
@@ -18,6 +19,10 @@ use Rattle.wave_judge.specs.declared.verdict.Verdict.{Verdict}
 abbrev pub IsWave : List (List ℕ) → List ℕ → List ℕ → Type 0
 IsWave words unit recording = IsCommand sample_limit words (meaning.wave unit recording)
 
+-- the words are `show UNIT NAMES`
+abbrev pub IsShow : List (List ℕ) → List ℕ → List ℕ → Type 0
+IsShow words unit names = IsCommand sample_limit words (meaning.show unit names)
+
 -- the words are `gen SEED SAMPLES`, a seed below 2^31 and a number of samples from 1 to the limit
 abbrev pub IsGen : List (List ℕ) → ℕ → ℕ → Type 0
 IsGen words seed samples = IsCommand sample_limit words (meaning.gen seed samples)
@@ -25,18 +30,23 @@ IsGen words seed samples = IsCommand sample_limit words (meaning.gen seed sample
 -- the words are no command
 pub record IsNoCommand (words : List (List ℕ)) : Type 0 where
   pub no_wave : (unit recording : List ℕ) → IsWave words unit recording → ⊥
+  pub no_show : (unit names : List ℕ) → IsShow words unit names → ⊥
   pub no_gen : (seed samples : ℕ) → IsGen words seed samples → ⊥
 
--- the last stage: verdicts are the outcome
+-- the last stage: verdicts are the outcome, or lines are
 abbrev pub Waved : List Verdict → Contents → Result Outcome Fault → Type 0
 Waved verdicts files result = result ≡ Ok (Wave verdicts)
+
+abbrev pub LinesShown : List Line → Contents → Result Outcome Fault → Type 0
+LinesShown lines files result = result ≡ Ok (Shown lines)
 
 -- what the words give over contents: an outcome, or the first refusal
 abbrev pub CommandStage : List (List ℕ) → Contents → Result Outcome Fault → Type 0
 CommandStage words files result =
     (IsNoCommand words × (result ≡ Err (of_none Usage)))
     ⊎ (((unit recording : List ℕ) × IsWave words unit recording × Then (WaveStage unit recording) Waved files result)
-    ⊎ ((seed samples : ℕ) × IsGen words seed samples × GeneratedStage seed samples result))
+    ⊎ (((unit names : List ℕ) × IsShow words unit names × Then (ShowStage unit names) LinesShown files result)
+    ⊎ ((seed samples : ℕ) × IsGen words seed samples × GeneratedStage seed samples result)))
 
 -- the first refusal of words over contents, or that there is none
 abbrev pub FirstRefusal : List (List ℕ) → Contents → Option Fault → Type 0
@@ -52,4 +62,5 @@ IsOutcomeOf words files outcome = CommandStage words files (Ok outcome)
 abbrev pub IsNamed : List (List ℕ) → Fault → Type 0
 IsNamed words fault =
     (fault ≡ of_none Usage) ⊎ ((fault ≡ of_none WriteFault) ⊎ ((fault ≡ of_none NoMemory)
-    ⊎ ((unit recording : List ℕ) × IsWave words unit recording × (IsOfFile unit fault ⊎ IsOfFile recording fault))))
+    ⊎ (((unit recording : List ℕ) × IsWave words unit recording × (IsOfFile unit fault ⊎ IsOfFile recording fault))
+    ⊎ ((unit names : List ℕ) × IsShow words unit names × (IsOfFile unit fault ⊎ IsOfFile names fault)))))

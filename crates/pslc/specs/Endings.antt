@@ -9,9 +9,9 @@ use Rattle.pslc.specs.Stages.{Cause, OfWriting, cause_of, OfTold, HasCause}
 use Rattle.pslc.specs.Text.{text_of, line_of}
 use Rattle.pslc.specs.declared.outcome.Fault.{Fault}
 use Rattle.pslc.specs.declared.outcome.Outcome.{Outcome}
-use Rattle.pslc.specs.declared.outcome.Outcome.TheVariants.{Nothing, Wave, Made}
+use Rattle.pslc.specs.declared.outcome.Outcome.TheVariants.{Nothing, Wave, Shown, Made}
 use Rattle.pslc.specs.declared.outcome.Reason.{Reason}
-use Rattle.pslc.specs.declared.outcome.Reason.TheVariants.{Usage, ReadFault, WriteFault, TooLong, NoMemory, TooManySamples, TooManySignals}
+use Rattle.pslc.specs.declared.outcome.Reason.TheVariants.{Usage, ReadFault, WriteFault, TooLong, NoMemory, TooLarge, SereTooLarge, AutomatonTooLarge, NestedTooDeep, StatementTooLong, TooManySamples, TooManySignals}
 use Rattle.wave_judge.specs.declared.verdict.Verdict.{Verdict}
 
 -- a cover may be neutral no
@@ -31,6 +31,7 @@ verdicts_status verdicts = if list_all passes verdicts then 0 else 1
 abbrev pub outcome_status : Outcome → ℕ
 outcome_status Nothing = 0
 outcome_status (Wave verdicts) = verdicts_status verdicts
+outcome_status (Shown lines) = 0
 outcome_status (Made seed samples bytes verdicts) = verdicts_status verdicts
 
 -- 2 for the words, 3 for reading, 4 for writing, 7 for a limit, 8 for memory, and 5 for the other faults of a text
@@ -39,6 +40,11 @@ reason_status Usage = 2
 reason_status ReadFault = 3
 reason_status WriteFault = 4
 reason_status TooLong = 7
+reason_status TooLarge = 7
+reason_status SereTooLarge = 7
+reason_status AutomatonTooLarge = 7
+reason_status NestedTooDeep = 7
+reason_status StatementTooLong = 7
 reason_status TooManySamples = 7
 reason_status TooManySignals = 7
 reason_status NoMemory = 8

@@ -3,8 +3,6 @@ pub mod Commands
 pub mod Endings
 pub mod Faults
 pub mod Generated
-pub mod Kernel
-pub mod Names
 pub mod Stages
 pub mod Text
 pub mod Waves

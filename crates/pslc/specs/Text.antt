@@ -5,10 +5,11 @@ use Rattle.psl_base.specs.declared.place.Place.{Place}
 use Rattle.psl_tree.specs.declared.directive.Kind.{Kind}
 use Rattle.psl_tree.specs.declared.directive.Kind.TheVariants.{Assert, Assume, Cover}
 use Rattle.pslc.specs.declared.outcome.Fault.{Fault}
+use Rattle.pslc.specs.declared.outcome.Line.{Line}
 use Rattle.pslc.specs.declared.outcome.Outcome.{Outcome}
-use Rattle.pslc.specs.declared.outcome.Outcome.TheVariants.{Nothing, Wave, Made}
+use Rattle.pslc.specs.declared.outcome.Outcome.TheVariants.{Nothing, Wave, Shown, Made}
 use Rattle.pslc.specs.declared.outcome.Reason.{Reason}
-use Rattle.pslc.specs.declared.outcome.Reason.TheVariants.{Usage, ReadFault, WriteFault, TooLong, NoMemory, UnknownKeyword, MissingEnd, BadVar, CodeSizeDiffers, ScopeNotOpen, BadTime, TimeFalls, CodeNotDeclared, BadValue, VectorTooLong, ChangeBeforeDefinitionsEnd, EndsInside, TooManySamples, TooManySignals, NotYet}
+use Rattle.pslc.specs.declared.outcome.Reason.TheVariants.{Usage, ReadFault, WriteFault, TooLong, NoMemory, BadByte, Unended, NumberTooLarge, Syntax, Kind as KindFault, UnknownName, Ambiguous, DeclaredTwice, EmptyRange, ConstantTooWide, TooLarge, SereTooLarge, AutomatonTooLarge, NestedTooDeep, StatementTooLong, UnknownKeyword, MissingEnd, BadVar, CodeSizeDiffers, ScopeNotOpen, BadTime, TimeFalls, CodeNotDeclared, BadValue, VectorTooLong, ChangeBeforeDefinitionsEnd, EndsInside, TooManySamples, TooManySignals}
 use Rattle.wave_judge.specs.Levels.{level_of}
 use Rattle.wave_judge.specs.declared.verdict.Level.{Level}
 use Rattle.wave_judge.specs.declared.verdict.Level.TheVariants.{HoldsStrongly, Holds, Pending, Fails}
@@ -52,6 +53,10 @@ verdict_line verdict =
     ++ codes ", strong " ++ answer_word verdict.strong
     ++ codes ")" ++ line_feed
 
+-- the line of what a directive means
+abbrev pub meaning_line : Line → List ℕ
+meaning_line line = head line.kind line.number line.label ++ line.text ++ codes " obligations " ++ decimal line.obligations ++ line_feed
+
 -- the line that says what was made: from which seed, how many samples, in how many bytes
 abbrev pub made_line : ℕ → ℕ → ℕ → List ℕ
 made_line seed samples bytes = codes "gen " ++ decimal seed ++ codes " " ++ decimal samples ++ codes " bytes " ++ decimal bytes ++ line_feed
@@ -60,6 +65,7 @@ made_line seed samples bytes = codes "gen " ++ decimal seed ++ codes " " ++ deci
 abbrev pub text_of : Outcome → List ℕ
 text_of Nothing = []
 text_of (Wave verdicts) = flat_map verdict_line verdicts
+text_of (Shown lines) = flat_map meaning_line lines
 text_of (Made seed samples bytes verdicts) = made_line seed samples bytes ++ flat_map verdict_line verdicts
 
 -- a name, perhaps with a place, and what is said of it
@@ -74,8 +80,22 @@ fault_words Usage = codes "usage: pslc wave|prove|check|show|gen ARGUMENTS"
 fault_words ReadFault = codes "read fault"
 fault_words WriteFault = codes "write fault"
 fault_words TooLong = codes "TooLong"
-fault_words NotYet = codes "not yet"
 fault_words NoMemory = codes "no memory"
+fault_words BadByte = codes "1 BadByte"
+fault_words Unended = codes "2 Unended"
+fault_words NumberTooLarge = codes "3 NumberTooLarge"
+fault_words Syntax = codes "5 Syntax"
+fault_words KindFault = codes "6 Kind"
+fault_words UnknownName = codes "7 UnknownName"
+fault_words Ambiguous = codes "8 Ambiguous"
+fault_words DeclaredTwice = codes "9 DeclaredTwice"
+fault_words EmptyRange = codes "10 EmptyRange"
+fault_words ConstantTooWide = codes "11 ConstantTooWide"
+fault_words TooLarge = codes "12 TooLarge"
+fault_words SereTooLarge = codes "13 SereTooLarge"
+fault_words AutomatonTooLarge = codes "14 AutomatonTooLarge"
+fault_words NestedTooDeep = codes "16 NestedTooDeep"
+fault_words StatementTooLong = codes "17 StatementTooLong"
 fault_words UnknownKeyword = codes "V1 UnknownKeyword"
 fault_words MissingEnd = codes "V2 MissingEnd"
 fault_words BadVar = codes "V3 BadVar"

@@ -112,7 +112,7 @@ fn status_of_outcome(outcome: &Outcome) -> u8
     ensures { result ≡ outcome_status outcome.now }
 {
     match outcome {
-        Outcome::Nothing => 0,
+        Outcome::Nothing | Outcome::Shown(_) => 0,
         Outcome::Wave(verdicts) | Outcome::Made(_, _, _, verdicts) => {
             status_of_verdicts(verdicts.as_slice())
         }
@@ -145,7 +145,14 @@ fn status_of_reason(reason: Reason) -> u8
         Reason::Usage => 2,
         Reason::ReadFault => 3,
         Reason::WriteFault => 4,
-        Reason::TooLong | Reason::TooManySamples | Reason::TooManySignals => 7,
+        Reason::TooLong
+        | Reason::TooLarge
+        | Reason::SereTooLarge
+        | Reason::AutomatonTooLarge
+        | Reason::NestedTooDeep
+        | Reason::StatementTooLong
+        | Reason::TooManySamples
+        | Reason::TooManySignals => 7,
         Reason::NoMemory => 8,
         _ => 5,
     }

@@ -1,16 +1,15 @@
 ghost use Rattle.std.specs.Prelude.{◌≡◌, ◌≤◌, length, codes, IfOk, IfErr, Ok, Some};
 ghost use Rattle.psl_base.specs.Files.{content_of};
-ghost use Rattle.psl_tree.specs.Trees.{formula_of};
 ghost use Rattle.pslc.specs.Faults.{of_none};
 ghost use Rattle.pslc.specs.Generated.{AreMade, AreAnswered, GeneratedStage, answered, value_of};
 ghost use Rattle.recording_maker.specs.Made.{made_text, made_sampled};
 ghost use Rattle.vcd_reader.specs.Rules.{sample_limit};
 
 use crate::outcome::{Fault, Outcome, Reason};
-use crate::sugar::{always, implication, next_strong};
 use crate::telling::of_none;
-use psl_base::{Bytes, File, Files, MemShelf, NoMemory, Numbers, Text};
-use psl_tree::{Atom, Bool, Directive, Edge, Fl, Kind, Unit};
+use psl_base::{Bytes, File, Files, MemShelf, NoMemory, Numbers, Place, Text};
+use psl_sugar::{MeasuredBool, MeasuredFl, Strength, SugarFault};
+use psl_tree::{Atom, Directive, Edge, Kind, Unit};
 use recording_maker::make_recording;
 use std::alloc::Global;
 use vcd_reader::{Recording, read_vcd};
@@ -38,7 +37,11 @@ fn judge_made(alloc: Global, seed: u32, samples: u32) -> Result<(u64, Verdicts),
     let bytes = text.len() as u64;
     let recording = read_made(alloc, text, seed, samples)?;
     let directives = answered_unit(alloc)?;
-    Ok((bytes, judge(alloc, &directives, &recording)?))
+    match judge(alloc, &directives, &recording) {
+        Ok(verdicts) => Ok((bytes, verdicts)),
+        // The automaton is small: memory alone can be wanted.
+        Err(_) => Err(NoMemory),
+    }
 }
 
 /// Reads a made recording from a shelf in memory.
@@ -72,24 +75,28 @@ fn answered_unit(alloc: Global) -> Result<Unit, NoMemory>
     ensures { IfOk result (λ unit. AreAnswered unit) }
 {
     let mut unit = Unit::new(alloc);
+    // The formula is small: memory alone can be wanted.
+    let Ok(formula) = answered(alloc) else {
+        return Err(NoMemory);
+    };
     unit.push(Directive {
         number: 1,
         kind: Kind::Assert,
         label: None,
-        formula: answered(alloc)?,
+        place: Place { line: 1, column: 1 },
+        formula: formula.into_tree(),
     })?;
     Ok(unit)
 }
 
 /// `always (req -> next! ack)`
-fn answered(alloc: Global) -> Result<Fl, NoMemory>
-    ensures { IfOk result (λ formula. formula_of formula ≡ answered) }
+fn answered(alloc: Global) -> Result<MeasuredFl, SugarFault>
+    ensures { IfOk result (λ formula. formula ≡ answered) }
 {
-    let next = next_strong(alloc, Fl::Now(Bool::Test(value_of(1))))?;
-    always(
-        alloc,
-        implication(alloc, Fl::Now(Bool::Test(value_of(0))), next)?,
-    )
+    let request = MeasuredFl::now(MeasuredBool::test(value_of(0)))?;
+    let answer = MeasuredFl::now(MeasuredBool::test(value_of(1)))?;
+    let answered = request.implication(alloc, answer.next(alloc, Strength::Strong)?)?;
+    answered.always(alloc)
 }
 
 /// The value of a signal of one bit.

@@ -1,14 +1,15 @@
 //! `pslc`: judges assertions of the Property Specification Language (IEEE 1850) on recorded waves.
 #![tactic(auto)]
 
+mod causes;
+mod directives;
 mod finish;
 mod generated;
-mod names;
+mod inputs;
 mod outcome;
 mod report;
-mod resolve;
 mod sampled;
-mod sugar;
+mod show;
 mod telling;
 #[cfg(test)]
 mod tests;

@@ -1,4 +1,5 @@
-use psl_base::{Place, Text};
+use psl_base::{Items, Place, Text};
+use psl_tree::Kind;
 use wave_judge::Verdicts;
 
 /// What a run found out.
@@ -7,10 +8,28 @@ pub enum Outcome {
     Nothing,
     /// `wave`: the verdicts on a recording.
     Wave(Verdicts),
+    /// `show`: what the directives of a text mean.
+    Shown(Lines),
     /// `gen`: the seed, how many samples the made recording has, how many bytes its text has, and the
     /// verdicts on it.
     Made(u64, u32, u64, Verdicts),
 }
+
+/// What a directive means.
+#[derive(Debug, Drop)]
+pub struct Line {
+    /// Its number in the text, counted from 1.
+    pub number: u32,
+    pub kind: Kind,
+    pub label: Option<Text>,
+    /// The canonical text of its formula.
+    pub text: Text,
+    /// How many obligations its formula counts where its clocks are rewritten away; 2^64 - 1 where it counts more.
+    pub obligations: u64,
+}
+
+/// What directives mean, in order.
+pub type Lines = Items<Line>;
 
 /// Why a run ended without an outcome, or could not write it.
 #[derive(Clone, Copy, Debug, PartialEq, Eq)]
@@ -23,10 +42,39 @@ pub enum Reason {
     WriteFault,
     /// A file is longer than 268,435,456 bytes.
     TooLong,
-    /// A text has a form that is not read yet.
-    NotYet,
     /// The allocator refused memory.
     NoMemory,
+
+    /// A byte of a text that begins no token.
+    BadByte,
+    /// A comment, string, escaped name or constant of a text that does not end.
+    Unended,
+    /// A number of a text past 2^64 - 1, or a constant that does not fit its size.
+    NumberTooLarge,
+    /// A token with which a text begins no text of the grammar.
+    Syntax,
+    /// An operand of a kind that is not accepted there.
+    Kind,
+    /// A path that nothing matches, or an index out of range.
+    UnknownName,
+    /// A path that several signals match.
+    Ambiguous,
+    /// A name or the default clock that is declared twice.
+    DeclaredTwice,
+    /// A range whose second number is below its first, or a count of 0 that begins at 1.
+    EmptyRange,
+    /// A constant that needs more bits than it is compared with.
+    ConstantTooWide,
+    /// A directive whose formula has more than 4,096 constructors.
+    TooLarge,
+    /// A directive with a sequence of more than 1,024 states.
+    SereTooLarge,
+    /// A directive of more than 2,048 obligations.
+    AutomatonTooLarge,
+    /// The bracket that opens a 65th level in one statement.
+    NestedTooDeep,
+    /// The 2,049th token of a statement.
+    StatementTooLong,
 
     /// A keyword of a recording that may not stand there.
     UnknownKeyword,

@@ -1,8 +1,8 @@
 ghost use Rattle.std.specs.Prelude.{◌≡◌, ◌++◌, IfOk, OnOk, decimal};
 ghost use Rattle.std.specs.List.{flat_map};
-ghost use Rattle.pslc.specs.Text.{text_of, line_of, made_line, verdict_line, head, label_part, kind_word, level_words, answer_word, about, fault_words};
+ghost use Rattle.pslc.specs.Text.{text_of, line_of, made_line, meaning_line, verdict_line, head, label_part, kind_word, level_words, answer_word, about, fault_words};
 
-use crate::outcome::{Fault, Outcome, Reason};
+use crate::outcome::{Fault, Line, Outcome, Reason};
 use itoa::Buffer;
 use psl_base::{Bytes, NoMemory, Place, Text};
 use psl_tree::Kind;
@@ -17,6 +17,7 @@ pub fn report(alloc: Global, outcome: &Outcome) -> Result<Bytes, NoMemory>
     match outcome {
         Outcome::Nothing => {}
         Outcome::Wave(verdicts) => add_verdicts(&mut text, verdicts.as_slice())?,
+        Outcome::Shown(lines) => add_meanings(&mut text, lines.as_slice())?,
         Outcome::Made(seed, samples, bytes, verdicts) => {
             add_made(&mut text, *seed, *samples, *bytes)?;
             add_verdicts(&mut text, verdicts.as_slice())?;
@@ -74,8 +75,22 @@ pub fn words_of(reason: Reason) -> &'static [u8]
         Reason::ReadFault => b"read fault",
         Reason::WriteFault => b"write fault",
         Reason::TooLong => b"TooLong",
-        Reason::NotYet => b"not yet",
         Reason::NoMemory => b"no memory",
+        Reason::BadByte => b"1 BadByte",
+        Reason::Unended => b"2 Unended",
+        Reason::NumberTooLarge => b"3 NumberTooLarge",
+        Reason::Syntax => b"5 Syntax",
+        Reason::Kind => b"6 Kind",
+        Reason::UnknownName => b"7 UnknownName",
+        Reason::Ambiguous => b"8 Ambiguous",
+        Reason::DeclaredTwice => b"9 DeclaredTwice",
+        Reason::EmptyRange => b"10 EmptyRange",
+        Reason::ConstantTooWide => b"11 ConstantTooWide",
+        Reason::TooLarge => b"12 TooLarge",
+        Reason::SereTooLarge => b"13 SereTooLarge",
+        Reason::AutomatonTooLarge => b"14 AutomatonTooLarge",
+        Reason::NestedTooDeep => b"16 NestedTooDeep",
+        Reason::StatementTooLong => b"17 StatementTooLong",
         Reason::UnknownKeyword => b"V1 UnknownKeyword",
         Reason::MissingEnd => b"V2 MissingEnd",
         Reason::BadVar => b"V3 BadVar",
@@ -103,6 +118,25 @@ fn add_made(text: &mut Vec<u8>, seed: u64, samples: u32, bytes: u64) -> Result<(
     add_number(text, samples as u64)?;
     add(text, b" bytes ")?;
     add_number(text, bytes)?;
+    add(text, b"\n")
+}
+
+fn add_meanings(text: &mut Vec<u8>, lines: &[Line]) -> Result<(), NoMemory>
+    ensures { OnOk result (text.new.items ≡ text.old.items ++ flat_map meaning_line lines.now) }
+{
+    for line in lines {
+        add_meaning(text, line)?;
+    }
+    Ok(())
+}
+
+fn add_meaning(text: &mut Vec<u8>, meaning: &Line) -> Result<(), NoMemory>
+    ensures { OnOk result (text.new.items ≡ text.old.items ++ meaning_line meaning.now) }
+{
+    add_head(text, meaning.kind, meaning.number, &meaning.label)?;
+    add(text, meaning.text.as_slice())?;
+    add(text, b" obligations ")?;
+    add_number(text, meaning.obligations)?;
     add(text, b"\n")
 }
 

@@ -3,8 +3,9 @@ ghost use Rattle.psl_base.specs.Shelf.{OnlyReads};
 ghost use Rattle.pslc.specs.Stages.{Gives, Refuses, IsOfFileOrMemory, IsCounted};
 ghost use Rattle.pslc.specs.Waves.{RecordingStage};
 
+use crate::causes::{vcd_place, vcd_reason};
 use crate::outcome::Fault;
-use crate::telling::{told, vcd_place, vcd_reason};
+use crate::telling::told;
 use psl_base::Shelf;
 use std::alloc::Global;
 use vcd_reader::{Recording, read_vcd};

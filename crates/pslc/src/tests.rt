@@ -143,16 +143,16 @@ const ROWS: [Row<'static>; 16] = [
         text: "assert eventually! b;",
         names: NAMES,
         body: Some("#0\n1!\n0\"\n#1\n0!\n1\"\n"),
-        out: "",
-        err: "pslc: u.psl: not yet\n",
-        status: 5,
+        out: "assert 1: holds strongly (weak yes, neutral yes, strong yes)\n",
+        err: "",
+        status: 0,
     },
     Row {
-        text: "assert eventually! b;",
+        text: "assert eventually! ;",
         names: NAMES,
         body: None,
         out: "",
-        err: "pslc: u.psl: not yet\n",
+        err: "pslc: u.psl:1:20: 5 Syntax\n",
         status: 5,
     },
     Row {
@@ -168,7 +168,7 @@ const ROWS: [Row<'static>; 16] = [
         names: NAMES,
         body: Some("#0\n1!\n0\"\n"),
         out: "",
-        err: "pslc: u.psl: not yet\n",
+        err: "pslc: u.psl:1:27: 7 UnknownName\n",
         status: 5,
     },
     Row {
@@ -208,16 +208,16 @@ const ROWS: [Row<'static>; 16] = [
         names: TWICE,
         body: Some("#0\n1!\n"),
         out: "",
-        err: "pslc: u.psl: not yet\n",
+        err: "pslc: u.psl:1:16: 8 Ambiguous\n",
         status: 5,
     },
     Row {
         text: "assert always (b -> next! b);",
         names: TWICE,
         body: Some("#0\n1!\n"),
-        out: "",
-        err: "pslc: u.psl: not yet\n",
-        status: 5,
+        out: "assert 1: holds (weak yes, neutral yes, strong no)\n",
+        err: "",
+        status: 0,
     },
 ];
 
@@ -239,10 +239,10 @@ fn words_that_are_no_command(rt: HostRuntime) -> Result<(), Fail> {
     let alloc = rt.alloc();
     let cases: [&[&str]; 10] = [
         &["wave", "u.psl", "-x"],
-        &["show", "u.psl", "r.vcd"],
+        &["show", "u.psl"],
         &["gen", "1"],
         &["gen", "2147483648", "7"],
-        &["gen", "1", "10001"],
+        &["gen", "1", "1000001"],
         &["wave", "u.psl"],
         &[],
         &["prove", "u.psl", "r.vcd"],
@@ -259,6 +259,27 @@ fn words_that_are_no_command(rt: HostRuntime) -> Result<(), Fail> {
         );
         assert_eq!(rt; (ran.status, ran.reason), (2, Some(Reason::Usage)));
     }
+    Ok(())
+}
+
+#[test]
+fn what_directives_mean(rt: HostRuntime) -> Result<(), Fail> {
+    let alloc = rt.alloc();
+    let words = words_of(alloc, &["show", "u.psl", "r.vcd"])?;
+    let ran = run_on(
+        alloc,
+        words.as_slice(),
+        "assert always a;",
+        NAMES,
+        Some("#0\n"),
+        &[],
+    )?;
+    assert_eq!(rt;
+        ran.out.bytes(),
+        b"assert 1: !((true) U (!(a))) obligations 5\n".as_slice()
+    );
+    assert_eq!(rt; ran.err.bytes(), b"".as_slice());
+    assert_eq!(rt; ran.status, 0);
     Ok(())
 }
 

@@ -11,14 +11,13 @@ use crate::finish::{Planned, finish};
 use crate::generated::generate;
 use crate::outcome::{Fault, Outcome, Reason, Report};
 use crate::report::report;
+use crate::show::show;
 use crate::telling::of_none;
 use crate::wave::wave;
 use command_words::{Command, WordsFault, read_words};
 use psl_base::{Shelf, Sink};
 use std::alloc::Global;
-
-/// How many samples a recording has at most.
-const SAMPLE_LIMIT: u32 = 10_000;
+use vcd_reader::SAMPLE_LIMIT;
 
 /// Runs the command that the words after the program's name give. It reads files, prints what it finds
 /// out on `out` or a fault's line on `err`, and tells how it ended.
@@ -41,7 +40,7 @@ pub fn run<F: Shelf, O: Sink, E: Sink>(
     // The fault names the file that it is of.
     ensures named { IfSome result.fault (IsNamed (map string_bytes words.now)) }
 
-    // The verdicts are satisfaction of the sampled word in the three views.
+    // The verdicts are satisfaction of the sampled word in the three views, the lines what the directives mean.
     ensures outcome { OfTold (F.state files.old) (λ told. IsOutcomeOf (map string_bytes words.now) told result.outcome) }
 
     // Without a fault something was found out, and with one nothing, unless it is of writing.
@@ -104,7 +103,10 @@ fn command<F: Shelf>(alloc: Global, words: &[String], files: &mut F) -> Result<O
             Err(fault) => Err(fault),
         },
         Ok(Command::Gen { seed, samples }) => generate(alloc, seed, samples),
-        Ok(Command::Show { .. }) => Err(of_none(Reason::Usage)),
+        Ok(Command::Show { unit, names }) => match show(alloc, files, unit, names) {
+            Ok(lines) => Ok(Outcome::Shown(lines)),
+            Err(fault) => Err(fault),
+        },
         Err(WordsFault::Usage) => Err(of_none(Reason::Usage)),
         Err(WordsFault::NoMemory) => Err(of_none(Reason::NoMemory)),
     }

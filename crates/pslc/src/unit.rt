@@ -2,13 +2,15 @@ ghost use Rattle.std.specs.Prelude.{◌≡◌, ◌≤◌, length, Ok, Err, IfOk,
 ghost use Rattle.psl_base.specs.Places.{file_limit};
 ghost use Rattle.psl_base.specs.Shelf.{OnlyReads, IsContent};
 ghost use Rattle.pslc.specs.Stages.{Gives, Refuses, IsOfFileOrMemory, IsCounted, LoadFails, TextFails};
-ghost use Rattle.pslc.specs.Waves.{UnitReading, UnitStage};
+ghost use Rattle.pslc.specs.Waves.{TokensReading, TreeReading, UnitReading, UnitStage};
 
+use crate::causes::{lex_place, lex_reason, parse_place, parse_reason};
 use crate::outcome::{Fault, Reason};
 use crate::telling::{of_none, told};
 use psl_base::{Bytes, FILE_LIMIT, ReadAllFault, Shelf, read_all};
-use psl_first_form::{ParseFault, parse};
-use psl_tree::UnitTree;
+use psl_grammar::UnitTree;
+use psl_lexer::{Tokens, lex};
+use psl_parser::parse;
 use std::alloc::Global;
 
 /// The tree of the text in a file.
@@ -29,13 +31,41 @@ pub fn load_unit<F: Shelf>(alloc: Global, files: &mut F, name: &str) -> Result<U
 
 /// The tree of a text.
 fn parse_text(alloc: Global, text: &[u8], name: &str) -> Result<UnitTree, Fault>
+    requires { length text.now ≤ file_limit }
     ensures gives { IfOk result (λ tree. UnitReading name.now text.now (Ok tree)) }
     ensures refuses { IfErr result (λ fault. TextFails name.now (λ fault. UnitReading name.now text.now (Err fault)) fault) }
 {
-    match parse(alloc, text) {
+    let tokens = match tokens_of(alloc, text, name) {
+        Ok(tokens) => tokens,
+        Err(fault) => return Err(fault),
+    };
+    tree_of(alloc, text, &tokens, name)
+}
+
+/// The tokens of a text.
+fn tokens_of(alloc: Global, text: &[u8], name: &str) -> Result<Tokens, Fault>
+    requires { length text.now ≤ file_limit }
+    ensures gives { IfOk result (λ tokens. TokensReading name.now text.now (Ok tokens)) }
+    ensures refuses { IfErr result (λ fault. TextFails name.now (λ fault. TokensReading name.now text.now (Err fault)) fault) }
+{
+    match lex(alloc, text) {
+        Ok(tokens) => Ok(tokens),
+        Err(fault) => Err(told(alloc, name, lex_reason(fault), lex_place(fault))),
+    }
+}
+
+/// The tree of the tokens of a text.
+fn tree_of(alloc: Global, text: &[u8], tokens: &Tokens, name: &str) -> Result<UnitTree, Fault>
+    requires { length text.now ≤ file_limit }
+    ensures gives { IfOk result (λ tree. TreeReading name.now text.now tokens.now (Ok tree)) }
+    ensures refuses { IfErr result (λ fault. TextFails name.now (λ fault. TreeReading name.now text.now tokens.now (Err fault)) fault) }
+{
+    match parse(alloc, tokens) {
         Ok(tree) => Ok(tree),
-        Err(ParseFault::NotYet) => Err(told(alloc, name, Reason::NotYet, None)),
-        Err(ParseFault::NoMemory) => Err(of_none(Reason::NoMemory)),
+        Err(fault) => {
+            let place = parse_place(text, tokens, fault);
+            Err(told(alloc, name, parse_reason(fault), place))
+        }
     }
 }
 

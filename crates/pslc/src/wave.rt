@@ -1,15 +1,19 @@
-ghost use Rattle.std.specs.Prelude.{◌≡◌, ◌⊎◌, Ok, Err, IfOk, IfErr};
+ghost use Rattle.std.specs.Prelude.{◌≡◌, ◌≤◌, ◌⊎◌, All, Ok, Err, IfOk, IfErr};
 ghost use Rattle.psl_base.specs.Shelf.{OnlyReads};
+ghost use Rattle.psl_tree.specs.Atoms.{AtomsOfFormula};
+ghost use Rattle.psl_tree.specs.Counts.{formula_size};
+ghost use Rattle.psl_tree.specs.Names.{AtomInRange};
+ghost use Rattle.psl_tree.specs.Trees.{formula_of};
 ghost use Rattle.pslc.specs.Stages.{Gives, Refuses, IsOfFile, IsOfFileOrMemory, IsCounted, TextFails};
-ghost use Rattle.pslc.specs.Waves.{VerdictsReading, WaveStage};
+ghost use Rattle.pslc.specs.Waves.{JudgeReading, VerdictsReading, WaveStage};
 
-use crate::outcome::{Fault, Reason};
-use crate::resolve::{ResolveFault, resolve};
-use crate::sampled::load_recording;
-use crate::telling::{of_none, told};
-use crate::unit::load_unit;
+use crate::causes::{judge_place, judge_reason};
+use crate::directives::directives;
+use crate::inputs::{Inputs, load_inputs};
+use crate::outcome::Fault;
+use crate::telling::told;
 use psl_base::Shelf;
-use psl_tree::UnitTree;
+use psl_tree::Unit;
 use std::alloc::Global;
 use vcd_reader::Recording;
 use wave_judge::{Verdicts, judge};
@@ -28,34 +32,42 @@ pub fn wave<F: Shelf>(
     ensures counted { IfErr result (λ fault. IsCounted (F.state files.old) (F.state files.new) fault) }
     ensures kept { OnlyReads (F.state files.old) (F.state files.new) }
 {
-    let tree = match load_unit(alloc, files, unit) {
-        Ok(tree) => tree,
+    let inputs = match load_inputs(alloc, files, unit, recording) {
+        Ok(inputs) => inputs,
         Err(fault) => return Err(fault),
     };
-    let sampled = match load_recording(alloc, files, recording) {
-        Ok(sampled) => sampled,
-        Err(fault) => return Err(fault),
-    };
-    judge_tree(alloc, &tree, &sampled, unit)
+    verdicts(alloc, &inputs, unit)
 }
 
 /// The verdicts of a text on a recording.
-fn judge_tree(
+fn verdicts(alloc: Global, inputs: &Inputs, unit: &str) -> Result<Verdicts, Fault>
+    ensures gives { IfOk result (λ verdicts. VerdictsReading unit.now inputs.now (Ok verdicts)) }
+    ensures refuses { IfErr result (λ fault. TextFails unit.now (λ fault. VerdictsReading unit.now inputs.now (Err fault)) fault) }
+{
+    let directives = match directives(alloc, inputs, unit) {
+        Ok(directives) => directives,
+        Err(fault) => return Err(fault),
+    };
+    judged(alloc, &directives, &inputs.recording, unit)
+}
+
+/// The verdicts of directives on a recording.
+fn judged(
     alloc: Global,
-    tree: &UnitTree,
+    directives: &Unit,
     recording: &Recording,
     unit: &str,
 ) -> Result<Verdicts, Fault>
-    ensures gives { IfOk result (λ verdicts. VerdictsReading unit.now tree.now recording.now (Ok verdicts)) }
-    ensures refuses { IfErr result (λ fault. TextFails unit.now (λ fault. VerdictsReading unit.now tree.now recording.now (Err fault)) fault) }
+    requires in_range { All (λ directive. AtomsOfFormula (AtomInRange recording.now.names) (formula_of directive.formula)) directives.now }
+    requires small { All (λ directive. formula_size (formula_of directive.formula) ≤ 4096) directives.now }
+    ensures gives { IfOk result (λ verdicts. JudgeReading unit.now recording.now directives.now (Ok verdicts)) }
+    ensures refuses { IfErr result (λ fault. TextFails unit.now (λ fault. JudgeReading unit.now recording.now directives.now (Err fault)) fault) }
 {
-    let directives = match resolve(alloc, tree, recording.names()) {
-        Ok(directives) => directives,
-        Err(ResolveFault::NotYet) => return Err(told(alloc, unit, Reason::NotYet, None)),
-        Err(ResolveFault::NoMemory) => return Err(of_none(Reason::NoMemory)),
-    };
-    match judge(alloc, &directives, recording) {
+    match judge(alloc, directives, recording) {
         Ok(verdicts) => Ok(verdicts),
-        Err(_) => Err(of_none(Reason::NoMemory)),
+        Err(fault) => {
+            let place = judge_place(directives, fault);
+            Err(told(alloc, unit, judge_reason(fault), place))
+        }
     }
 }
