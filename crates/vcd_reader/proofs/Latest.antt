@@ -1,10 +1,11 @@
 -- The latest change of a track, by the place where the later ones begin.
-use Rattle.std.proofs.Common.{◌≡◌, ℕ, suc, zero, ◌-◌, ◌<◌, ◌≤◌, true, false, leb, List, [], ◌∷◌, length, get_or, Option, Some, refl, arith}
+use Rattle.std.proofs.Common.{◌≡◌, ◌∙◌, sym, ℕ, suc, zero, ◌-◌, ◌<◌, ◌≤◌, true, false, leb, List, [], ◌∷◌, length, get_or, Option, None, Some, refl, arith}
+use Rattle.std.proofs.lemmas.Bool.{le-leb, lt-leb}
+use Rattle.std.specs.Prelude.{slice_get}
 use Rattle.std.specs.List.{AllWithin}
-use native.Mathlib.Numerals.{unary_clauses}
-use Rattle.std.specs.List.Sorted.{IsPartitionPoint}
+use Rattle.std.specs.List.Sorted.{IsNonDecreasingBy, IsPartitionPoint}
 use Rattle.vcd_reader.specs.declared.track.Shot.{Shot}
-use Rattle.vcd_reader.specs.Shots.{latest_shot}
+use Rattle.vcd_reader.specs.Shots.{IsCount, last_of, latest_shot}
 
 -- the change before a place, or an older one
 abbrev pub before : Option Shot → ℕ → List Shot → Option Shot
@@ -28,9 +29,28 @@ latest_shot-before old m (suc i) (shot ∷ shots) within parted =
     rw first (latest_shot-before (Some shot) m i shots (omega arith)
     ((λ k d low high. parted.0 (suc k) d (omega arith) (omega arith)), (λ k d low high. parted.1 (suc k) d (omega arith) (omega arith))))
 
--- the change before a place that is not the first
-pub before-get_or : (old : Option Shot) (i : ℕ) (shots : List Shot) (d : Shot) → 0 < i → i ≤ length shots → before old i shots ≡ Some (get_or shots (i - 1) d)
-before-get_or old zero shots d some within = absurd (omega arith)
-before-get_or old (suc i) [] d some within = absurd (omega arith)
-before-get_or old (suc zero) (shot ∷ shots) d some within = refl
-before-get_or old (suc (suc i)) (shot ∷ shots) d some within = simp unary_clauses (simp unary_clauses at (before-get_or (Some shot) (suc i) shots d (omega arith) (omega arith)))
+-- the change before a place is the last of so many
+before-last_of : (old : Option Shot) (count : ℕ) (shots : List Shot) → count < length shots → before old (suc count) shots ≡ slice_get shots count
+before-last_of old count [] within = absurd (omega arith)
+before-last_of old zero (shot ∷ shots) within = refl
+before-last_of old (suc count) (shot ∷ shots) within = before-last_of (Some shot) count shots (omega arith)
+
+before-none : (count : ℕ) (shots : List Shot) → count ≤ length shots → before None count shots ≡ last_of count shots
+before-none zero shots within = refl
+before-none (suc count) shots within = before-last_of None count shots (omega arith)
+
+-- where the changes below a place pass the test and the others fail it, the place is their count
+pub counted : (begun count : ℕ) (shots : List Shot) → count ≤ length shots → IsPartitionPoint (λ shot. leb shot.begun begun ≡ true) (λ shot. leb shot.begun begun ≡ false) shots count → IsCount begun count shots
+counted begun count shots within parted = record {
+  within = within;
+  last = sym (before-none count shots within) ∙ sym (latest_shot-before None begun count shots within parted);
+}
+
+-- of changes in order it is enough to look at those on both sides of the place
+pub counted_there : (begun count : ℕ) (shots : List Shot) → IsNonDecreasingBy (λ (shot : Shot). shot.begun) shots → count ≤ length shots
+    → ((other : Shot) → 0 < count → (get_or shots (count - 1) other).begun ≤ begun)
+    → ((other : Shot) → count < length shots → begun < (get_or shots count other).begun) → IsCount begun count shots
+counted_there begun count shots ordered within early late = counted begun count shots within (
+  (λ k other low high. le-leb _ _ (let last = early other (omega arith) in let rises = ordered k (count - 1) other (omega arith) (omega arith) in omega arith)),
+  (λ k other low high. lt-leb _ _ (let first = late other (omega arith) in let rises = ordered count k other low high in omega arith)),
+)

@@ -1,5 +1,5 @@
 -- A recording as values at samples, and the letters that it stands for.
-use Rattle.std.specs.Prelude.{◌≡◌, ℕ, ◌+◌, ◌-◌, ◌==◌, nat_lt, Bool as Truth, false, not, ◌&&◌, ◌||◌, cond, List, [], ◌∷◌, map, length, slice_index, slice_index_or, filter, Option, None, Some}
+use Rattle.std.specs.Prelude.{ℕ, ◌-◌, ◌==◌, nat_lt, Bool as Truth, false, not, ◌&&◌, ◌||◌, cond, List, [], ◌∷◌, map, length, slice_index, slice_index_or, filter, Option, None, Some}
 use Rattle.std.specs.List.{range_with_len, flat_map}
 use Rattle.psl_tree.specs.declared.atom.Atom.{Atom}
 use Rattle.psl_tree.specs.declared.atom.Edge.{Edge}

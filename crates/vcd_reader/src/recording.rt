@@ -72,17 +72,29 @@ impl Recording {
         requires atom { AtomInRange self.now.names atom.now }
         ensures { result ≡ atom_at self.now sample atom.now }
     {
+        let mut hint = 0;
+        self.bit_near(sample, atom, &mut hint)
+    }
+
+    /// The same for one who asks of an atom at sample after sample: the hint, which any number may be at
+    /// first, becomes the place where the answer was found, and the next call looks there first. The
+    /// answer does not depend on it.
+    pub fn bit_near(&self, sample: u32, atom: &Atom, hint: &mut usize) -> bool
+        requires sample { sample < length self.now.samples }
+        requires atom { AtomInRange self.now.names atom.now }
+        ensures { result ≡ atom_at self.now sample atom.now }
+    {
         match atom.edge {
-            Edge::Value => self.is_one(sample, atom.signal, atom.bit),
+            Edge::Value => self.is_one(sample, atom.signal, atom.bit, hint),
             Edge::Rise => {
                 sample > 0
-                    && !self.is_one(sample - 1, atom.signal, atom.bit)
-                    && self.is_one(sample, atom.signal, atom.bit)
+                    && self.is_one(sample, atom.signal, atom.bit, hint)
+                    && !self.is_one(sample - 1, atom.signal, atom.bit, hint)
             }
             Edge::Fall => {
                 sample > 0
-                    && self.is_one(sample - 1, atom.signal, atom.bit)
-                    && !self.is_one(sample, atom.signal, atom.bit)
+                    && !self.is_one(sample, atom.signal, atom.bit, hint)
+                    && self.is_one(sample - 1, atom.signal, atom.bit, hint)
             }
         }
     }
@@ -103,13 +115,13 @@ impl Recording {
     }
 
     /// Whether a bit of a signal is 1 at a sample.
-    fn is_one(&self, sample: u32, signal: u32, bit: u32) -> bool
+    fn is_one(&self, sample: u32, signal: u32, bit: u32, hint: &mut usize) -> bool
         requires sample { sample < length self.now.samples }
         requires signal { Any (λ name. name.signal ≡ signal) self.now.names }
         ensures { result ≡ bit_at self.now sample signal bit }
     {
         let track = &self.tracks[signal as usize];
-        match track.at(sample + 1) {
+        match track.at(sample + 1, hint) {
             None => false,
             Some(shot) => one(letter(letters(self.bytes.as_slice(), shot), bit)),
         }
