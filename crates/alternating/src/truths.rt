@@ -1,4 +1,4 @@
-ghost use Rattle.std.specs.Prelude.{◌≡◌, ◌≤◌, ◌<◌, ◌*◌, ℕ, false, length, replicate, slice_set, IfOk};
+ghost use Rattle.std.specs.Prelude.{◌≡◌, ◌≤◌, ◌<◌, ◌*◌, ℕ, false, length, replicate, slice_set, IsTrue, IfOk};
 ghost use Rattle.alternating.specs.Packed.{is_set};
 ghost use Rattle.alternating.specs.Stepped.{value_at};
 
@@ -53,6 +53,13 @@ impl Truths {
     {
         let place = (q / 32) as usize;
         self.words[place] = with_bit(self.words[place], q % 32, value);
+    }
+
+    /// Whether two lists of values are equal.
+    pub fn same(&self, other: &Truths) -> bool
+        ensures { IsTrue result → self.now ≡ other.now }
+    {
+        self.count == other.count && self.words.as_slice() == other.words.as_slice()
     }
 
     /// The values as words: the bit of a number, the lowest of the first word first, is the value of

@@ -4,7 +4,7 @@ pub mod Firsts
 mod Holding
 pub mod Joining
 mod Latest
-mod Letters
+pub mod Letters
 mod Places
 mod Placing
 mod Rows

@@ -1,4 +1,5 @@
 pub mod Faults
 pub mod Samples
+pub mod Taken
 pub mod Tested
 pub mod Verdicts

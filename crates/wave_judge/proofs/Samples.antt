@@ -1,5 +1,5 @@
 -- The letters of a recording from a sample on, the packed letter of a sample, and a step back over it.
-use Rattle.std.proofs.Common.{◌≡◌, sym, ap, ◌∙◌, ℕ, suc, ◌+◌, ◌<◌, Bool as Truth, false, List, [], ◌∷◌, length, drop, get_or, arith, drop-cons}
+use Rattle.std.proofs.Common.{◌≡◌, sym, ap, subst, ◌∙◌, ℕ, suc, ◌+◌, ◌<◌, ◌≤◌, Bool as Truth, false, List, [], ◌∷◌, Option, length, drop, get_or, arith, drop-cons}
 use Rattle.std.specs.Prelude.{IsTrue}
 use Rattle.std.specs.List.{filter}
 use Rattle.std.proofs.lemmas.List.{drop_all, length-map, get_or-map}
@@ -17,9 +17,11 @@ use Rattle.alternating.specs.Packed.{is_set, PacksLetter}
 use Rattle.alternating.specs.Stepped.{value_at, values_of}
 use Rattle.wave_judge.specs.Packed.{TellsLetter}
 use Rattle.wave_judge.specs.Stepped.{StepsAll}
-use Rattle.wave_judge.specs.Valued.{HasLengths, AreValues, AreAnswers}
+use Rattle.wave_judge.specs.Taken.{AreSteps, LeadsBack}
+use Rattle.wave_judge.specs.Valued.{HasLengths, AreValues, AreAnswers, AreValuesAt}
+use Rattle.wave_judge.specs.declared.steps.Step.{Step}
 use Rattle.wave_judge.specs.declared.pass.Answers.{Answers}
-use Rattle.wave_judge.specs.declared.pass.Values.{Values}
+use Rattle.wave_judge.specs.declared.values.Values.{Values}
 
 length-letters : (r : Sampled) → length (letters_of r) ≡ length r.samples
 length-letters r = length-map-range_with_len (letter_at r) 0 (length r.samples)
@@ -60,18 +62,17 @@ pub record StandsAt (a : Automaton) (atoms : List Atom) (r : Sampled) (sample : 
   pub lengths : HasLengths a next
   pub letter_len : length letter ≡ length atoms
 
-pub begins : (a : Automaton) (atoms : List Atom) (r : Sampled) (sample : ℕ) (letter : List Truth) (next now : Values)
-    → sample ≡ length r.samples → length letter ≡ length atoms → AreValues a [] next → AreValues a [] now → StandsAt a atoms r sample letter next now
-begins a atoms r sample letter next now last e h k =
+-- past the recording, values on no letters are its values
+pub at_the_end : (a : Automaton) (r : Sampled) (sample : ℕ) (values : Values) → sample ≡ length r.samples → AreValues a [] values → AreValuesAt a r sample values
+at_the_end a r sample values last k =
     let none : drop sample (letters_of r) ≡ [] = ap (λ n. drop n (letters_of r)) last ∙ drop-past r in
     record {
-      values = record {
+      within = omega arith;
+      are = record {
         weak = k.weak ∙ ap (values_of a Tops) (sym none);
         neutral = k.neutral ∙ ap (values_of a Nothing) (sym none);
         strong = k.strong ∙ ap (values_of a Bottoms) (sym none);
       };
-      lengths = have_lengths a [] next h;
-      letter_len = e;
     }
 
 pub goes_back : (a : Automaton) (atoms : List Atom) (r : Sampled) (sample after : ℕ) (old letter : List Truth) (words : List ℕ) (before next now : Values)
@@ -96,15 +97,46 @@ goes_back a atoms r sample after old letter words before next now e lt tests sta
       letter_len = ap length packed ∙ length-map atoms (λ atom. holds (letter_at r sample) (Test atom));
     }
 
--- at the first sample the start's values are the answers
-pub answers : (a : Automaton) (atoms : List Atom) (r : Sampled) (sample : ℕ) (letter : List Truth) (next now : Values) (found : Answers)
-    → sample ≡ 0 → StandsAt a atoms r sample letter next now
+-- where a pass of kept steps stands at a sample
+pub record KeepsAt (a : Automaton) (atoms : List Atom) (r : Sampled) (sample : ℕ) (letter : List Truth) (values : List Values) (taken : List (Option Step)) (number : ℕ) : Type 0 where
+  pub steps : AreSteps a atoms values taken
+  pub within : number < length values
+  pub letter_len : length letter ≡ length atoms
+  pub here : (other : Values) → AreValuesAt a r sample (get_or values number other)
+
+pub keeps_back : (a : Automaton) (atoms : List Atom) (r : Sampled) (sample after : ℕ) (old letter : List Truth) (words : List ℕ) (before now : List Values) (was taken : List (Option Step)) (from to : ℕ)
+    → after ≡ sample + 1 → sample < length r.samples
+    → AtomsOfObligations (λ atom. IsTrue (is_among atoms atom)) a.obligations
+    → KeepsAt a atoms r after old before was from
+    → TellsLetter atoms (letter_at r sample) letter
+    → ((number : ℕ) → number < length letter → is_set words number ≡ value_at letter number)
+    → AreSteps a atoms now taken → LeadsBack a atoms words before from now to → KeepsAt a atoms r sample letter now taken to
+keeps_back a atoms r sample after old letter words before now was taken from to e lt tests keeps packed bits steps leads = record {
+  steps = steps;
+  within = leads.within;
+  letter_len = ap length packed ∙ length-map atoms (λ atom. holds (letter_at r sample) (Test atom));
+  here = λ other.
+      let lengths = keeps.steps.lengths from other keeps.within in
+      let stands : StandsAt a atoms r after old (get_or before from other) (get_or before from other) = record { values = (keeps.here other).are; lengths = lengths; letter_len = keeps.letter_len } in
+      record {
+        within = omega arith;
+        are = (goes_back a atoms r sample after old letter words (get_or before from other) (get_or before from other) (get_or now to other) e lt tests stands packed bits (leads.back other)).values;
+      };
+}
+
+-- the start's values at the first sample are the answers
+pub answers : (a : Automaton) (r : Sampled) (now : Values) (found : Answers)
+    → AreValuesAt a r 0 now
     → found.weak ≡ value_at now.weak a.start → found.neutral ≡ value_at now.neutral a.start → found.strong ≡ value_at now.strong a.start
     → AreAnswers a (letters_of r) found
-answers a atoms r sample letter next now found first stands w n s =
-    let all : drop sample (letters_of r) ≡ letters_of r = ap (λ n. drop n (letters_of r)) first in
-    record {
-      weak = w ∙ ap (λ (l : List Truth). value_at l a.start) (stands.values.weak ∙ ap (values_of a Tops) all) ∙ start_tells a Tops (letters_of r);
-      neutral = n ∙ ap (λ (l : List Truth). value_at l a.start) (stands.values.neutral ∙ ap (values_of a Nothing) all) ∙ start_tells a Nothing (letters_of r);
-      strong = s ∙ ap (λ (l : List Truth). value_at l a.start) (stands.values.strong ∙ ap (values_of a Bottoms) all) ∙ start_tells a Bottoms (letters_of r);
-    }
+answers a r now found stands w n s = record {
+  weak = w ∙ ap (λ (l : List Truth). value_at l a.start) stands.are.weak ∙ start_tells a Tops (letters_of r);
+  neutral = n ∙ ap (λ (l : List Truth). value_at l a.start) stands.are.neutral ∙ start_tells a Nothing (letters_of r);
+  strong = s ∙ ap (λ (l : List Truth). value_at l a.start) stands.are.strong ∙ start_tells a Bottoms (letters_of r);
+}
+
+pub are_at : (a : Automaton) (r : Sampled) (sample here : ℕ) (now values : Values) → AreValues a (drop sample (letters_of r)) now → sample ≡ here → here ≤ length r.samples → now ≡ values → AreValuesAt a r here values
+are_at a r sample here now values are e within same =
+    let P : ℕ → Type 0 = λ place. AreValues a (drop place (letters_of r)) now in
+    let Q : Values → Type 0 = λ v. AreValues a (drop here (letters_of r)) v in
+    record { within = within; are = subst Q same (subst P e are) }

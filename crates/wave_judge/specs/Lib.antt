@@ -5,4 +5,5 @@ pub mod Tested
 pub mod Meant
 pub mod Packed
 pub mod Stepped
+pub mod Taken
 pub mod Valued

@@ -1,11 +1,12 @@
 -- The values of all obligations in the three views, and the answers that they come to.
-use Rattle.std.specs.Prelude.{◌≡◌, List, length}
+use Rattle.std.specs.Prelude.{◌≡◌, ◌≤◌, ℕ, List, length, drop}
 use Rattle.psl_meaning.specs.Followed.{Nothing, Tops, Bottoms}
 use Rattle.psl_tree.specs.declared.letter.Letter.{Letter}
+use Rattle.vcd_reader.specs.Sampled.{Sampled, letters_of}
 use Rattle.alternating_meaning.specs.Obligations.{Automaton, value_on}
 use Rattle.alternating.specs.Stepped.{values_of}
 use Rattle.wave_judge.specs.declared.pass.Answers.{Answers}
-use Rattle.wave_judge.specs.declared.pass.Values.{Values}
+use Rattle.wave_judge.specs.declared.values.Values.{Values}
 
 -- one value for each obligation, in each view
 pub record HasLengths (automaton : Automaton) (values : Values) : Type 0 where
@@ -19,6 +20,11 @@ pub record AreValues (automaton : Automaton) (letters : List Letter) (values : V
   pub weak : values.weak ≡ values_of automaton Tops letters
   pub neutral : values.neutral ≡ values_of automaton Nothing letters
   pub strong : values.strong ≡ values_of automaton Bottoms letters
+
+-- the values of all obligations at a sample of a recording, or past the last one
+pub record AreValuesAt (automaton : Automaton) (recording : Sampled) (sample : ℕ) (values : Values) : Type 0 where
+  pub within : sample ≤ length recording.samples
+  pub are : AreValues automaton (drop sample (letters_of recording)) values
 
 -- the automaton's values on some letters in the three views
 pub record AreAnswers (automaton : Automaton) (letters : List Letter) (answers : Answers) : Type 0 where

@@ -13,8 +13,10 @@ mod pass;
 mod ranged;
 #[cfg(test)]
 mod slow;
+mod steps;
 #[cfg(test)]
 mod tests;
+mod values;
 mod verdict;
 
 pub use fault::JudgeFault;

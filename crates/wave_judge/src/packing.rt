@@ -1,5 +1,6 @@
 ghost use Rattle.std.specs.Prelude.{◌≡◌, ◌<◌, ◌^◌, [], ◌∷◌, length, All, IfOk, OnOk};
-ghost use Rattle.psl_tree.specs.Trees.{boolean_of, sequence_of, formula_of};
+ghost use Rattle.psl_tree.specs.Holds.{holds};
+ghost use Rattle.psl_tree.specs.Trees.{Test, boolean_of, sequence_of, formula_of};
 ghost use Rattle.alternating.specs.Atoms.{is_among};
 ghost use Rattle.vcd_reader.specs.Sampled.{AtomInRange, letter_at};
 ghost use Rattle.wave_judge.specs.Packed.{TellsLetter};
@@ -96,15 +97,34 @@ fn contains(atoms: &[Atom], atom: &Atom) -> bool
     atoms.iter().any(|other| same_atom(atom, other))
 }
 
-/// Writes of each atom whether it holds at a sample, counted from 0.
-pub(crate) fn pack(recording: &Recording, sample: u32, atoms: &Atoms, letter: &mut Truths)
+/// Writes of each atom whether it holds at a sample, counted from 0. Of each there is a hint, where to
+/// look for it first.
+pub(crate) fn pack(
+    recording: &Recording,
+    sample: u32,
+    atoms: &Atoms,
+    hints: &mut [usize],
+    letter: &mut Truths,
+)
     requires sample { sample < length recording.now.samples }
     requires in_range { All (AtomInRange recording.now.names) atoms.now }
     requires few { length atoms.now < 2 ^ 32 }
+    requires hints_len { length hints.old ≡ length atoms.now }
     requires letter_len { length letter.old ≡ length atoms.now }
     ensures { TellsLetter atoms.now (letter_at recording.now sample) letter.new }
 {
     for (place, atom) in atoms.as_slice().iter().enumerate() {
-        letter.set(place as u32, recording.holds(sample, &Bool::Test(*atom)));
+        let mut hint = hints[place];
+        letter.set(place as u32, holds(recording, sample, atom, &mut hint));
+        hints[place] = hint;
     }
+}
+
+// Whether an atom holds on the letter of a sample.
+fn holds(recording: &Recording, sample: u32, atom: &Atom, hint: &mut usize) -> bool
+    requires sample { sample < length recording.now.samples }
+    requires in_range { AtomInRange recording.now.names atom.now }
+    ensures { result ≡ holds (letter_at recording.now sample) (Test atom.now) }
+{
+    recording.bit_near(sample, atom, hint)
 }
