@@ -2,14 +2,17 @@
 #![tactic(auto)]
 
 mod declared;
+mod findings;
 mod matching;
 mod operators;
 mod references;
+#[cfg(test)]
+mod tests;
 mod texts;
 mod values;
 
 pub use declared::{declared_as, declares_clock};
-pub use matching::look_up;
+pub use matching::{NameIndex, look_up};
 pub use operators::{
     declaration_word, directive_kind_of, edge_of, infix_operator, is_endless, prefix_operator,
     quantifier_of, repetition_operator, strength_of,

@@ -2,19 +2,18 @@
 ghost use Rattle.std.specs.Prelude.{◌≡◌, ◌<◌, ◌^◌, IfOk, IsTrue};
 ghost use Rattle.psl_layer_meaning.specs.LookUp as spec;
 
-use crate::matching::look_up;
+use crate::matching::{NameIndex, look_up};
 use crate::texts::{indexed_text, path_text};
 use crate::values::number_of;
 use psl_base::NoMemory;
 use psl_layer_meaning::{Found, Reference};
 use psl_lexer::Token;
-use psl_tree::Names;
 use std::alloc::Global;
 
 /// What a text stands for as a signal, perhaps with an index.
 pub fn refers_to(
     alloc: Global,
-    names: &Names,
+    names: &NameIndex,
     text: &[u8],
     index: Option<u64>,
 ) -> Result<Reference, NoMemory>
@@ -33,7 +32,7 @@ pub fn refers_to(
 /// What a path stands for as a signal, perhaps with an index.
 pub fn reference(
     alloc: Global,
-    names: &Names,
+    names: &NameIndex,
     path: &[Token],
     index: &Option<Token>,
 ) -> Result<Reference, NoMemory>

@@ -1,7 +1,0 @@
-use Rattle.std.proofs.Common.{◌≡◌, take}
-use Rattle.std.specs.Prelude.{filter}
-use Rattle.psl_layer_meaning.specs.LookUp.{found_among, is_named}
-use Rattle.psl_names.proofs.matching.named.Given as goal
-
-abbrev pub invariant-loop-name : goal.invariant-loop-name
-invariant-loop-name l = l.found ≡ found_among (filter (is_named l.text) (take l.name-index l.names))
