@@ -9,8 +9,7 @@ use psl_base::{NoMemory, Place};
 use psl_grammar::{Expression, Statement};
 use psl_layer_meaning::{Cause, Flaw, InfixOperator, Reference, Side};
 use psl_lexer::{Token, TokenKind};
-use psl_names::literal_value;
-use psl_tree::Names;
+use psl_names::{NameIndex, literal_value};
 use std::alloc::Global;
 
 // One side of a comparison that is a number, a constant, `true` or `false`.
@@ -27,7 +26,7 @@ fn literal_side(token: &Token) -> Side
 pub(crate) fn side_of(
     alloc: Global,
     scope: &[Statement],
-    names: &Names,
+    names: &NameIndex,
     x: &Expression,
 ) -> Result<Side, NoMemory>
     ensures { IfOk result (λ side. side ≡ spec.side_of scope.now names.now x.now) }
@@ -43,7 +42,7 @@ pub(crate) fn side_of(
 fn signal_side(
     alloc: Global,
     scope: &[Statement],
-    names: &Names,
+    names: &NameIndex,
     path: &[Token],
     index: &Option<Token>,
 ) -> Result<Side, NoMemory>

@@ -11,7 +11,7 @@ use crate::parts::{
 use crate::signals::{edge, signal};
 use psl_base::NoMemory;
 use psl_grammar::{Expression, Statement};
-use psl_tree::Names;
+use psl_names::NameIndex;
 use std::alloc::Global;
 
 /// The kind of an expression, the place of its first token and its first fault, after the statements before it in its
@@ -20,7 +20,7 @@ use std::alloc::Global;
 pub fn check(
     alloc: Global,
     scope: &[Statement],
-    names: &Names,
+    names: &NameIndex,
     in_sere: bool,
     expression: &Expression,
 ) -> Result<Checked, NoMemory>

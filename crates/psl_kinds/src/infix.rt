@@ -15,7 +15,7 @@ use psl_base::NoMemory;
 use psl_grammar::{Expression, Statement};
 use psl_layer_meaning::{Flaw, InfixOperator};
 use psl_lexer::Token;
-use psl_tree::Names;
+use psl_names::NameIndex;
 use std::alloc::Global;
 
 /// Two operands: each as a tree, and what is known of it.
@@ -51,7 +51,7 @@ pub(crate) fn paired<'a>(
 fn operator_flaw(
     alloc: Global,
     scope: &[Statement],
-    names: &Names,
+    names: &NameIndex,
     in_sere: bool,
     operator: InfixOperator,
     operands: Operands,
@@ -75,7 +75,7 @@ fn operator_flaw(
 pub(crate) fn joined(
     alloc: Global,
     scope: &[Statement],
-    names: &Names,
+    names: &NameIndex,
     in_sere: bool,
     operator: &Token,
     operands: Operands,

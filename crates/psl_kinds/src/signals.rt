@@ -15,8 +15,7 @@ use psl_base::{NoMemory, Place};
 use psl_grammar::Statement;
 use psl_layer_meaning::{Cause, ExpressionKind, Flaw, Reference};
 use psl_lexer::Token;
-use psl_names::{declared_as, path_text, reference};
-use psl_tree::Names;
+use psl_names::{NameIndex, declared_as, path_text, reference};
 use std::alloc::Global;
 
 // The kind of a path, if a statement declares it.
@@ -35,7 +34,7 @@ fn declared(
 pub(crate) fn refers_in(
     alloc: Global,
     scope: &[Statement],
-    names: &Names,
+    names: &NameIndex,
     path: &[Token],
     index: &Option<Token>,
 ) -> Result<Reference, NoMemory>
@@ -92,7 +91,7 @@ fn reference_flaw(reference: Reference, place: Place) -> Option<Flaw>
 fn signal_flaw(
     alloc: Global,
     scope: &[Statement],
-    names: &Names,
+    names: &NameIndex,
     path: &[Token],
     index: &Option<Token>,
 ) -> Result<Option<Flaw>, NoMemory>
@@ -119,7 +118,7 @@ fn width_flaw(reference: Reference, place: Place) -> Option<Flaw>
 fn edge_flaw(
     alloc: Global,
     scope: &[Statement],
-    names: &Names,
+    names: &NameIndex,
     path: &[Token],
     index: &Option<Token>,
 ) -> Result<Option<Flaw>, NoMemory>
@@ -140,7 +139,7 @@ fn edge_flaw(
 pub(crate) fn signal(
     alloc: Global,
     scope: &[Statement],
-    names: &Names,
+    names: &NameIndex,
     path: &[Token],
     index: &Option<Token>,
 ) -> Result<Checked, NoMemory>
@@ -159,7 +158,7 @@ pub(crate) fn signal(
 pub(crate) fn edge(
     alloc: Global,
     scope: &[Statement],
-    names: &Names,
+    names: &NameIndex,
     word: &Token,
     path: &[Token],
     index: &Option<Token>,

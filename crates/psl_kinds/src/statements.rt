@@ -13,8 +13,8 @@ use psl_base::NoMemory;
 use psl_grammar::Statement;
 use psl_layer_meaning::{Cause, DeclarationWord, Flaw};
 use psl_lexer::Token;
-use psl_names::{declaration_word, declared_as, declares_clock, directive_kind_of};
-use psl_tree::{Kind, Names};
+use psl_names::{NameIndex, declaration_word, declared_as, declares_clock, directive_kind_of};
+use psl_tree::Kind;
 use std::alloc::Global;
 
 // The fault of a directive's operand.
@@ -65,7 +65,7 @@ fn declaration_flaw(scope: &[Statement], word: &Token, name: &Token, body: Check
 fn statement_flaw(
     alloc: Global,
     scope: &[Statement],
-    names: &Names,
+    names: &NameIndex,
     statement: &Statement,
 ) -> Result<Option<Flaw>, NoMemory>
     ensures { IfOk result (λ flaw. flaw ≡ first_of (spec.statement_flaws scope.now names.now statement.now)) }
@@ -88,7 +88,7 @@ fn statement_flaw(
 #[tactic(auto, using(crate::proofs::Firsts::earlier_none, crate::proofs::Steps::statement_step))]
 pub(crate) fn statements_flaw(
     alloc: Global,
-    names: &Names,
+    names: &NameIndex,
     all: &[Statement],
 ) -> Result<Option<Flaw>, NoMemory>
     ensures { IfOk result (λ flaw. flaw ≡ first_of (spec.statements_flaws [] names.now all.now)) }

@@ -8,14 +8,14 @@ use crate::statements::statements_flaw;
 use psl_base::NoMemory;
 use psl_grammar::{UnitTree, VerificationUnit};
 use psl_layer_meaning::Flaw;
-use psl_tree::Names;
+use psl_names::NameIndex;
 use std::alloc::Global;
 
 // The first fault of verification units.
 #[tactic(auto, using(crate::proofs::Firsts::earlier_none, crate::proofs::Steps::unit_step))]
 fn units_flaw(
     alloc: Global,
-    names: &Names,
+    names: &NameIndex,
     units: &[VerificationUnit],
 ) -> Result<Option<Flaw>, NoMemory>
     ensures { IfOk result (λ flaw. flaw ≡ first_of (spec.units_flaws names.now units.now)) }
@@ -31,7 +31,11 @@ fn units_flaw(
 /// The first fault of kinds and names in a text over the names of signals, or none where there is none: the first in
 /// text order, and of several at one place the one with the lowest number.
 #[tactic(auto, using(psl_layer_meaning::proofs::Firsts::first_of_is_first))]
-pub fn first_flaw(alloc: Global, tree: &UnitTree, names: &Names) -> Result<Option<Flaw>, NoMemory>
+pub fn first_flaw(
+    alloc: Global,
+    tree: &UnitTree,
+    names: &NameIndex,
+) -> Result<Option<Flaw>, NoMemory>
     ensures { IfOk result (IsFirstFlaw (spec.tree_flaws names.now tree.now)) }
 {
     match tree {
