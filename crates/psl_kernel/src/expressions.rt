@@ -17,9 +17,8 @@ use psl_grammar::{Count, Expression, Path};
 use psl_kinds::operator_before;
 use psl_layer_meaning::InfixOperator;
 use psl_lexer::Token;
-use psl_names::{edge_of, path_text, prefix_operator, repetition_operator, strength_of};
+use psl_names::{NameIndex, edge_of, path_text, prefix_operator, repetition_operator, strength_of};
 use psl_sugar::Strength;
-use psl_tree::Names;
 use std::alloc::Global;
 
 // Whether an operator is a comparison, and if so, whether it asks for equality.
@@ -36,7 +35,7 @@ fn comparison(operator: InfixOperator) -> Option<bool>
 // An operator between its operands: a comparison reads their trees, any other what they stand for.
 fn operated(
     alloc: Global,
-    names: &Names,
+    names: &NameIndex,
     operator: InfixOperator,
     strength: Strength,
     x: &Expression,
@@ -56,7 +55,7 @@ fn operated(
 fn signal(
     alloc: Global,
     scope: &Scope,
-    names: &Names,
+    names: &NameIndex,
     path: &Path,
     index: &Option<Token>,
 ) -> Result<Meaning, NoMemory>
@@ -102,7 +101,13 @@ fn lone_repetition(alloc: Global, opening: &Token, count: &Option<Count>) -> Mea
 }
 
 // `posedge` or `negedge` of a path.
-fn edge(alloc: Global, names: &Names, word: &Token, path: &Path, index: &Option<Token>) -> Meaning
+fn edge(
+    alloc: Global,
+    names: &NameIndex,
+    word: &Token,
+    path: &Path,
+    index: &Option<Token>,
+) -> Meaning
     ensures { Gives result (kernel.OfBoolean (kernel.edge_meaning (words.edge_of word.now.kind) (reference names.now path.now index.now))) }
 {
     Meaning::Boolean(path_edge(alloc, names, edge_of(word.kind), path, index))
@@ -112,7 +117,7 @@ fn edge(alloc: Global, names: &Names, word: &Token, path: &Path, index: &Option<
 pub fn meaning_of(
     alloc: Global,
     scope: &Scope,
-    names: &Names,
+    names: &NameIndex,
     in_sere: bool,
     expression: &Expression,
 ) -> Result<Meaning, NoMemory>

@@ -11,15 +11,15 @@ use psl_base::NoMemory;
 use psl_grammar::{Expression, Path};
 use psl_layer_meaning::Reference;
 use psl_lexer::{Token, TokenKind};
-use psl_names::{literal_value, reference};
+use psl_names::{NameIndex, literal_value, reference};
 use psl_sugar::{MOST_CONSTRUCTORS, MeasuredBool, SugarFault, Vector};
-use psl_tree::{Atom, Edge, Names};
+use psl_tree::{Atom, Edge};
 use std::alloc::Global;
 
 // What a path stands for as a signal, perhaps with an index.
 fn referred(
     alloc: Global,
-    names: &Names,
+    names: &NameIndex,
     path: &Path,
     index: &Option<Token>,
 ) -> Result<Reference, NoMemory>
@@ -92,7 +92,7 @@ fn compared_bits(
 // A comparison of a path with a number or a constant.
 fn compared_path(
     alloc: Global,
-    names: &Names,
+    names: &NameIndex,
     is_equal: bool,
     path: &Path,
     index: &Option<Token>,
@@ -107,7 +107,7 @@ fn compared_path(
 /// A comparison: `==`, or `!=`.
 pub(crate) fn compared(
     alloc: Global,
-    names: &Names,
+    names: &NameIndex,
     is_equal: bool,
     x: &Expression,
     y: &Expression,
@@ -134,7 +134,7 @@ pub(crate) fn compared(
 /// A path as a Boolean.
 pub(crate) fn path_bits(
     alloc: Global,
-    names: &Names,
+    names: &NameIndex,
     path: &Path,
     index: &Option<Token>,
 ) -> Result<MeasuredBool, SugarFault>
@@ -161,7 +161,7 @@ fn edge_of_bit(edge: Edge, found: Reference) -> MeasuredBool
 /// A rise or a fall of a path.
 pub(crate) fn path_edge(
     alloc: Global,
-    names: &Names,
+    names: &NameIndex,
     edge: Edge,
     path: &Path,
     index: &Option<Token>,

@@ -3,6 +3,7 @@ use crate::{Declared, Meaning, Scope, clocked, meaning_of};
 use psl_base::{Items, NoMemory, Place, Text, boxed};
 use psl_grammar::{Count, Expression, Path};
 use psl_lexer::{Token, TokenKind};
+use psl_names::NameIndex;
 use psl_sugar::{MeasuredBool, MeasuredSere, SugarFault};
 use psl_tree::{Name, Names};
 use std::alloc::Global;
@@ -70,7 +71,8 @@ fn built(alloc: Global, case: u8) -> Result<Meaning, SugarFault> {
         _ => path(alloc, b"a")?,
     };
     let (scope, names) = (scope(alloc)?, names(alloc)?);
-    Ok(meaning_of(alloc, &scope, &names, false, &expression)?)
+    let index = NameIndex::of(alloc, &names)?;
+    Ok(meaning_of(alloc, &scope, &index, false, &expression)?)
 }
 
 const ROWS: [(u8, &str); 3] = [
