@@ -8,9 +8,8 @@ use psl_grammar::Statement;
 use psl_kernel::{Declared, Meaning, Scope, meaning_of};
 use psl_layer_meaning::DeclarationWord;
 use psl_lexer::Token;
-use psl_names::declaration_word;
+use psl_names::{NameIndex, declaration_word};
 use psl_sugar::{MeasuredBool, SugarFault};
-use psl_tree::Names;
 use std::alloc::Global;
 
 /// A default clock, if there is one.
@@ -32,7 +31,7 @@ fn with_name(alloc: Global, scope: Scope, name: &Token, meaning: Meaning) -> Res
 pub(crate) fn after(
     alloc: Global,
     scope: Scope,
-    names: &Names,
+    names: &NameIndex,
     statement: &Statement,
 ) -> Result<Scope, NoMemory>
     ensures { IfOk result (IsGrown scope names.now statement.now) }
@@ -57,7 +56,7 @@ pub(crate) fn after(
 fn clock_of(
     alloc: Global,
     scope: &Scope,
-    names: &Names,
+    names: &NameIndex,
     statement: &Statement,
 ) -> Result<Clock, NoMemory>
     ensures { IfOk result (IsClockOf scope.now names.now statement.now) }
@@ -78,7 +77,7 @@ fn clock_of(
 #[tactic(auto, using(crate::proofs::Scopes::clock_begun, crate::proofs::Scopes::clock_more, crate::proofs::Scopes::clock_found, crate::proofs::Scopes::clock_none))]
 pub(crate) fn default_clock(
     alloc: Global,
-    names: &Names,
+    names: &NameIndex,
     all: &[Statement],
 ) -> Result<Clock, NoMemory>
     ensures { IfOk result (λ clock. GivesClock clock (spec.default_clock [] names.now all.now)) }

@@ -8,8 +8,9 @@ use crate::declarations::Clock;
 use psl_base::NoMemory;
 use psl_grammar::Expression;
 use psl_kernel::{Meaning, Scope, clocked, meaning_of};
+use psl_names::NameIndex;
 use psl_sugar::{MeasuredFl, SugarFault};
-use psl_tree::{Kind, Names};
+use psl_tree::Kind;
 use std::alloc::Global;
 
 /// An equal clock.
@@ -48,7 +49,7 @@ fn covered_under(alloc: Global, clock: Clock, part: Meaning) -> Result<MeasuredF
 fn asserted(
     alloc: Global,
     scope: &Scope,
-    names: &Names,
+    names: &NameIndex,
     clock: Clock,
     property: &Expression,
 ) -> Result<MeasuredFl, SugarFault>
@@ -65,7 +66,7 @@ fn asserted(
 fn covered(
     alloc: Global,
     scope: &Scope,
-    names: &Names,
+    names: &NameIndex,
     clock: Clock,
     property: &Expression,
 ) -> Result<MeasuredFl, SugarFault>
@@ -88,7 +89,7 @@ fn covered(
 pub(crate) fn directive_formula(
     alloc: Global,
     scope: &Scope,
-    names: &Names,
+    names: &NameIndex,
     clock: Clock,
     kind: Kind,
     property: &Expression,

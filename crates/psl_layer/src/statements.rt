@@ -10,9 +10,9 @@ use psl_grammar::Statement;
 use psl_kernel::Scope;
 use psl_layer_meaning::LayerFault;
 use psl_lexer::Token;
-use psl_names::directive_kind_of;
+use psl_names::{NameIndex, directive_kind_of};
 use psl_sugar::{MOST_CONSTRUCTORS, SugarFault};
-use psl_tree::{Directive, Names, Unit};
+use psl_tree::{Directive, Unit};
 use std::alloc::Global;
 
 // The text of a label, if there is one.
@@ -43,7 +43,7 @@ fn with_statement(
     alloc: Global,
     unit: Unit,
     scope: &Scope,
-    names: &Names,
+    names: &NameIndex,
     clock: &Clock,
     statement: &Statement,
 ) -> Result<Unit, LayerFault>
@@ -85,7 +85,7 @@ fn with_statement(
 pub(crate) fn with_statements(
     alloc: Global,
     unit: Unit,
-    names: &Names,
+    names: &NameIndex,
     all: &[Statement],
 ) -> Result<Unit, LayerFault>
     ensures { IsLonger unit (spec.asked_in names.now all.now) result }

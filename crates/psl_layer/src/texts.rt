@@ -14,6 +14,7 @@ use psl_base::Items;
 use psl_grammar::{UnitTree, VerificationUnit};
 use psl_kinds::first_flaw;
 use psl_layer_meaning::{Cause, Flaw, LayerFault};
+use psl_names::NameIndex;
 use psl_tree::{Names, Unit};
 use std::alloc::Global;
 
@@ -21,7 +22,7 @@ use std::alloc::Global;
 #[tactic(auto, using(crate::proofs::Longer::units_begun, crate::proofs::Longer::units_more, crate::proofs::Longer::units_err, crate::proofs::Longer::units_end))]
 fn units_directives(
     alloc: Global,
-    names: &Names,
+    names: &NameIndex,
     units: &[VerificationUnit],
 ) -> Result<Unit, LayerFault>
     ensures { IsLonger [] (spec.asked_in_units names.now units.now) result }
@@ -37,7 +38,7 @@ fn units_directives(
 }
 
 // The directives of a text.
-fn directives(alloc: Global, tree: &UnitTree, names: &Names) -> Result<Unit, LayerFault>
+fn directives(alloc: Global, tree: &UnitTree, names: &NameIndex) -> Result<Unit, LayerFault>
     ensures { IsLonger [] (spec.kernel names.now tree.now) result }
 {
     match tree {
@@ -73,8 +74,9 @@ pub fn resolve(alloc: Global, tree: &UnitTree, names: &Names) -> Result<Unit, La
     ensures in_range { AreAlike names.now → IfOk result (λ unit. All (λ directive. AtomsOfFormula (AtomInRange names.now) (formula_of directive.formula)) unit) }
     ensures small { IfOk result (λ unit. All (λ directive. formula_size (formula_of directive.formula) ≤ 4096) unit) }
 {
-    if let Some(flaw) = first_flaw(alloc, tree, names)? {
+    let index = NameIndex::of(alloc, names)?;
+    if let Some(flaw) = first_flaw(alloc, tree, &index)? {
         return Err(fault_of(flaw));
     }
-    directives(alloc, tree, names)
+    directives(alloc, tree, &index)
 }
