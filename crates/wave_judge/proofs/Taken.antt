@@ -104,7 +104,7 @@ can_be_kept a atoms letter old new step leads e = record {
 }
 
 -- no steps, and the values past the last sample alone
-pub begins : (a : Automaton) (past : Values) (values : List Values) (taken : List (Option Step)) → HasLengths a past → values ≡ past ∷ [] → length taken ≡ 4096 → All (λ entry. entry ≡ None) taken
+pub begins : (a : Automaton) (past : Values) (values : List Values) (taken : List (Option Step)) → HasLengths a past → values ≡ past ∷ [] → length taken ≡ 16384 → All (λ entry. entry ≡ None) taken
     → (atoms : List Atom) → AreSteps a atoms values taken
 begins a past values taken lengths one places none atoms = record {
   lengths = let P : List Values → Type 0 = λ l. All (HasLengths a) l in subst P (sym one) (all_one (HasLengths a) past lengths);

@@ -10,10 +10,11 @@ use psl_base::NoMemory;
 use psl_tree::Atoms;
 use std::alloc::Global;
 
-// How many values are kept, and how many places there are for steps between them.
-const MOST_VALUES: usize = 64;
+// How many values are kept: not many, since each that a step gives is compared with them.
+const MOST_VALUES: usize = 256;
 
-const PLACES: usize = 4096;
+// How many places there are for steps between them.
+const PLACES: usize = 16_384;
 
 /// A step back from some kept values over a letter of one word to others, by their numbers.
 #[derive(Clone, Copy)]
@@ -46,7 +47,7 @@ impl Steps {
 
     /// Whether no more values are to be kept.
     pub(crate) fn is_full(&self) -> bool
-        ensures { result ≡ nat_le 64 (length self.now.values.items) }
+        ensures { result ≡ nat_le 256 (length self.now.values.items) }
     {
         self.values.len() >= MOST_VALUES
     }
@@ -71,7 +72,7 @@ impl Steps {
         from: u32,
     ) -> Result<u32, NoMemory>
         requires steps { AreSteps automaton.now atoms.now self.old.values.items self.old.taken.items }
-        requires few { length self.old.values.items < 64 }
+        requires few { length self.old.values.items < 256 }
         requires from { from < length self.old.values.items }
         requires bits { length atoms.now ≤ 32 * length letter.now }
         ensures steps { OnOk result (AreSteps automaton.now atoms.now self.new.values.items self.new.taken.items) }
@@ -104,7 +105,7 @@ impl Steps {
         from: u32,
     ) -> Result<u32, NoMemory>
         requires steps { AreSteps automaton.now atoms.now self.old.values.items self.old.taken.items }
-        requires few { length self.old.values.items < 64 }
+        requires few { length self.old.values.items < 256 }
         requires from { from < length self.old.values.items }
         requires bits { length atoms.now ≤ 32 * length letter.now }
         ensures steps { OnOk result (AreSteps automaton.now atoms.now self.new.values.items self.new.taken.items) }
@@ -118,7 +119,7 @@ impl Steps {
 
     /// The number of values, which are kept if they are new.
     fn number_of(&mut self, values: Values) -> Result<u32, NoMemory>
-        requires { length self.old.values.items < 64 }
+        requires { length self.old.values.items < 256 }
         ensures number { IfOk result (λ number. HasNumber self.old.values.items values number self.new.values.items) }
         ensures taken { self.new.taken.items ≡ self.old.taken.items }
     {
@@ -132,7 +133,7 @@ impl Steps {
 
     /// The number of values, where they are kept.
     fn find(&self, values: &Values) -> Option<u32>
-        requires { length self.now.values.items < 64 }
+        requires { length self.now.values.items < 256 }
         ensures { IfSome result (λ number. HasNumber self.now.values.items values.now number self.now.values.items) }
     {
         for (number, known) in self.values.iter().enumerate() {
@@ -145,7 +146,7 @@ impl Steps {
 
     /// The number of the values to which a step leads that was taken.
     fn known(&self, from: u32, letter: u32) -> Option<u32>
-        requires { length self.now.taken.items ≡ 4096 }
+        requires { length self.now.taken.items ≡ 16384 }
         ensures { IfSome result (λ to. HasTaken self.now.taken.items (record { from = from; letter = letter; to = to })) }
     {
         let step = self.taken[place_of(from, letter)]?;
@@ -158,7 +159,7 @@ impl Steps {
 
     /// Keeps a step, in place of another one.
     fn note(&mut self, step: Step)
-        requires { length self.old.taken.items ≡ 4096 }
+        requires { length self.old.taken.items ≡ 16384 }
         ensures values { self.new.values.items ≡ self.old.values.items }
         ensures taken { (place : ℕ) × (self.new.taken.items ≡ slice_set self.old.taken.items place (Some step)) }
     {
@@ -169,7 +170,7 @@ impl Steps {
 
 /// Places for steps, where none is kept yet.
 fn no_steps(alloc: Global) -> Result<Vec<Option<Step>>, NoMemory>
-    ensures places { IfOk result (λ taken. length taken.items ≡ 4096) }
+    ensures places { IfOk result (λ taken. length taken.items ≡ 16384) }
     ensures none { IfOk result (λ taken. All (λ entry. entry ≡ None) taken.items) }
 {
     let mut taken = Vec::new(alloc);
@@ -181,7 +182,7 @@ fn no_steps(alloc: Global) -> Result<Vec<Option<Step>>, NoMemory>
 
 /// Where a step is kept.
 fn place_of(from: u32, letter: u32) -> usize
-    ensures { result < 4096 }
+    ensures { result < 16384 }
 {
     (from as usize * 64 + letter as usize) % PLACES
 }
