@@ -53,22 +53,19 @@ fn add_sample(text: &mut Vec<u8>, sample: u32, request: bool, answer: bool) -> R
     add(text, b"#")?;
     add(text, Buffer::new().format(sample).as_bytes())?;
     add(text, b"\n")?;
-    add(text, request_line(request))?;
-    add(text, answer_line(answer))
+    add(text, value_lines(request, answer))
 }
 
-/// The line of a value of `req`.
-fn request_line(value: bool) -> &'static [u8]
-    ensures { result.now ≡ line (digit value ∷ 33 ∷ []) }
+/// The lines of a value of `req` and of one of `ack`.
+fn value_lines(request: bool, answer: bool) -> &'static [u8]
+    ensures { result.now ≡ line (digit request ∷ 33 ∷ []) ++ line (digit answer ∷ 34 ∷ []) }
 {
-    if value { b"1!\n" } else { b"0!\n" }
-}
-
-/// The line of a value of `ack`.
-fn answer_line(value: bool) -> &'static [u8]
-    ensures { result.now ≡ line (digit value ∷ 34 ∷ []) }
-{
-    if value { b"1\"\n" } else { b"0\"\n" }
+    match (request, answer) {
+        (false, false) => b"0!\n0\"\n",
+        (false, true) => b"0!\n1\"\n",
+        (true, false) => b"1!\n0\"\n",
+        (true, true) => b"1!\n1\"\n",
+    }
 }
 
 fn add(text: &mut Vec<u8>, piece: &[u8]) -> Result<(), NoMemory>
