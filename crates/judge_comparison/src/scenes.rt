@@ -1,0 +1,68 @@
+use psl_base::{Bytes, File, Files, MemShelf, Numbers};
+use std::alloc::Global;
+use std::test::Fail;
+use vcd_reader::{Recording, read_vcd};
+
+/// Signals of one bit, each with its code, and two vectors, the second of which counts its indices
+/// from the left.
+const HEAD: &str = "$var wire 1 A a $end\n$var wire 1 B b $end\n$var wire 1 C c $end\n\
+    $var wire 1 D d $end\n$var wire 1 K clk $end\n\
+    $var wire 4 V v [3:0] $end\n$var wire 2 W w [0:1] $end\n$enddefinitions $end\n";
+
+const BITS: [(&str, &str); 5] = [
+    ("a", "A\n"),
+    ("b", "B\n"),
+    ("c", "C\n"),
+    ("d", "D\n"),
+    ("clk", "K\n"),
+];
+
+/// The bits of the vectors from the left.
+const V: [&str; 4] = ["v3", "v2", "v1", "v0"];
+
+const W: [&str; 2] = ["w0", "w1"];
+
+/// A recording: of each sample the names of those signals and bits that are 1, or `-`. An empty text
+/// is a recording without samples.
+pub fn recording(alloc: Global, samples: &str) -> Result<Recording, Fail> {
+    let mut text = String::from_str(alloc, HEAD)?;
+    if !samples.is_empty() {
+        for (number, sample) in samples.split(';').enumerate() {
+            text.push_str(format!(in alloc; "#{number}\n")?.as_str())?;
+            add_sample(&mut text, sample)?;
+        }
+    }
+    let mut files = Files::new(alloc);
+    files.push(File {
+        name: Bytes::from_slice(alloc, b"r.vcd")?,
+        content: Bytes::from_slice(alloc, text.as_bytes())?,
+    })?;
+    let mut shelf = MemShelf::new(alloc, &files, 0, 0, &Numbers::new(alloc))?;
+    Ok(read_vcd(alloc, &mut shelf, "r.vcd")?)
+}
+
+/// The value of each signal at a sample.
+fn add_sample(text: &mut String, sample: &str) -> Result<(), Fail> {
+    for (name, code) in BITS {
+        text.push(bit(sample, name))?;
+        text.push_str(code)?;
+    }
+    text.push('b')?;
+    for name in V {
+        text.push(bit(sample, name))?;
+    }
+    text.push_str(" V\nb")?;
+    for name in W {
+        text.push(bit(sample, name))?;
+    }
+    text.push_str(" W\n")?;
+    Ok(())
+}
+
+fn bit(sample: &str, name: &str) -> char {
+    if sample.split_whitespace().any(|word| word == name) {
+        '1'
+    } else {
+        '0'
+    }
+}
