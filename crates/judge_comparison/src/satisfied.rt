@@ -29,6 +29,7 @@ pub fn is_satisfied(
     satisfies(alloc, scene, &word, formula)
 }
 
+#[cycle(formulas)]
 fn satisfies(alloc: Global, scene: Scene, word: &Word, formula: &Fl) -> Result<bool, NoMemory> {
     match formula {
         Fl::Now(test) => is_now(alloc, scene, word, test),
@@ -40,8 +41,8 @@ fn satisfies(alloc: Global, scene: Scene, word: &Word, formula: &Fl) -> Result<b
             Ok(satisfies(alloc, scene, word, left)? && satisfies(alloc, scene, word, right)?)
         }
         Fl::Next(part) => is_next(alloc, scene, word, part),
-        Fl::Until(left, right) => is_until(alloc, scene, word, left, right),
-        Fl::Suffix(sequence, part) => is_implied(alloc, scene, word, sequence, part),
+        Fl::Until(_, _) => is_until(alloc, scene, word, formula),
+        Fl::Suffix(_, _) => is_implied(alloc, scene, word, formula),
         Fl::Abort(part, test) => is_aborted(alloc, scene, word, part, test, None),
         Fl::SyncAbort(part, test) => is_aborted(alloc, scene, word, part, test, scene.clock),
         Fl::Clocked(part, clock) => {
@@ -122,6 +123,7 @@ fn is_weak(alloc: Global, scene: Scene, word: &Word, sequence: &Sere) -> Result<
 
 /// There is a second place, and the word from there on satisfies the part. Under a clock, a tick and
 /// then another tick lead to a place from which the word does.
+#[cycle(formulas)]
 fn is_next(alloc: Global, scene: Scene, word: &Word, part: &Fl) -> Result<bool, NoMemory> {
     for place in 0..places(word) {
         if is_second(alloc, scene, word, place)?
@@ -140,7 +142,7 @@ fn is_second(alloc: Global, scene: Scene, word: &Word, place: usize) -> Result<b
     };
     for earlier in 0..place {
         let first = between(alloc, word, 0, earlier + 1)?;
-        let second = between(alloc, word, earlier + 1, place + 1)?;
+        let second = between(alloc, word, earlier + 1, place.saturating_add(1))?;
         if is_tick(scene.recording, clock, first.as_slice())
             && is_tick(scene.recording, clock, second.as_slice())
         {
@@ -152,13 +154,11 @@ fn is_second(alloc: Global, scene: Scene, word: &Word, place: usize) -> Result<b
 
 /// At some place the right holds, and at each earlier one the left. Under a clock that place satisfies
 /// the clock, and the earlier ones count whose dual satisfies it.
-fn is_until(
-    alloc: Global,
-    scene: Scene,
-    word: &Word,
-    left: &Fl,
-    right: &Fl,
-) -> Result<bool, NoMemory> {
+#[cycle(formulas)]
+fn is_until(alloc: Global, scene: Scene, word: &Word, formula: &Fl) -> Result<bool, NoMemory> {
+    let Fl::Until(left, right) = formula else {
+        return Ok(false);
+    };
     for place in 0..places(word) {
         if is_clocked(scene, letter_at(word, place))
             && satisfies(alloc, scene, &suffix(alloc, word, place)?, right)?
@@ -179,6 +179,7 @@ fn is_clocked(scene: Scene, letter: Option<Letter>) -> bool {
     }
 }
 
+#[cycle(formulas)]
 fn is_throughout(
     alloc: Global,
     scene: Scene,
@@ -202,13 +203,11 @@ fn is_throughout(
 
 /// From each place where the dual of the letters up to it satisfies the sequence tightly, the word
 /// satisfies the part.
-fn is_implied(
-    alloc: Global,
-    scene: Scene,
-    word: &Word,
-    sequence: &Sere,
-    part: &Fl,
-) -> Result<bool, NoMemory> {
+#[cycle(formulas)]
+fn is_implied(alloc: Global, scene: Scene, word: &Word, formula: &Fl) -> Result<bool, NoMemory> {
+    let Fl::Suffix(sequence, part) = formula else {
+        return Ok(false);
+    };
     let swapped = dual(alloc, word)?;
     for place in 0..places(word) {
         let list = between(alloc, &swapped, 0, place + 1)?;
@@ -223,6 +222,7 @@ fn is_implied(
 
 /// The word satisfies the part, or it does cut before some place whose letter satisfies the Boolean,
 /// and a clock where one is given.
+#[cycle(formulas)]
 fn is_aborted(
     alloc: Global,
     scene: Scene,

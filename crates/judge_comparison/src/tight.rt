@@ -22,6 +22,7 @@ pub fn is_tick(recording: &Recording, clock: &Bool, list: &[Letter]) -> bool {
 }
 
 /// Whether a list satisfies a sequence tightly, under a clock or none.
+#[cycle(lists)]
 pub fn is_tight(
     recording: &Recording,
     clock: Option<&Bool>,
@@ -31,8 +32,31 @@ pub fn is_tight(
     match sequence {
         Sere::Empty => list.is_empty(),
         Sere::One(test) => is_one(recording, clock, list, test),
-        Sere::Concat(left, right) => is_concat(recording, clock, list, left, right),
-        Sere::Fuse(left, right) => is_fused(recording, clock, list, left, right),
+        // A list of the left and then a list of the right.
+        Sere::Concat(left, right) => {
+            for cut in 0..=list.len() {
+                let (first, rest) = list.split_at(cut);
+                if is_tight(recording, clock, first, left)
+                    && is_tight(recording, clock, rest, right)
+                {
+                    return true;
+                }
+            }
+            false
+        }
+        // A list of the left and a list of the right that share one letter.
+        Sere::Fuse(left, right) => {
+            for cut in 0..list.len() {
+                let (first, _) = list.split_at(cut + 1);
+                let (_, rest) = list.split_at(cut);
+                if is_tight(recording, clock, first, left)
+                    && is_tight(recording, clock, rest, right)
+                {
+                    return true;
+                }
+            }
+            false
+        }
         Sere::Either(left, right) => {
             is_tight(recording, clock, list, left) || is_tight(recording, clock, list, right)
         }
@@ -56,43 +80,9 @@ fn is_one(recording: &Recording, clock: Option<&Bool>, list: &[Letter], test: &B
     }
 }
 
-/// A list of the left and then a list of the right.
-fn is_concat(
-    recording: &Recording,
-    clock: Option<&Bool>,
-    list: &[Letter],
-    left: &Sere,
-    right: &Sere,
-) -> bool {
-    for cut in 0..=list.len() {
-        let (first, rest) = list.split_at(cut);
-        if is_tight(recording, clock, first, left) && is_tight(recording, clock, rest, right) {
-            return true;
-        }
-    }
-    false
-}
-
-/// A list of the left and a list of the right that share one letter.
-fn is_fused(
-    recording: &Recording,
-    clock: Option<&Bool>,
-    list: &[Letter],
-    left: &Sere,
-    right: &Sere,
-) -> bool {
-    for cut in 0..list.len() {
-        let (first, _) = list.split_at(cut + 1);
-        let (_, rest) = list.split_at(cut);
-        if is_tight(recording, clock, first, left) && is_tight(recording, clock, rest, right) {
-            return true;
-        }
-    }
-    false
-}
-
 /// Empty, or a list of the part and then a list of the repetition: the places are found at which some
 /// number of lists of the part may end.
+#[cycle(lists)]
 fn is_repeated(recording: &Recording, clock: Option<&Bool>, list: &[Letter], part: &Sere) -> bool {
     let mut ends = [false; LONGEST];
     for end in 0..=list.len() {
@@ -105,6 +95,7 @@ fn is_repeated(recording: &Recording, clock: Option<&Bool>, list: &[Letter], par
 }
 
 /// Whether a list of the part leads from an earlier end to a place.
+#[cycle(lists)]
 fn is_next_end(
     recording: &Recording,
     clock: Option<&Bool>,
