@@ -4,6 +4,17 @@ use psl_base::{Bytes, File, Files, MemShelf, MemSink, NoMemory, Numbers};
 use std::alloc::{AllocError, Global};
 use std::test::Fail;
 
+mod deep;
+mod faults;
+mod forms;
+mod kinds;
+mod layer;
+mod sequences;
+mod shows;
+mod tables;
+mod temporal;
+mod worked;
+
 const TEXT: &str = "assert always (a -> next! b);";
 
 const WEAK_TEXT: &str = "assert always (a -> next b);";
@@ -75,7 +86,7 @@ fn run_on(
     let none = Numbers::new(alloc);
     let fail = Numbers::from_slice(alloc, fail)?;
     let mut shelf = MemShelf::new(alloc, &files, 0, 0, &none)?;
-    let mut out = MemSink::new(alloc, 1000, &fail)?;
+    let mut out = MemSink::new(alloc, 2000, &fail)?;
     let mut err = MemSink::new(alloc, 1000, &none)?;
     let report = run(alloc, words, &mut shelf, &mut out, &mut err);
     Ok(Ran {

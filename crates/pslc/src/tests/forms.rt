@@ -1,0 +1,261 @@
+use super::Row;
+
+const A: &str = "$var wire 1 ! a $end\n$enddefinitions $end\n";
+
+const A_B: &str = "$var wire 1 ! a $end\n$var wire 1 \" b $end\n$enddefinitions $end\n";
+
+const A_B_C: &str =
+    "$var wire 1 ! a $end\n$var wire 1 \" b $end\n$var wire 1 # c $end\n$enddefinitions $end\n";
+
+const VECTORS: &str =
+    "$var wire 4 ! v [3:0] $end\n$var wire 4 \" u [0:3] $end\n$var wire 1 # a $end\n$enddefinitions $end\n";
+
+const WORDS: &str =
+    "$var wire 1 ! X $end\n$var wire 1 \" eventually $end\n$var wire 1 # _b $end\n$var wire 1 $ nextx $end\n$var wire 1 % a$1 $end\n$var wire 1 & G $end\n$enddefinitions $end\n";
+
+const ESCAPED: &str =
+    "$var wire 1 ! always $end\n$var wire 1 \" a+b $end\n$var wire 1 # x.y $end\n$enddefinitions $end\n";
+
+/// Texts of Booleans, words and comments, with their verdicts.
+pub const ROWS: [Row<'static>; 30] = [
+    Row {
+        text: "",
+        names: A,
+        body: Some("#0\n1!\n"),
+        out: "",
+        err: "",
+        status: 0,
+    },
+    Row {
+        text: " \t\u{b}\u{c}\r\n// no statement\n/* none here */ /***/",
+        names: A,
+        body: Some("#0\n1!\n"),
+        out: "",
+        err: "",
+        status: 0,
+    },
+    Row {
+        text: "assert a;",
+        names: A,
+        body: Some("#0\n1!\n"),
+        out: "assert 1: holds strongly (weak yes, neutral yes, strong yes)\n",
+        err: "",
+        status: 0,
+    },
+    Row {
+        text: "assert a;",
+        names: A,
+        body: Some("#0\n0!\n"),
+        out: "assert 1: fails (weak no, neutral no, strong no)\n",
+        err: "",
+        status: 1,
+    },
+    Row {
+        text: "assert a; assert a!;",
+        names: A,
+        body: Some(""),
+        out: "assert 1: holds (weak yes, neutral yes, strong no)\nassert 2: pending (weak yes, neutral no, strong no)\n",
+        err: "",
+        status: 1,
+    },
+    Row {
+        text: "assert true; assert false; assert true!; assert false!;",
+        names: A,
+        body: Some(""),
+        out: "assert 1: holds (weak yes, neutral yes, strong no)\nassert 2: holds (weak yes, neutral yes, strong no)\nassert 3: pending (weak yes, neutral no, strong no)\nassert 4: pending (weak yes, neutral no, strong no)\n",
+        err: "",
+        status: 1,
+    },
+    Row {
+        text: "assert true; assert false;",
+        names: A,
+        body: Some("#0\n0!\n"),
+        out: "assert 1: holds strongly (weak yes, neutral yes, strong yes)\nassert 2: fails (weak no, neutral no, strong no)\n",
+        err: "",
+        status: 1,
+    },
+    Row {
+        text: "assert 1; assert 0; assert 2'b10; assert 4'd0; assert 1_0; assert 8'hF_f; assert 6'o7_0; assert 4'B0_0;",
+        names: A,
+        body: Some("#0\n0!\n"),
+        out: "assert 1: holds strongly (weak yes, neutral yes, strong yes)\nassert 2: fails (weak no, neutral no, strong no)\nassert 3: holds strongly (weak yes, neutral yes, strong yes)\nassert 4: fails (weak no, neutral no, strong no)\nassert 5: holds strongly (weak yes, neutral yes, strong yes)\nassert 6: holds strongly (weak yes, neutral yes, strong yes)\nassert 7: holds strongly (weak yes, neutral yes, strong yes)\nassert 8: fails (weak no, neutral no, strong no)\n",
+        err: "",
+        status: 1,
+    },
+    Row {
+        text: "first: assert a report \"no \\\"a\\\" // here\"; second: assume a; cover a report \"\";",
+        names: A,
+        body: Some("#0\n1!\n"),
+        out: "assert 1 first: holds strongly (weak yes, neutral yes, strong yes)\nassume 2 second: holds strongly (weak yes, neutral yes, strong yes)\ncover 3: holds strongly (weak yes, neutral yes, strong yes)\n",
+        err: "",
+        status: 0,
+    },
+    Row {
+        text: "assert !a; assert !!a; assert !(!a); assert ! ! !a;",
+        names: A,
+        body: Some("#0\n1!\n"),
+        out: "assert 1: fails (weak no, neutral no, strong no)\nassert 2: holds strongly (weak yes, neutral yes, strong yes)\nassert 3: holds strongly (weak yes, neutral yes, strong yes)\nassert 4: fails (weak no, neutral no, strong no)\n",
+        err: "",
+        status: 1,
+    },
+    Row {
+        text: "assert always a; assert never a;",
+        names: A,
+        body: Some("#0\n1!\n#1\n1!\n"),
+        out: "assert 1: holds (weak yes, neutral yes, strong no)\nassert 2: fails (weak no, neutral no, strong no)\n",
+        err: "",
+        status: 1,
+    },
+    Row {
+        text: "assert always a; assert never a;",
+        names: A,
+        body: Some("#0\n0!\n#1\n0!\n"),
+        out: "assert 1: fails (weak no, neutral no, strong no)\nassert 2: holds (weak yes, neutral yes, strong no)\n",
+        err: "",
+        status: 1,
+    },
+    Row {
+        text: "assert always always a; assert never never a; assert always never a;",
+        names: A,
+        body: Some("#0\n1!\n#1\n0!\n"),
+        out: "assert 1: fails (weak no, neutral no, strong no)\nassert 2: pending (weak yes, neutral no, strong no)\nassert 3: fails (weak no, neutral no, strong no)\n",
+        err: "",
+        status: 1,
+    },
+    Row {
+        text: "vunit v { assert a; }",
+        names: A,
+        body: Some("#0\n1!\n"),
+        out: "assert 1: holds strongly (weak yes, neutral yes, strong yes)\n",
+        err: "",
+        status: 0,
+    },
+    Row {
+        text: "vunit v(top.m) { assert a; l: cover a; } vunit w {} vunit v { assume !a; }",
+        names: A,
+        body: Some("#0\n1!\n"),
+        out: "assert 1: holds strongly (weak yes, neutral yes, strong yes)\ncover 2 l: holds strongly (weak yes, neutral yes, strong yes)\nassume 3: fails (weak no, neutral no, strong no)\n",
+        err: "",
+        status: 1,
+    },
+    Row {
+        text: "assert a; assert b;",
+        names: A_B,
+        body: Some("#0\n1!\n0\"\n"),
+        out: "assert 1: holds strongly (weak yes, neutral yes, strong yes)\nassert 2: fails (weak no, neutral no, strong no)\n",
+        err: "",
+        status: 1,
+    },
+    Row {
+        text: "assert !a && b; assert !(a && b);",
+        names: A_B,
+        body: Some("#0\n1!\n0\"\n"),
+        out: "assert 1: fails (weak no, neutral no, strong no)\nassert 2: holds strongly (weak yes, neutral yes, strong yes)\n",
+        err: "",
+        status: 1,
+    },
+    Row {
+        text: "assert a == 1 && b == 0; assert a != 1 || b != 0; assert 1 == a; assert 1'b0 != b;",
+        names: A_B,
+        body: Some("#0\n1!\n0\"\n"),
+        out: "assert 1: holds strongly (weak yes, neutral yes, strong yes)\nassert 2: fails (weak no, neutral no, strong no)\nassert 3: holds strongly (weak yes, neutral yes, strong yes)\nassert 4: fails (weak no, neutral no, strong no)\n",
+        err: "",
+        status: 1,
+    },
+    Row {
+        text: "assert a -> always b; assert a -> never b; assert a <-> always b;",
+        names: A_B,
+        body: Some("#0\n1!\n1\"\n#1\n0!\n1\"\n"),
+        out: "assert 1: holds (weak yes, neutral yes, strong no)\nassert 2: fails (weak no, neutral no, strong no)\nassert 3: holds (weak yes, neutral yes, strong no)\n",
+        err: "",
+        status: 1,
+    },
+    Row {
+        text: "assert a -> always b; assert a -> never b; assert a <-> never b;",
+        names: A_B,
+        body: Some("#0\n0!\n0\"\n#1\n0!\n0\"\n"),
+        out: "assert 1: holds strongly (weak yes, neutral yes, strong yes)\nassert 2: holds strongly (weak yes, neutral yes, strong yes)\nassert 3: pending (weak yes, neutral no, strong no)\n",
+        err: "",
+        status: 1,
+    },
+    Row {
+        text: "assert a -> b; assert a <-> b; assert b -> a; assert b <-> a;",
+        names: A_B,
+        body: Some("#0\n1!\n0\"\n"),
+        out: "assert 1: fails (weak no, neutral no, strong no)\nassert 2: fails (weak no, neutral no, strong no)\nassert 3: holds strongly (weak yes, neutral yes, strong yes)\nassert 4: fails (weak no, neutral no, strong no)\n",
+        err: "",
+        status: 1,
+    },
+    Row {
+        text: "assert a && b!; assert (a && b)!; assert !a!; assert !(a!);",
+        names: A_B,
+        body: Some("#0\n1!\n1\"\n"),
+        out: "assert 1: holds strongly (weak yes, neutral yes, strong yes)\nassert 2: holds strongly (weak yes, neutral yes, strong yes)\nassert 3: fails (weak no, neutral no, strong no)\nassert 4: fails (weak no, neutral no, strong no)\n",
+        err: "",
+        status: 1,
+    },
+    Row {
+        text: "assert a && b || c; assert a && (b || c); assert c || a && b; assert (c || a) && b;",
+        names: A_B_C,
+        body: Some("#0\n0!\n0\"\n1#\n"),
+        out: "assert 1: holds strongly (weak yes, neutral yes, strong yes)\nassert 2: fails (weak no, neutral no, strong no)\nassert 3: holds strongly (weak yes, neutral yes, strong yes)\nassert 4: fails (weak no, neutral no, strong no)\n",
+        err: "",
+        status: 1,
+    },
+    Row {
+        text: "assert a -> b -> c; assert (a -> b) -> c; assert a -> b <-> c; assert (a -> b) <-> c;",
+        names: A_B_C,
+        body: Some("#0\n0!\n0\"\n0#\n"),
+        out: "assert 1: holds strongly (weak yes, neutral yes, strong yes)\nassert 2: fails (weak no, neutral no, strong no)\nassert 3: holds strongly (weak yes, neutral yes, strong yes)\nassert 4: fails (weak no, neutral no, strong no)\n",
+        err: "",
+        status: 1,
+    },
+    Row {
+        text: "assert a <-> b -> c; assert (a <-> b) -> c; assert a <-> b <-> c;",
+        names: A_B_C,
+        body: Some("#0\n0!\n0\"\n1#\n"),
+        out: "assert 1: fails (weak no, neutral no, strong no)\nassert 2: holds strongly (weak yes, neutral yes, strong yes)\nassert 3: holds strongly (weak yes, neutral yes, strong yes)\n",
+        err: "",
+        status: 1,
+    },
+    Row {
+        text: "assert a || b -> c; assert a || (b -> c); assert !a -> b; assert !(a -> b);",
+        names: A_B_C,
+        body: Some("#0\n1!\n0\"\n0#\n"),
+        out: "assert 1: fails (weak no, neutral no, strong no)\nassert 2: holds strongly (weak yes, neutral yes, strong yes)\nassert 3: holds strongly (weak yes, neutral yes, strong yes)\nassert 4: holds strongly (weak yes, neutral yes, strong yes)\n",
+        err: "",
+        status: 1,
+    },
+    Row {
+        text: "assert never a || b; assert always a -> b; assert never a -> b;",
+        names: A_B_C,
+        body: Some("#0\n0!\n0\"\n1#\n#1\n0!\n0\"\n1#\n"),
+        out: "assert 1: holds (weak yes, neutral yes, strong no)\nassert 2: holds (weak yes, neutral yes, strong no)\nassert 3: fails (weak no, neutral no, strong no)\n",
+        err: "",
+        status: 1,
+    },
+    Row {
+        text: "assert v; assert u; assert v == 4'b1000; assert 8 == v; assert v != 8; assert v == 4'hC; assert u == 8'h01;",
+        names: VECTORS,
+        body: Some("#0\nb1000 !\nb1 \"\n0#\n"),
+        out: "assert 1: holds strongly (weak yes, neutral yes, strong yes)\nassert 2: holds strongly (weak yes, neutral yes, strong yes)\nassert 3: holds strongly (weak yes, neutral yes, strong yes)\nassert 4: holds strongly (weak yes, neutral yes, strong yes)\nassert 5: fails (weak no, neutral no, strong no)\nassert 6: fails (weak no, neutral no, strong no)\nassert 7: holds strongly (weak yes, neutral yes, strong yes)\n",
+        err: "",
+        status: 1,
+    },
+    Row {
+        text: "assert X; assert X!; assert eventually; assert nextx; assert G && a$1; assert \\X ; assert \\a$1 ;",
+        names: WORDS,
+        body: Some("#0\n1!\n1\"\n0#\n1$\n1%\n1&\n"),
+        out: "assert 1: holds strongly (weak yes, neutral yes, strong yes)\nassert 2: holds strongly (weak yes, neutral yes, strong yes)\nassert 3: holds strongly (weak yes, neutral yes, strong yes)\nassert 4: holds strongly (weak yes, neutral yes, strong yes)\nassert 5: holds strongly (weak yes, neutral yes, strong yes)\nassert 6: holds strongly (weak yes, neutral yes, strong yes)\nassert 7: holds strongly (weak yes, neutral yes, strong yes)\n",
+        err: "",
+        status: 0,
+    },
+    Row {
+        text: "assert \\always ; assert \\a+b\t; assert \\x.y\n; assert x.y; assert x . y; assert x.\\y ;\\always : assert y;",
+        names: ESCAPED,
+        body: Some("#0\n1!\n1\"\n1#\n"),
+        out: "assert 1: holds strongly (weak yes, neutral yes, strong yes)\nassert 2: holds strongly (weak yes, neutral yes, strong yes)\nassert 3: holds strongly (weak yes, neutral yes, strong yes)\nassert 4: holds strongly (weak yes, neutral yes, strong yes)\nassert 5: holds strongly (weak yes, neutral yes, strong yes)\nassert 6: holds strongly (weak yes, neutral yes, strong yes)\nassert 7 always: holds strongly (weak yes, neutral yes, strong yes)\n",
+        err: "",
+        status: 0,
+    },
+];
