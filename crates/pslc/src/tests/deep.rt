@@ -37,8 +37,45 @@ pub const REFUSED: [Refused; 1] = [Refused {
     ],
 }];
 
-/// Texts of as many tokens as a statement may have.
-pub const LONG: [Long; 5] = [
+/// Texts of as many tokens as a statement may have, and formulas of the largest size and one past it, under clocks that
+/// are nested as deep as brackets go.
+pub const LONG: [Long; 8] = [
+    Long {
+        words: &[
+            ("assert ", 1),
+            ("(", 63),
+            ("a until b)@a", 1),
+            (")@b", 62),
+            (";", 1),
+        ],
+        out: "assert 1: holds (weak yes, neutral yes, strong no)\n",
+        err: "",
+        status: 0,
+    },
+    Long {
+        words: &[
+            ("assert ", 1),
+            ("(", 63),
+            ("next![3968](a)", 1),
+            (")@b", 63),
+            (";", 1),
+        ],
+        out: "",
+        err: "pslc: u.psl:1:1: 14 AutomatonTooLarge\n",
+        status: 7,
+    },
+    Long {
+        words: &[
+            ("assert ", 1),
+            ("(", 63),
+            ("next![3969](a)", 1),
+            (")@b", 63),
+            (";", 1),
+        ],
+        out: "",
+        err: "pslc: u.psl:1:1: 12 TooLarge\n",
+        status: 7,
+    },
     Long {
         words: &[("assert !a", 1), (" || a", 1022), (";", 1)],
         out: "assert 1: holds strongly (weak yes, neutral yes, strong yes)\n",
