@@ -6,10 +6,10 @@ ghost use Rattle.psl_layer_meaning.specs.Flaws as spec;
 use crate::signals::{is_declared_whole, refers_in};
 use crate::wants::flaw_where;
 use psl_base::{NoMemory, Place};
-use psl_grammar::{Expression, Statement};
+use psl_grammar::Expression;
 use psl_layer_meaning::{Cause, Flaw, InfixOperator, Reference, Side};
 use psl_lexer::{Token, TokenKind};
-use psl_names::{NameIndex, literal_value};
+use psl_names::{NameIndex, Scope, literal_value};
 use std::alloc::Global;
 
 // One side of a comparison that is a number, a constant, `true` or `false`.
@@ -25,7 +25,7 @@ fn literal_side(token: &Token) -> Side
 /// One side of a comparison.
 pub(crate) fn side_of(
     alloc: Global,
-    scope: &[Statement],
+    scope: &Scope,
     names: &NameIndex,
     x: &Expression,
 ) -> Result<Side, NoMemory>
@@ -41,7 +41,7 @@ pub(crate) fn side_of(
 // One side of a comparison that is a path.
 fn signal_side(
     alloc: Global,
-    scope: &[Statement],
+    scope: &Scope,
     names: &NameIndex,
     path: &[Token],
     index: &Option<Token>,

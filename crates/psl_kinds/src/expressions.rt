@@ -10,8 +10,8 @@ use crate::parts::{
 };
 use crate::signals::{edge, signal};
 use psl_base::NoMemory;
-use psl_grammar::{Expression, Statement};
-use psl_names::NameIndex;
+use psl_grammar::Expression;
+use psl_names::{NameIndex, Scope};
 use std::alloc::Global;
 
 /// The kind of an expression, the place of its first token and its first fault, after the statements before it in its
@@ -19,7 +19,7 @@ use std::alloc::Global;
 #[tactic(auto, using(crate::proofs::Firsts::of_both))]
 pub fn check(
     alloc: Global,
-    scope: &[Statement],
+    scope: &Scope,
     names: &NameIndex,
     in_sere: bool,
     expression: &Expression,

@@ -12,10 +12,10 @@ use crate::kinds::infix_kind;
 use crate::order::earlier;
 use crate::shapes::operator_before;
 use psl_base::NoMemory;
-use psl_grammar::{Expression, Statement};
+use psl_grammar::Expression;
 use psl_layer_meaning::{Flaw, InfixOperator};
 use psl_lexer::Token;
-use psl_names::NameIndex;
+use psl_names::{NameIndex, Scope};
 use std::alloc::Global;
 
 /// Two operands: each as a tree, and what is known of it.
@@ -50,7 +50,7 @@ pub(crate) fn paired<'a>(
 // The first fault of an operator between its operands, without those of the operands.
 fn operator_flaw(
     alloc: Global,
-    scope: &[Statement],
+    scope: &Scope,
     names: &NameIndex,
     in_sere: bool,
     operator: InfixOperator,
@@ -74,7 +74,7 @@ fn operator_flaw(
 /// An operator between its operands.
 pub(crate) fn joined(
     alloc: Global,
-    scope: &[Statement],
+    scope: &Scope,
     names: &NameIndex,
     in_sere: bool,
     operator: &Token,

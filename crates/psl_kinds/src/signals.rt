@@ -12,16 +12,15 @@ use crate::order::earlier;
 use crate::shapes::path_place;
 use crate::wants::flaw_where;
 use psl_base::{NoMemory, Place};
-use psl_grammar::Statement;
 use psl_layer_meaning::{Cause, ExpressionKind, Flaw, Reference};
 use psl_lexer::Token;
-use psl_names::{NameIndex, declared_as, path_text, reference};
+use psl_names::{NameIndex, Scope, declared_as, path_text, reference};
 use std::alloc::Global;
 
 // The kind of a path, if a statement declares it.
 fn declared(
     alloc: Global,
-    scope: &[Statement],
+    scope: &Scope,
     path: &[Token],
 ) -> Result<Option<ExpressionKind>, NoMemory>
     ensures { IfOk result (λ kind. kind ≡ declared_as scope.now (path_text path.now)) }
@@ -33,7 +32,7 @@ fn declared(
 /// What a path that is no declared name stands for.
 pub(crate) fn refers_in(
     alloc: Global,
-    scope: &[Statement],
+    scope: &Scope,
     names: &NameIndex,
     path: &[Token],
     index: &Option<Token>,
@@ -49,7 +48,7 @@ pub(crate) fn refers_in(
 /// Whether a path without an index stands for a declared sequence or property.
 pub(crate) fn is_declared_whole(
     alloc: Global,
-    scope: &[Statement],
+    scope: &Scope,
     path: &[Token],
     index: &Option<Token>,
 ) -> Result<bool, NoMemory>
@@ -61,7 +60,7 @@ pub(crate) fn is_declared_whole(
 // The kind of a path.
 fn signal_kind(
     alloc: Global,
-    scope: &[Statement],
+    scope: &Scope,
     path: &[Token],
     index: &Option<Token>,
 ) -> Result<ExpressionKind, NoMemory>
@@ -90,7 +89,7 @@ fn reference_flaw(reference: Reference, place: Place) -> Option<Flaw>
 // The fault of a path.
 fn signal_flaw(
     alloc: Global,
-    scope: &[Statement],
+    scope: &Scope,
     names: &NameIndex,
     path: &[Token],
     index: &Option<Token>,
@@ -117,7 +116,7 @@ fn width_flaw(reference: Reference, place: Place) -> Option<Flaw>
 // The first fault of an edge.
 fn edge_flaw(
     alloc: Global,
-    scope: &[Statement],
+    scope: &Scope,
     names: &NameIndex,
     path: &[Token],
     index: &Option<Token>,
@@ -138,7 +137,7 @@ fn edge_flaw(
 /// A path, perhaps with an index.
 pub(crate) fn signal(
     alloc: Global,
-    scope: &[Statement],
+    scope: &Scope,
     names: &NameIndex,
     path: &[Token],
     index: &Option<Token>,
@@ -157,7 +156,7 @@ pub(crate) fn signal(
 /// An edge: its word, and a path, perhaps with an index.
 pub(crate) fn edge(
     alloc: Global,
-    scope: &[Statement],
+    scope: &Scope,
     names: &NameIndex,
     word: &Token,
     path: &[Token],

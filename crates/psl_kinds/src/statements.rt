@@ -1,6 +1,5 @@
 // Statements, and lists of them.
 ghost use Rattle.std.specs.Prelude.{◌≡◌, [], IfOk};
-ghost use Rattle.std.specs.List.{list_any};
 ghost use Rattle.psl_layer_meaning.specs.Operators.{declaration_word as spec_word};
 ghost use Rattle.psl_layer_meaning.specs.FirstFlaw.{first_of};
 ghost use Rattle.psl_layer_meaning.specs.Flaws as spec;
@@ -13,7 +12,9 @@ use psl_base::NoMemory;
 use psl_grammar::Statement;
 use psl_layer_meaning::{Cause, DeclarationWord, Flaw};
 use psl_lexer::Token;
-use psl_names::{NameIndex, declaration_word, declared_as, declares_clock, directive_kind_of};
+use psl_names::{
+    Declarations, NameIndex, Scope, declaration_word, declared_as, directive_kind_of, has_clock,
+};
 use psl_tree::Kind;
 use std::alloc::Global;
 
@@ -28,23 +29,16 @@ fn directive_flaw(kind: Kind, property: Checked) -> Option<Flaw>
 }
 
 // The fault of a name that an earlier statement declares.
-fn twice_flaw(scope: &[Statement], name: &Token) -> Option<Flaw>
+fn twice_flaw(scope: &Scope, name: &Token) -> Option<Flaw>
     ensures { result ≡ first_of (spec.twice_flaws scope.now name.now) }
 {
     let declared = declared_as(scope, name.text.as_slice());
     flaw_where(declared.is_some(), Cause::DeclaredTwice, name.place)
 }
 
-// Whether some statement declares the default clock.
-fn has_clock(scope: &[Statement]) -> bool
-    ensures { result ≡ list_any spec.declares_clock scope.now }
-{
-    scope.iter().any(|statement| declares_clock(statement))
-}
-
 // The first fault of a declaration, without those of what it declares.
 #[tactic(auto, using(crate::proofs::Firsts::of_both))]
-fn declaration_flaw(scope: &[Statement], word: &Token, name: &Token, body: Checked) -> Option<Flaw>
+fn declaration_flaw(scope: &Scope, word: &Token, name: &Token, body: Checked) -> Option<Flaw>
     ensures { result ≡ first_of (spec.declaration_flaws scope.now (spec_word word.now.kind) word.now name.now body.kind body.place) }
 {
     match declaration_word(word.kind) {
@@ -64,7 +58,7 @@ fn declaration_flaw(scope: &[Statement], word: &Token, name: &Token, body: Check
 #[tactic(auto, using(crate::proofs::Firsts::of_both))]
 fn statement_flaw(
     alloc: Global,
-    scope: &[Statement],
+    scope: &Scope,
     names: &NameIndex,
     statement: &Statement,
 ) -> Result<Option<Flaw>, NoMemory>
@@ -93,9 +87,11 @@ pub(crate) fn statements_flaw(
 ) -> Result<Option<Flaw>, NoMemory>
     ensures { IfOk result (λ flaw. flaw ≡ first_of (spec.statements_flaws [] names.now all.now)) }
 {
+    let declarations = Declarations::of(alloc, all)?;
     let mut first = None;
     for place in 0..all.len() {
-        let own = statement_flaw(alloc, &all[..place], names, &all[place])?;
+        let scope = declarations.before(place);
+        let own = statement_flaw(alloc, &scope, names, &all[place])?;
         first = earlier(first, own);
     }
     Ok(first)

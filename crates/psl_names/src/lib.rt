@@ -3,6 +3,8 @@
 
 mod declared;
 mod findings;
+mod firsts;
+mod kinds;
 mod matching;
 mod operators;
 mod references;
@@ -11,7 +13,7 @@ mod tests;
 mod texts;
 mod values;
 
-pub use declared::{declared_as, declares_clock};
+pub use declared::{Declarations, Scope, declared_as, has_clock};
 pub use matching::{NameIndex, look_up};
 pub use operators::{
     declaration_word, directive_kind_of, edge_of, infix_operator, is_endless, prefix_operator,
