@@ -1,7 +1,9 @@
-// What no clause says: that an index is made with ample memory, and that it finds what a scan of the names finds.
-use crate::{NameIndex, look_up};
-use psl_base::{Items, NoMemory, Text};
-use psl_layer_meaning::Found;
+// What no clause says: that indexes are made with ample memory, and that one of names finds what a scan of them finds.
+use crate::{Declarations, NameIndex, declared_as, has_clock, look_up};
+use psl_base::{Items, NoMemory, Place, Text};
+use psl_grammar::{Expression, Statement};
+use psl_layer_meaning::{ExpressionKind, Found};
+use psl_lexer::{Token, TokenKind};
 use psl_tree::{Name, Names};
 use std::alloc::Global;
 use std::test::Fail;
@@ -89,6 +91,56 @@ fn an_index_finds_what_a_scan_finds(rt: HostRuntime) -> Result<(), Fail> {
             found => found,
         };
         assert_eq!(rt; look_up(&index, text), expected);
+    }
+    Ok(())
+}
+
+// The words of declarations, and what they declare.
+const DECLARATIONS: [(TokenKind, &[u8]); 5] = [
+    (TokenKind::Property, b"p"),
+    (TokenKind::Sequence, b"s"),
+    (TokenKind::Default, b"clock"),
+    (TokenKind::Property, b"s"),
+    (TokenKind::Sequence, b"p"),
+];
+
+fn token(alloc: Global, kind: TokenKind, text: &[u8]) -> Result<Token, NoMemory> {
+    Ok(Token {
+        kind,
+        text: Text::from_slice(alloc, text)?,
+        start: 0,
+        end: 0,
+        place: Place { line: 1, column: 1 },
+    })
+}
+
+fn statements(alloc: Global) -> Result<Items<Statement>, NoMemory> {
+    let mut statements = Items::new(alloc);
+    for (word, name) in DECLARATIONS {
+        statements.push(Statement::Declaration {
+            word: token(alloc, word, b"")?,
+            name: token(alloc, TokenKind::Name, name)?,
+            body: Expression::Literal(token(alloc, TokenKind::Number, b"1")?),
+        })?;
+    }
+    Ok(statements)
+}
+
+#[test]
+fn a_text_is_what_its_first_declaration_before_a_place_says(rt: HostRuntime) -> Result<(), Fail> {
+    let alloc = rt.alloc();
+    let statements = statements(alloc)?;
+    let all = statements.as_slice();
+    let declarations = Declarations::of(alloc, all)?;
+    assert_eq!(rt; all.len(), DECLARATIONS.len());
+    for place in 0..all.len() {
+        let scope = declarations.before(place);
+        let property = (place > 0).then_some(ExpressionKind::Property);
+        let sequence = (place > 1).then_some(ExpressionKind::Sequence);
+        assert_eq!(rt; declared_as(&scope, b"p"), property);
+        assert_eq!(rt; declared_as(&scope, b"s"), sequence);
+        assert_eq!(rt; declared_as(&scope, b"clock"), None);
+        assert_eq!(rt; has_clock(&scope), place > 2);
     }
     Ok(())
 }
