@@ -55,7 +55,8 @@ fn join_ends<'a>(findings: &mut BTreeMap<&'a [u8], Found>, name: &'a Name) -> Re
 {
     let whole = name.text.as_slice();
     for place in 0..whole.len() {
-        if whole[place] == b'.' {
+        let is_dot = whole[place] == b'.';
+        if is_dot {
             join(findings, &whole[place + 1..], name)?;
         }
     }
