@@ -294,42 +294,69 @@ fn what_directives_mean(rt: HostRuntime) -> Result<(), Fail> {
     Ok(())
 }
 
+/// Seeds, numbers of samples, what is told of the recordings, and the status.
+const MADE: [(&str, &str, &str, u8); 5] = [
+    (
+        "1",
+        "7",
+        "gen 1 7 bytes 130\nassert 1: holds (weak yes, neutral yes, strong no)\n",
+        0,
+    ),
+    (
+        "1",
+        "4",
+        "gen 1 4 bytes 103\nassert 1: pending (weak yes, neutral no, strong no)\n",
+        1,
+    ),
+    (
+        "1",
+        "10000",
+        "gen 1 10000 bytes 118957\nassert 1: holds (weak yes, neutral yes, strong no)\n",
+        0,
+    ),
+    (
+        "1",
+        "1000000",
+        "gen 1 1000000 bytes 13888957\nassert 1: holds (weak yes, neutral yes, strong no)\n",
+        0,
+    ),
+    (
+        "2147483647",
+        "1",
+        "gen 2147483647 1 bytes 76\nassert 1: pending (weak yes, neutral no, strong no)\n",
+        1,
+    ),
+];
+
 #[test]
 fn made_recordings(rt: HostRuntime) -> Result<(), Fail> {
     let alloc = rt.alloc();
-    let cases: [(&str, &str, &str, u8); 4] = [
-        (
-            "1",
-            "7",
-            "gen 1 7 bytes 130\nassert 1: holds (weak yes, neutral yes, strong no)\n",
-            0,
-        ),
-        (
-            "1",
-            "4",
-            "gen 1 4 bytes 103\nassert 1: pending (weak yes, neutral no, strong no)\n",
-            1,
-        ),
-        (
-            "1",
-            "10000",
-            "gen 1 10000 bytes 118957\nassert 1: holds (weak yes, neutral yes, strong no)\n",
-            0,
-        ),
-        (
-            "2147483647",
-            "1",
-            "gen 2147483647 1 bytes 76\nassert 1: pending (weak yes, neutral no, strong no)\n",
-            1,
-        ),
-    ];
-    for (seed, samples, out, status) in cases {
+    for (seed, samples, out, status) in MADE {
         let words = words_of(alloc, &["gen", seed, samples])?;
         let ran = run_on(alloc, words.as_slice(), "", "", None, &[])?;
         assert_eq!(rt; ran.out.bytes(), out.as_bytes());
         assert_eq!(rt; ran.err.bytes(), b"".as_slice());
         assert_eq!(rt; ran.status, status);
     }
+    Ok(())
+}
+
+#[test]
+fn a_sample_too_many(rt: HostRuntime) -> Result<(), Fail> {
+    let alloc = rt.alloc();
+    let words = words_of(alloc, &["wave", "u.psl", "r.vcd"])?;
+    let names = "$var wire 1 ! a $end\n$enddefinitions $end\n";
+    let mut body = String::new(alloc);
+    for time in 0..1_000_001u32 {
+        body.push_str(format!(in alloc; "#{time}\n")?.as_str())?;
+    }
+    let ran = run_on(alloc, words.as_slice(), "", names, Some(body.as_str()), &[])?;
+    assert_eq!(rt; ran.out.bytes(), b"".as_slice());
+    assert_eq!(rt;
+        ran.err.bytes(),
+        b"pslc: r.vcd:1000003:1: V13 TooManySamples\n".as_slice()
+    );
+    assert_eq!(rt; ran.status, 7);
     Ok(())
 }
 
