@@ -1,4 +1,9 @@
-use crate::ranged::{are_in_range, are_small};
+ghost use Rattle.std.specs.Prelude.{◌≤◌, All, IfOk};
+ghost use Rattle.psl_tree.specs.Atoms.{AtomsOfFormula};
+ghost use Rattle.psl_tree.specs.Counts.{formula_size};
+ghost use Rattle.psl_tree.specs.Names.{AtomInRange};
+ghost use Rattle.psl_tree.specs.Trees.{formula_of};
+
 use crate::satisfied::is_satisfied;
 use crate::scenes::recording;
 use crate::words::Letter;
@@ -13,7 +18,7 @@ use std::alloc::Global;
 use std::process::Abort;
 use std::test::Fail;
 use vcd_reader::Recording;
-use wave_judge::{JudgeFault, Verdicts, judge};
+use wave_judge::judge;
 
 /// A text, the samples of a recording, and the verdicts of its directives: for each one the weak, the
 /// neutral and the strong view, `y` or `n`.
@@ -45,7 +50,10 @@ pub fn layer_fault(
 }
 
 /// The directives of a text over the names of a recording.
-pub fn directives(alloc: Global, text: &str, recording: &Recording) -> Result<Unit, Fail> {
+pub fn directives(alloc: Global, text: &str, recording: &Recording) -> Result<Unit, Fail>
+    ensures in_range { IfOk result (λ unit. All (λ directive. AtomsOfFormula (AtomInRange recording.now.names) (formula_of directive.formula)) unit) }
+    ensures small { IfOk result (λ unit. All (λ directive. formula_size (formula_of directive.formula) ≤ 4096) unit) }
+{
     let tree = tree_of(alloc, text)?;
     Ok(resolve(alloc, &tree, recording.names())?)
 }
@@ -60,20 +68,13 @@ fn add(shown: &mut String, views: [bool; 3]) -> Result<(), Fail> {
     Ok(())
 }
 
-/// The verdicts of directives that `judge` can be asked for; none of any others.
-pub fn verdicts(alloc: Global, unit: &Unit, recording: &Recording) -> Result<Verdicts, JudgeFault> {
-    let names = recording.names().as_slice();
-    if are_in_range(names, unit.as_slice()) && are_small(unit.as_slice()) {
-        judge(alloc, unit, recording)
-    } else {
-        Ok(Items::new(alloc))
-    }
-}
-
 /// The verdicts of the judge.
-pub fn judged(alloc: Global, unit: &Unit, recording: &Recording) -> Result<String, Fail> {
+pub fn judged(alloc: Global, unit: &Unit, recording: &Recording) -> Result<String, Fail>
+    requires in_range { All (λ directive. AtomsOfFormula (AtomInRange recording.now.names) (formula_of directive.formula)) unit.now }
+    requires small { All (λ directive. formula_size (formula_of directive.formula) ≤ 4096) unit.now }
+{
     let mut shown = String::new(alloc);
-    for verdict in verdicts(alloc, unit, recording)?.as_slice() {
+    for verdict in judge(alloc, unit, recording)?.as_slice() {
         add(&mut shown, [verdict.weak, verdict.neutral, verdict.strong])?;
     }
     Ok(shown)

@@ -1,11 +1,11 @@
-use crate::comparing::{Row, directives, judged, layer_fault, verdicts};
+use crate::comparing::{Row, directives, judged, layer_fault};
 use crate::scenes::recording;
 use psl_base::Place;
 use psl_layer_meaning::LayerFault;
 use std::alloc::Global;
 use std::process::Abort;
 use std::test::Fail;
-use wave_judge::JudgeFault;
+use wave_judge::{JudgeFault, judge};
 
 const TOO_LARGE: LayerFault = LayerFault::TooLarge(Place { line: 1, column: 1 });
 
@@ -90,7 +90,7 @@ fn refuse(rt: &impl Abort, alloc: Global, refusals: &[Refusal]) -> Result<(), Fa
     let recording = recording(alloc, "a b")?;
     for (text, want) in refusals {
         let unit = directives(alloc, text, &recording)?;
-        let found = match verdicts(alloc, &unit, &recording) {
+        let found = match judge(alloc, &unit, &recording) {
             Ok(_) => None,
             Err(fault) => Some(fault),
         };

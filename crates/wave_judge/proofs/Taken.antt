@@ -49,7 +49,7 @@ values_more a atoms values taken v steps lengths = record {
 pub steps_more : (a : Automaton) (atoms : List Atom) (values : List Values) (taken new : List (Option Step)) (place : ℕ) (step : Step) → AreSteps a atoms values taken → IsStep a atoms values step → new ≡ slice_set taken place (Some step) → AreSteps a atoms values new
 steps_more a atoms values taken new place step steps is e = record {
   lengths = steps.lengths;
-  places = ap length e ∙ length-set taken place (Some step) ∙ steps.places;
+  places = let same : length new ≡ length taken = ap length e ∙ length-set taken place (Some step) in omega (arith, steps.places);
   steps = let P : List (Option Step) → Type 0 = λ entries. All (λ entry. IfSome entry (IsStep a atoms values)) entries in
       subst P (sym e) (All-set (λ entry. IfSome entry (IsStep a atoms values)) taken place (Some step) is steps.steps);
 }
@@ -104,7 +104,7 @@ can_be_kept a atoms letter old new step leads e = record {
 }
 
 -- no steps, and the values past the last sample alone
-pub begins : (a : Automaton) (past : Values) (values : List Values) (taken : List (Option Step)) → HasLengths a past → values ≡ past ∷ [] → length taken ≡ 16384 → All (λ entry. entry ≡ None) taken
+pub begins : (a : Automaton) (past : Values) (values : List Values) (taken : List (Option Step)) → HasLengths a past → values ≡ past ∷ [] → 0 < length taken → All (λ entry. entry ≡ None) taken
     → (atoms : List Atom) → AreSteps a atoms values taken
 begins a past values taken lengths one places none atoms = record {
   lengths = let P : List Values → Type 0 = λ l. All (HasLengths a) l in subst P (sym one) (all_one (HasLengths a) past lengths);

@@ -16,7 +16,7 @@ pub record IsStep (automaton : Automaton) (atoms : List Atom) (values : List Val
 -- all steps that are kept lead between these values
 pub record AreSteps (automaton : Automaton) (atoms : List Atom) (values : List Values) (taken : List (Option Step)) : Type 0 where
   pub lengths : All (HasLengths automaton) values
-  pub places : length taken ≡ 16384
+  pub places : 0 < length taken
   pub steps : All (λ entry. IfSome entry (IsStep automaton atoms values)) taken
 
 -- the step is among those that are kept

@@ -11,8 +11,6 @@ mod packing;
 mod pass;
 #[cfg(test)]
 mod ranged;
-#[cfg(test)]
-mod slow;
 mod steps;
 #[cfg(test)]
 mod tests;

@@ -58,7 +58,7 @@ fn kept_steps(
 {
     let mut letter = Truths::new(alloc, atoms.len() as u32)?;
     let mut hints = no_hints(alloc, atoms)?;
-    let mut steps = Steps::new(alloc, automaton)?;
+    let mut steps = Steps::new(alloc, automaton, recording.samples())?;
     let mut number = 0;
     for sample in (0..recording.samples()).rev() {
         if steps.is_full() {

@@ -16,7 +16,7 @@ fn is_within(name: &Name, atom: &Atom) -> bool
 }
 
 /// Whether an atom is in range of names.
-pub fn is_in_range(names: &[Name], atom: &Atom) -> bool
+fn is_in_range(names: &[Name], atom: &Atom) -> bool
     ensures { IsTrue result → AtomInRange names.now atom.now }
 {
     names.iter().any(|name| name.signal == atom.signal)

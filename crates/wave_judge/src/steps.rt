@@ -13,8 +13,8 @@ use std::alloc::Global;
 // How many values are kept: not many, since each that a step gives is compared with them.
 const MOST_VALUES: usize = 256;
 
-// How many places there are for steps between them.
-const PLACES: usize = 16_384;
+// How many places there are for steps between them, at the most.
+const MOST_PLACES: usize = 16_384;
 
 /// A step back from some kept values over a letter of one word to others, by their numbers.
 #[derive(Clone, Copy)]
@@ -33,12 +33,14 @@ pub(crate) struct Steps {
 }
 
 impl Steps {
-    /// No steps yet, and the values past the last sample, which have the number 0.
-    pub(crate) fn new(alloc: Global, automaton: &Alternating) -> Result<Steps, NoMemory>
+    /// No steps yet, and the values past the last sample, which have the number 0. There is room for
+    /// about so many steps.
+    pub(crate) fn new(alloc: Global, automaton: &Alternating, steps: u32) -> Result<Steps, NoMemory>
         ensures steps { IfOk result (λ steps. (atoms : List Atom) → AreSteps automaton.now atoms steps.values.items steps.taken.items) }
         ensures past { IfOk result (λ steps. (0 < length steps.values.items) × ((other : Values) → AreValues automaton.now [] (slice_index_or steps.values.items 0 other))) }
     {
-        let taken = no_steps(alloc)?;
+        let places = (steps as usize).clamp(1, MOST_PLACES);
+        let taken = no_steps(alloc, places)?;
         let mut values = Vec::new(alloc);
         let past = Values::past(alloc, automaton)?;
         values.push(past).map_err(|_| NoMemory)?;
@@ -146,10 +148,10 @@ impl Steps {
 
     /// The number of the values to which a step leads that was taken.
     fn known(&self, from: u32, letter: u32) -> Option<u32>
-        requires { length self.now.taken.items ≡ 16384 }
+        requires { 0 < length self.now.taken.items }
         ensures { IfSome result (λ to. HasTaken self.now.taken.items (record { from = from; letter = letter; to = to })) }
     {
-        let step = self.taken[place_of(from, letter)]?;
+        let step = self.taken[place_of(from, letter, self.taken.len())]?;
         if step.from == from && step.letter == letter {
             Some(step.to)
         } else {
@@ -159,30 +161,28 @@ impl Steps {
 
     /// Keeps a step, in place of another one.
     fn note(&mut self, step: Step)
-        requires { length self.old.taken.items ≡ 16384 }
+        requires { 0 < length self.old.taken.items }
         ensures values { self.new.values.items ≡ self.old.values.items }
         ensures taken { (place : ℕ) × (self.new.taken.items ≡ slice_set self.old.taken.items place (Some step)) }
     {
-        let place = place_of(step.from, step.letter);
+        let place = place_of(step.from, step.letter, self.taken.len());
         self.taken[place] = Some(step);
     }
 }
 
 /// Places for steps, where none is kept yet.
-fn no_steps(alloc: Global) -> Result<Vec<Option<Step>>, NoMemory>
-    ensures places { IfOk result (λ taken. length taken.items ≡ 16384) }
+fn no_steps(alloc: Global, places: usize) -> Result<Vec<Option<Step>>, NoMemory>
+    requires { 0 < places }
+    ensures places { IfOk result (λ taken. 0 < length taken.items) }
     ensures none { IfOk result (λ taken. All (λ entry. entry ≡ None) taken.items) }
 {
-    let mut taken = Vec::new(alloc);
-    for _place in 0..PLACES {
-        taken.push(None).map_err(|_| NoMemory)?;
-    }
-    Ok(taken)
+    vec![in alloc; None; places].map_err(|_| NoMemory)
 }
 
-/// Where a step is kept.
-fn place_of(from: u32, letter: u32) -> usize
-    ensures { result < 16384 }
+/// Where a step is kept, of so many places.
+fn place_of(from: u32, letter: u32, places: usize) -> usize
+    requires { 0 < places }
+    ensures { result < places }
 {
-    (from as usize * 64 + letter as usize) % PLACES
+    (from as usize * 64 + letter as usize) % places
 }

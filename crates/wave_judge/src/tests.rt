@@ -1,5 +1,4 @@
 use crate::ranged::{are_in_range, are_small};
-use crate::slow::is_slow_verdict;
 use crate::{JudgeFault, Level, Verdicts, judge, level};
 use psl_base::{Bytes, File, Files, Items, MemShelf, NoMemory, Numbers, Place, boxed};
 use psl_tree::{Atom, Bool, Directive, Edge, Fl, Kind, Sere, Unit};
@@ -180,51 +179,6 @@ fn worked_rows(rt: HostRuntime) -> Result<(), Fail> {
     for (text, samples, want) in ROWS {
         let found = shown(alloc, text, samples)?;
         assert_eq!(rt; found.as_str(), want, "{text}: {samples}");
-    }
-    Ok(())
-}
-
-const FORMULAS: [&str; 9] = [
-    "a!bX&",
-    "abUcU",
-    "abcUU!",
-    "ta!!bX!&!!U!",
-    "taXU!s&",
-    "abX!U!cX!&",
-    "rf!U",
-    "tf!U!rXX&!",
-    "sa!bU!X!X",
-];
-
-const SAMPLES: [&str; 9] = [
-    "",
-    "a",
-    "-",
-    "a b",
-    "b ab c",
-    "a a ab bc -",
-    "- a - a b",
-    "abc - abc",
-    "c bc a ab a",
-];
-
-#[test]
-fn as_by_plain_recursion(rt: HostRuntime) -> Result<(), Fail> {
-    let alloc = rt.alloc();
-    let mut unit = Items::new(alloc);
-    for text in FORMULAS {
-        add(&mut unit, 1, formula(alloc, text)?)?;
-    }
-    for samples in SAMPLES {
-        let recording = recording(alloc, samples)?;
-        let verdicts = judged(alloc, &unit, &recording)?;
-        assert_eq!(rt; verdicts.len(), FORMULAS.len());
-        for (verdict, directive) in verdicts.as_slice().iter().zip(unit.as_slice()) {
-            assert!(rt;
-                is_slow_verdict(verdict, directive, &recording),
-                "{samples}"
-            );
-        }
     }
     Ok(())
 }
