@@ -139,6 +139,10 @@ pub record HasTaken (limit : ℕ) (name : List ℕ) (shelf : ShelfState) : Type 
 abbrev pub ReadingFails : List ℕ → ShelfState → ShelfState → Type 0
 ReadingFails name old new = Rose old.read_faults new.read_faults ⊎ Tells old name None
 
+-- no other name than this one is selected
+abbrev pub SelectsNoOther : List ℕ → ShelfState → Type 0
+SelectsNoOther name shelf = (shelf.selected ≡ None) ⊎ (shelf.selected ≡ Some name)
+
 -- these bytes were read of the selected name, from its first byte on
 pub record Takes (bytes : List ℕ) (old new : ShelfState) : Type 0 where
   pub front : OfSelected old (λ content. take (length bytes) content ≡ bytes)

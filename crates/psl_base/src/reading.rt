@@ -1,6 +1,6 @@
 ghost use Rattle.std.specs.Prelude.{◌≡◌, ◌≢◌, ◌^◌, ◌<◌, ◌≤◌, None, length, IfOk, IsErrOf};
 ghost use Rattle.psl_base.specs.Faults.{Rose};
-ghost use Rattle.psl_base.specs.Shelf.{OnlyReads, IsContent, IsLonger, OfSelected, Tells, HasTaken, ReadingFails};
+ghost use Rattle.psl_base.specs.Shelf.{OnlyReads, IsContent, IsLonger, OfSelected, Tells, HasTaken, ReadingFails, SelectsNoOther};
 ghost use Rattle.psl_base.specs.declared.reading.ReadAllFault.TheVariants.{ReadFault, TooLong, NoMemory as MemoryFault};
 
 use crate::{Bytes, Failed, Shelf};
@@ -60,6 +60,7 @@ pub fn read_all<S: Shelf>(
 
     ensures failed { IsErrOf result ReadAllFault.ReadFault → ReadingFails name.now (S.state shelf.old) (S.state shelf.new) }
     ensures absent { Tells (S.state shelf.old) name.now None → IsErrOf result ReadAllFault.ReadFault }
+    ensures last { IsErrOf result ReadAllFault.ReadFault → SelectsNoOther name.now (S.state shelf.new) }
     ensures counted { (S.state shelf.old).read_faults < (S.state shelf.new).read_faults → IsErrOf result ReadAllFault.ReadFault }
 
     ensures rest { OnlyReads (S.state shelf.old) (S.state shelf.new) }
@@ -87,7 +88,7 @@ fn read_rest<S: Shelf>(
     ensures within { IfOk result (λ bytes. length bytes ≤ limit) }
     ensures longer { IsErrOf result ReadAllFault.TooLong → OfSelected (S.state shelf.old) (λ content. limit < length content) }
     ensures taken { IsErrOf result ReadAllFault.TooLong → limit < (S.state shelf.new).cursor }
-    ensures selected { IsErrOf result ReadAllFault.TooLong → (S.state shelf.new).selected ≡ (S.state shelf.old).selected }
+    ensures selected { (S.state shelf.new).selected ≡ (S.state shelf.old).selected }
     ensures failed { IsErrOf result ReadAllFault.ReadFault → Rose (S.state shelf.old).read_faults (S.state shelf.new).read_faults }
     ensures counted { (S.state shelf.old).read_faults < (S.state shelf.new).read_faults → IsErrOf result ReadAllFault.ReadFault }
     ensures rest { OnlyReads (S.state shelf.old) (S.state shelf.new) }

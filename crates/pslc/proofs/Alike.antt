@@ -1,7 +1,6 @@
 -- Readings whose results are alike: one fault, or values that are alike.
-use Rattle.std.proofs.Common.{◌≡◌, refl, sym, ◌∙◌, ap, subst, ℕ, ◌<◌, ◌≤◌, List, length, Option, None, Some, Ok, Err, arith, inl, inr}
-use Rattle.std.specs.Prelude.{◌⊎◌, ◌≢◌, Result}
-use Rattle.psl_base.specs.Places.{file_limit}
+use Rattle.std.proofs.Common.{◌≡◌, refl, sym, ◌∙◌, ap, subst, ℕ, List, Option, None, Some, Ok, Err, arith, inl, inr}
+use Rattle.std.specs.Prelude.{◌≢◌, Result}
 use Rattle.psl_base.specs.declared.place.Place.{Place}
 use Rattle.pslc.specs.Faults.{fault_in, of_file, fault_of}
 use Rattle.pslc.specs.Stages.{AndThen, ToldBy, OfContent}

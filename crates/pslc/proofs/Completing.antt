@@ -1,10 +1,10 @@
 -- Why a run ended as it did, and that where nothing fails the answer is the first refusal.
-use Rattle.std.proofs.Common.{◌≡◌, refl, sym, ◌∙◌, ap, subst, ℕ, List, Option, None, Some, inl, inr}
+use Rattle.std.proofs.Common.{◌≡◌, refl, sym, ◌∙◌, subst, ℕ, List, Option, None, Some, inl, inr}
 use Rattle.std.specs.Prelude.{◌⊎◌, Result, Ok, Err, IfOk, IfErr}
 use Rattle.psl_base.specs.Faults.{Rose}
-use Rattle.psl_base.specs.Shelf.{Contents, ShelfState, OnlyReads}
+use Rattle.psl_base.specs.Shelf.{Contents, ShelfState}
 use Rattle.pslc.proofs.Staging.{cause-moved, same_state}
-use Rattle.pslc.specs.Commands.{CommandStage, FirstRefusal, IsOutcomeOf, IsNamed, IsWave, IsShow, IsGen, IsNoCommand, Waved, LinesShown}
+use Rattle.pslc.specs.Commands.{CommandStage, FirstRefusal, IsOfCommand, IsOutcomeOf, IsNamed, IsWave, IsShow, IsGen, IsNoCommand, Waved, LinesShown}
 use Rattle.command_words.specs.Commands as words_of
 use Rattle.command_words.specs.Commands.{Meaning as meaning}
 use Rattle.pslc.specs.Generated.{GeneratedStage}
@@ -108,6 +108,12 @@ module _ (words : List (List ℕ)) (seed samples : ℕ) (is : IsGen words seed s
   made-found outcome files (verdicts, are, e) =
       let same : outcome ≡ Made seed samples _ verdicts = (let whole : Ok outcome ≡ Ok (Made seed samples _ verdicts) = e in cc) in
       subst (IsOutcomeOf words files) (sym same) (inr (inr (inr (seed, samples, is, (verdicts, are, refl)))))
+
+  pub made-command : (result : Result Outcome Fault) → IfOk result (λ outcome. GeneratedStage seed samples (Ok outcome)) → IfOk result (λ outcome. IsOfCommand words outcome)
+  made-command (Ok outcome) (verdicts, are, e) =
+      let same : outcome ≡ Made seed samples _ verdicts = (let whole : Ok outcome ≡ Ok (Made seed samples _ verdicts) = e in cc) in
+      subst (IsOfCommand words) (sym same) (is, (verdicts, are, refl))
+  made-command (Err fault) h = tt
 
   pub made-unrefused : (outcome : Outcome) (old new : ShelfState) → GeneratedStage seed samples (Ok outcome) → Explained ⊥ old new (FirstRefusal words) None
   made-unrefused outcome old new stage = λ files told. (Ok outcome, inr (inr (inr (seed, samples, is, stage))), refl)

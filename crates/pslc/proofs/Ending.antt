@@ -1,12 +1,13 @@
 -- How a run ended, by what was planned and what was written: whose its fault is, what it found out, and its status.
-use Rattle.std.proofs.Common.{◌≡◌, refl, sym, ◌∙◌, ap, subst, ℕ, ◌<◌, ◌≤◌, List, Option, None, Some, arith, inl, inr}
+use Rattle.std.proofs.Common.{◌≡◌, refl, sym, ◌∙◌, ap, subst, ℕ, ◌<◌, List, Option, None, Some, arith, inl, inr}
 use Rattle.std.specs.Prelude.{◌⊎◌, Result, Ok, Err, IfOk, IfErr, IfSome}
 use Rattle.psl_base.specs.Shelf.{ShelfState}
 use Rattle.psl_base.specs.Sink.{SinkState}
-use Rattle.pslc.specs.Commands.{IsNamed}
+use Rattle.pslc.proofs.Staging.{none-unread}
+use Rattle.pslc.specs.Commands.{IsNamed, IsOfCommand}
 use Rattle.pslc.specs.Endings.{status_of, reason_status, IsUnwritten, Prints, PrintsFault, EndsWith, EndsFaulted, IsDeviceStatus}
 use Rattle.pslc.specs.Faults.{of_none}
-use Rattle.pslc.specs.Stages.{Cause, OfWords, OfReading, OfWriting, OfText, OfMemory, cause_of, IsCounted}
+use Rattle.pslc.specs.Stages.{Cause, OfWords, OfReading, OfWriting, OfText, OfMemory, cause_of, IsUnread, IsCounted}
 use Rattle.pslc.specs.declared.finish.Planned.{Planned}
 use Rattle.pslc.specs.declared.outcome.Fault.{Fault}
 use Rattle.pslc.specs.declared.outcome.Outcome.{Outcome}
@@ -49,6 +50,38 @@ module _ (A B : Type 0) (outcome : Outcome) (fault : Option Fault) where
           | inr w ↦ subst (λ o. IfSome o (IsNamed words)) (sym w.0) (inr (inl refl))
         ])
       ]
+
+  no-writing : (WriteFault ≡ ReadFault) → ⊥
+  no-writing e = let wrong : OfWriting ≡ OfReading = ap cause_of e in cc
+
+  no-memory : (NoMemory ≡ ReadFault) → ⊥
+  no-memory e = let wrong : OfMemory ≡ OfReading = ap cause_of e in cc
+
+  pub run-unread : (new : ShelfState) (planned : Result Planned Fault) → IfErr planned (λ f. IsUnread new f)
+      → IfOk planned (λ made. EndsWith made.outcome outcome fault (of_none WriteFault) A)
+      → IfErr planned (λ f. EndsFaulted f outcome fault (of_none NoMemory) (of_none WriteFault) B)
+      → IfSome fault (λ f. IsUnread new f)
+  run-unread new (Ok made) _ ends _ =
+      elim ends.fault_is [
+        | inl e ↦ subst (λ o. IfSome o (IsUnread new)) (sym e) tt
+        | inr w ↦ subst (λ o. IfSome o (IsUnread new)) (sym w.0) (none-unread new WriteFault (of_none WriteFault) no-writing refl)
+      ]
+  run-unread new (Err f) unread _ ends =
+      elim ends.fault_is [
+        | inl e ↦ subst (λ o. IfSome o (IsUnread new)) (sym e) unread
+        | inr other ↦ (elim other [
+          | inl e ↦ subst (λ o. IfSome o (IsUnread new)) (sym e) (none-unread new NoMemory (of_none NoMemory) no-memory refl)
+          | inr w ↦ subst (λ o. IfSome o (IsUnread new)) (sym w.0) (none-unread new WriteFault (of_none WriteFault) no-writing refl)
+        ])
+      ]
+
+  -- what was found out is what was planned, or nothing
+  pub run-command : (words : List (List ℕ)) (planned : Result Planned Fault) → IfOk planned (λ made. IsOfCommand words made.outcome)
+      → IfOk planned (λ made. EndsWith made.outcome outcome fault (of_none WriteFault) A)
+      → IfErr planned (λ f. EndsFaulted f outcome fault (of_none NoMemory) (of_none WriteFault) B)
+      → IsOfCommand words outcome
+  run-command words (Ok made) is ends _ = subst (IsOfCommand words) (sym ends.outcome_kept) is
+  run-command words (Err f) _ _ ends = subst (IsOfCommand words) (sym ends.no_outcome) tt
 
   -- with a fault nothing was found out, unless it is of writing
   abbrev FoundNothing : Fault → Type 0

@@ -1,6 +1,6 @@
 -- What `gen` gives: the made recording is read as it was made, and its one directive can be judged.
-use Rattle.std.proofs.Common.{◌≡◌, refl, sym, ◌∙◌, ap, subst, ℕ, ◌≤◌, List, [], ◌∷◌, length, Option, None, Some, Ok, Err, arith, inl, inr}
-use Rattle.std.specs.Prelude.{◌⊎◌, Result, All, Any, codes}
+use Rattle.std.proofs.Common.{◌≡◌, refl, sym, ◌∙◌, ap, subst, ℕ, ◌≤◌, List, [], ◌∷◌, Some, Ok, arith}
+use Rattle.std.specs.Prelude.{Result, All, Any, codes}
 use Rattle.std.proofs.lemmas.List.Elements.{All-cons, All-nil}
 use Rattle.psl_base.specs.Files.{content_of}
 use Rattle.psl_base.specs.MemShelfState.{MemoryShelf, shelf_state}

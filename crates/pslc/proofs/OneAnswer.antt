@@ -1,6 +1,6 @@
 -- Words over contents have one first refusal, or none.
-use Rattle.std.proofs.Common.{◌≡◌, refl, sym, ◌∙◌, ap, subst, ℕ, ◌<◌, ◌^◌, List, [], ◌∷◌, map, Option, None, Some, Ok, Err, arith, inl, inr}
-use Rattle.std.specs.Prelude.{◌⊎◌, ◌≢◌, Result, Contains}
+use Rattle.std.proofs.Common.{◌≡◌, refl, sym, ◌∙◌, ap, subst, ℕ, ◌<◌, ◌^◌, List, [], map, Option, None, Some, Ok, Err, arith, inl, inr}
+use Rattle.std.specs.Prelude.{◌⊎◌, ◌≢◌, Result}
 use Rattle.psl_base.specs.Shelf.{Contents}
 use Rattle.psl_base.specs.declared.place.Place.{Place}
 use Rattle.command_words.proofs.Meanings.{one_meaning}
@@ -9,8 +9,8 @@ use Rattle.psl_grammar.specs.declared.tree.UnitTree.{UnitTree}
 use Rattle.psl_grammar.specs.Surface.{tree_node}
 use Rattle.psl_layer_laws.proofs.TreeLaws.{same-tree}
 use Rattle.psl_layer_meaning.proofs.Resolved.{one_fault as one_layer_fault}
-use Rattle.psl_layer_meaning.specs.Answers.{IsUnit, IsFlawAt, IsTooLargeAt, IsLayerFault, directive_of, numbered, first_too_large}
-use Rattle.psl_layer_meaning.specs.Directives.{Asked, kernel}
+use Rattle.psl_layer_meaning.specs.Answers.{IsUnit, IsFlawAt, IsLayerFault, numbered, first_too_large}
+use Rattle.psl_layer_meaning.specs.Directives.{kernel}
 use Rattle.psl_layer_meaning.specs.FirstFlaw.{IsFirstFlaw}
 use Rattle.psl_layer_meaning.specs.Flaws.{tree_flaws}
 use Rattle.psl_layer_meaning.specs.declared.fault.Cause.{Cause}
@@ -30,7 +30,7 @@ use Rattle.pslc.proofs.Alike.{Alike, Agree, alike-err, alike-ok, agree-faults, a
 use Rattle.pslc.proofs.SameUnits.{SameUnit, all-judgeable, same-first, same-judge_place}
 use Rattle.pslc.specs.Causes.{lex_reason, lex_place, parse_reason, parse_place, layer_reason, layer_place, judge_reason, judge_place, vcd_reason, vcd_place}
 use Rattle.pslc.specs.Commands.{CommandStage, FirstRefusal, IsWave, IsShow, IsGen, IsNoCommand, Waved, LinesShown}
-use Rattle.pslc.specs.Faults.{of_none, fault_of}
+use Rattle.pslc.specs.Faults.{of_none}
 use Rattle.pslc.specs.Generated.{GeneratedStage}
 use Rattle.pslc.specs.Stages.{AndThen, Then}
 use Rattle.pslc.specs.Waves.{TokensReading, TreeReading, UnitReading, RecordingReading, DirectivesReading, AreJudged, JudgeReading, VerdictsReading, LinesReading, UnitStage, RecordingStage, InputsStage, WaveStage, ShowStage, line_of}

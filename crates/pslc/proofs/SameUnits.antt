@@ -12,7 +12,7 @@ use Rattle.psl_meaning.specs.Plain.{plain}
 use Rattle.psl_tree.specs.Counts.{obligations_of}
 use Rattle.psl_tree.specs.Trees.{Formula}
 use Rattle.psl_tree.specs.declared.directive.Directive.{Directive}
-use Rattle.pslc.specs.Causes.{directive_place, judge_place, judge_reason}
+use Rattle.pslc.specs.Causes.{directive_place, judge_place}
 use Rattle.wave_judge.specs.Faults.{unclocked, IsJudgeable, IsRefused, IsFirstFault}
 use Rattle.wave_judge.specs.declared.fault.JudgeFault.{JudgeFault}
 use Rattle.wave_judge.specs.declared.fault.JudgeFault.TheVariants as judge

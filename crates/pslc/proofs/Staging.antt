@@ -1,12 +1,11 @@
 -- Stages one after the other: what they give over the contents that are told, and why they refuse.
 use Rattle.std.proofs.Common.{◌≡◌, refl, sym, ◌∙◌, ap, subst, ℕ, ◌<◌, ◌≤◌, List, length, Option, None, Some, Ok, Err, arith, inl, inr}
 use Rattle.std.specs.Prelude.{◌⊎◌, ◌≢◌, Result, IfOk, IfErr}
-use Rattle.psl_base.specs.Faults.{Rose}
 use Rattle.psl_base.specs.Places.{file_limit}
-use Rattle.psl_base.specs.Shelf.{Contents, ShelfState, OnlyReads, IsContent, IsLonger, ReadingFails, Tells}
+use Rattle.psl_base.specs.Shelf.{Contents, ShelfState, OnlyReads, IsContent}
 use Rattle.psl_base.specs.declared.place.Place.{Place}
 use Rattle.pslc.specs.Faults.{fault_in, of_file, of_none}
-use Rattle.pslc.specs.Stages.{SpeaksOfFile, AndThen, Then, ToldBy, OfContent, OfFile, Cause, OfWords, OfReading, OfWriting, OfText, OfMemory, cause_of, OfTold, HasCause, Gives, Refuses, IsOfFile, IsOfFileOrMemory, IsCounted, LoadFails, for_memory, unread, longer, IsTextFault, TextFails}
+use Rattle.pslc.specs.Stages.{SpeaksOfFile, AndThen, Then, ToldBy, OfContent, OfFile, Cause, OfWords, OfReading, OfWriting, OfText, OfMemory, cause_of, HasCause, Gives, Refuses, IsOfFile, IsOfFileOrMemory, IsUnread, LoadFails, for_memory, unread, longer, TextFails}
 use Rattle.pslc.specs.declared.outcome.Fault.{Fault}
 use Rattle.pslc.specs.declared.outcome.Reason.{Reason}
 use Rattle.pslc.specs.declared.outcome.Reason.TheVariants.{ReadFault, TooLong, NoMemory}
@@ -57,8 +56,8 @@ module _ {A : Type 0} (Reading : List ℕ → Result A Fault → Type 0) (name :
 
   pub loading-refuses : (old new : ShelfState) (fault : Fault) → LoadFails name old new fault → Refuses old new (OfFile Reading name) fault
   loading-refuses old new fault (for_memory e) = subst (λ (f : Fault). Refuses old new (OfFile Reading name) f) (sym e) tt
-  loading-refuses old new fault (unread e (inl rose)) = subst (λ (f : Fault). Refuses old new (OfFile Reading name) f) (sym e) (inl rose)
-  loading-refuses old new fault (unread e (inr (files, told, absent))) =
+  loading-refuses old new fault (unread e (inl rose) _) = subst (λ (f : Fault). Refuses old new (OfFile Reading name) f) (sym e) (inl rose)
+  loading-refuses old new fault (unread e (inr (files, told, absent)) _) =
       subst (λ (f : Fault). Refuses old new (OfFile Reading name) f) (sym e) (inr (files, told, of-absent files absent))
   loading-refuses old new fault (longer e h) =
       subst (λ (f : Fault). Refuses old new (OfFile Reading name) f) (sym e) (λ files told. let k = h files told in of-long files k.0 k.1 k.2)
@@ -140,8 +139,38 @@ text-named name Refusal fault (inr t) = inr (of-text name fault t.cause t.file)
 
 pub loading-named : (name : List ℕ) (old new : ShelfState) (fault : Fault) → LoadFails name old new fault → IsOfFileOrMemory name fault
 loading-named name old new fault (for_memory e) = inl e
-loading-named name old new fault (unread e _) = inr (subst (IsOfFile name) (sym e) record { reason = tt; file = refl })
+loading-named name old new fault (unread e _ _) = inr (subst (IsOfFile name) (sym e) record { reason = tt; file = refl })
 loading-named name old new fault (longer e _) = inr (subst (IsOfFile name) (sym e) record { reason = tt; file = refl })
+
+-- which of them are of reading
+
+pub other-unread : (new : ShelfState) (fault : Fault) → (fault.reason ≢ ReadFault) → IsUnread new fault
+other-unread new fault other is = absurd (other is)
+
+pub none-unread : (new : ShelfState) (reason : Reason) (fault : Fault) → (reason ≢ ReadFault) → fault ≡ of_none reason → IsUnread new fault
+none-unread new reason fault other e = subst (IsUnread new) (sym e) (other-unread new (of_none reason) other)
+
+no-memory : NoMemory ≢ ReadFault
+no-memory e = let wrong : OfMemory ≡ OfReading = ap cause_of e in cc
+
+pub memory-unread : {A : Type 0} (new : ShelfState) (result : Result A Fault) → IfErr result (λ fault. fault ≡ of_none NoMemory) → IfErr result (λ fault. IsUnread new fault)
+memory-unread new (Ok _) h = tt
+memory-unread new (Err fault) h = none-unread new NoMemory fault no-memory h
+
+pub text-unread : (name : List ℕ) (Refusal : Fault → Type 0) (new : ShelfState) (fault : Fault) → TextFails name Refusal fault → IsUnread new fault
+text-unread name Refusal new fault (inl e) = none-unread new NoMemory fault no-memory e
+text-unread name Refusal new fault (inr t) = other-unread new fault (λ is. let wrong : OfText ≡ OfReading = sym t.cause ∙ ap cause_of is in cc)
+
+pub texts-unread : {A : Type 0} (name : List ℕ) (Refusal : Fault → Type 0) (new : ShelfState) (result : Result A Fault)
+    → IfErr result (λ fault. TextFails name Refusal fault) → IfErr result (λ fault. IsUnread new fault)
+texts-unread name Refusal new (Ok _) h = tt
+texts-unread name Refusal new (Err fault) h = text-unread name Refusal new fault h
+
+pub loading-unread : (name : List ℕ) (old new : ShelfState) (fault : Fault) → LoadFails name old new fault → IsUnread new fault
+loading-unread name old new fault (for_memory e) = none-unread new NoMemory fault no-memory e
+loading-unread name old new fault (unread e _ selects) = subst (IsUnread new) (sym e) (λ _. (refl, selects))
+loading-unread name old new fault (longer e _) =
+    subst (IsUnread new) (sym e) (other-unread new (of_file TooLong name) (λ is. let wrong : OfText ≡ OfReading = ap cause_of is in cc))
 
 -- a fault of a file, or of memory, is none of the words
 pub no-words : (name : List ℕ) (fault : Fault) → IsOfFileOrMemory name fault → cause_of fault.reason ≡ OfWords → ⊥

@@ -1,5 +1,5 @@
 -- What `wave` and `show` give and why they refuse, stage by stage.
-use Rattle.std.proofs.Common.{◌≡◌, refl, List, ℕ, Option, Some, Ok, Err, inl, inr}
+use Rattle.std.proofs.Common.{◌≡◌, refl, List, ℕ, Ok, Err, inl, inr}
 use Rattle.std.specs.Prelude.{◌⊎◌, Result, IfOk, IfErr}
 use Rattle.psl_base.specs.Shelf.{Contents, ShelfState, OnlyReads}
 use Rattle.psl_grammar.specs.declared.tree.UnitTree.{UnitTree}

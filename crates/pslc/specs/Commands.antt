@@ -1,5 +1,5 @@
 -- The commands: what the words after the program's name ask for, and what a run of them gives or refuses.
-use Rattle.std.specs.Prelude.{◌≡◌, ℕ, ◌⊎◌, List, Option, Result, Ok, Err, Some}
+use Rattle.std.specs.Prelude.{◌≡◌, ℕ, ◌⊎◌, List, Option, Result, Ok, Err}
 use Rattle.command_words.specs.Commands.{IsCommand}
 use Rattle.command_words.specs.Commands.{Meaning as meaning}
 use Rattle.psl_base.specs.Shelf.{Contents}
@@ -10,7 +10,7 @@ use Rattle.pslc.specs.Waves.{WaveStage, ShowStage}
 use Rattle.pslc.specs.declared.outcome.Fault.{Fault}
 use Rattle.pslc.specs.declared.outcome.Line.{Line}
 use Rattle.pslc.specs.declared.outcome.Outcome.{Outcome}
-use Rattle.pslc.specs.declared.outcome.Outcome.TheVariants.{Nothing, Wave, Shown}
+use Rattle.pslc.specs.declared.outcome.Outcome.TheVariants.{Nothing, Wave, Shown, Made}
 use Rattle.pslc.specs.declared.outcome.Reason.TheVariants.{Usage, WriteFault, NoMemory}
 use Rattle.vcd_reader.specs.Rules.{sample_limit}
 use Rattle.wave_judge.specs.declared.verdict.Verdict.{Verdict}
@@ -51,6 +51,14 @@ CommandStage words files result =
 -- the first refusal of words over contents, or that there is none
 abbrev pub FirstRefusal : List (List ℕ) → Contents → Option Fault → Type 0
 FirstRefusal words files answer = (result : Result Outcome Fault) × CommandStage words files result × (answer ≡ fault_of result)
+
+-- whatever is told, an outcome is one of the command that the words are, and that of `gen` is exact
+abbrev pub IsOfCommand : List (List ℕ) → Outcome → Type 0
+IsOfCommand words Nothing = Unit {0}
+IsOfCommand words (Wave _) = (unit recording : List ℕ) × IsWave words unit recording
+IsOfCommand words (Shown _) = (unit names : List ℕ) × IsShow words unit names
+IsOfCommand words (Made seed samples bytes verdicts) =
+    IsGen words seed samples × GeneratedStage seed samples (Ok (Made seed samples bytes verdicts))
 
 -- what an outcome says of the words and the contents
 abbrev pub IsOutcomeOf : List (List ℕ) → Contents → Outcome → Type 0

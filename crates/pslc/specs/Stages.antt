@@ -3,7 +3,7 @@
 use Rattle.std.specs.Prelude.{◌≡◌, ◌≢◌, ℕ, ◌<◌, ◌≤◌, ◌⊎◌, List, length, Option, Result, Ok, Err, None, Some}
 use Rattle.psl_base.specs.Faults.{Rose}
 use Rattle.psl_base.specs.Places.{file_limit}
-use Rattle.psl_base.specs.Shelf.{Contents, ShelfState, IsLonger, ReadingFails}
+use Rattle.psl_base.specs.Shelf.{Contents, ShelfState, IsLonger, ReadingFails, SelectsNoOther}
 use Rattle.psl_base.specs.declared.place.Place.{Place}
 use Rattle.pslc.specs.Faults.{fault_in, of_file, of_none}
 use Rattle.pslc.specs.declared.outcome.Fault.{Fault}
@@ -92,8 +92,12 @@ IsOfFileOrMemory name fault = (fault ≡ of_none NoMemory) ⊎ IsOfFile name fau
 -- why a file is not loaded: want of memory, a fault of reading, its length
 pub data LoadFails (name : List ℕ) (old new : ShelfState) (fault : Fault) : Type 0 where
   for_memory : fault ≡ of_none NoMemory → LoadFails name old new fault
-  unread : fault ≡ of_file ReadFault name → ReadingFails name old new → LoadFails name old new fault
+  unread : fault ≡ of_file ReadFault name → ReadingFails name old new → SelectsNoOther name new → LoadFails name old new fault
   longer : fault ≡ of_file TooLong name → IsLonger file_limit old name → LoadFails name old new fault
+
+-- a fault of reading is of a whole file, and no other file is selected after it
+abbrev pub IsUnread : ShelfState → Fault → Type 0
+IsUnread new fault = fault.reason ≡ ReadFault → (fault.place ≡ None) × ((new.selected ≡ None) ⊎ (new.selected ≡ fault.file))
 
 -- a fault of a text in this file, of which `Refusal` says that it is the refusal
 pub record IsTextFault (name : List ℕ) (Refusal : Type 0) (fault : Fault) : Type 0 where

@@ -1,5 +1,5 @@
 -- What is printed: the lines of an outcome, and the line of a fault.
-use Rattle.std.specs.Prelude.{Bool, true, false, ℕ, List, [], ◌∷◌, ◌++◌, Option, None, Some, codes, decimal, if◌then◌else◌}
+use Rattle.std.specs.Prelude.{Bool, true, false, ℕ, List, [], ◌∷◌, ◌++◌, Option, None, Some, codes, decimal}
 use Rattle.std.specs.List.{flat_map}
 use Rattle.psl_base.specs.declared.place.Place.{Place}
 use Rattle.psl_tree.specs.declared.directive.Kind.{Kind}

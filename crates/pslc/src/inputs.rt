@@ -1,6 +1,6 @@
 ghost use Rattle.std.specs.Prelude.{◌≡◌, ◌⊎◌, IfOk, IfErr};
 ghost use Rattle.psl_base.specs.Shelf.{OnlyReads};
-ghost use Rattle.pslc.specs.Stages.{Gives, Refuses, IsOfFile, IsOfFileOrMemory, IsCounted};
+ghost use Rattle.pslc.specs.Stages.{Gives, Refuses, IsOfFile, IsOfFileOrMemory, IsUnread, IsCounted};
 ghost use Rattle.pslc.specs.Waves.{InputsStage};
 
 use crate::outcome::Fault;
@@ -28,6 +28,7 @@ pub fn load_inputs<F: Shelf>(
     ensures gives { IfOk result (λ inputs. Gives (F.state files.old) (InputsStage unit.now recording.now) inputs) }
     ensures refuses { IfErr result (λ fault. Refuses (F.state files.old) (F.state files.new) (InputsStage unit.now recording.now) fault) }
     ensures named { IfErr result (λ fault. IsOfFileOrMemory unit.now fault ⊎ IsOfFile recording.now fault) }
+    ensures unread { IfErr result (λ fault. IsUnread (F.state files.new) fault) }
     ensures quiet { IfOk result (λ _. (F.state files.new).read_faults ≡ (F.state files.old).read_faults) }
     ensures counted { IfErr result (λ fault. IsCounted (F.state files.old) (F.state files.new) fault) }
     ensures kept { OnlyReads (F.state files.old) (F.state files.new) }

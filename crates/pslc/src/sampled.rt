@@ -1,6 +1,6 @@
 ghost use Rattle.std.specs.Prelude.{◌≡◌, IfOk, IfErr};
 ghost use Rattle.psl_base.specs.Shelf.{OnlyReads};
-ghost use Rattle.pslc.specs.Stages.{Gives, Refuses, IsOfFileOrMemory, IsCounted};
+ghost use Rattle.pslc.specs.Stages.{Gives, Refuses, IsOfFileOrMemory, IsUnread, IsCounted};
 ghost use Rattle.pslc.specs.Waves.{RecordingStage};
 
 use crate::causes::{vcd_place, vcd_reason};
@@ -19,6 +19,7 @@ pub fn load_recording<F: Shelf>(
     ensures gives { IfOk result (λ recording. Gives (F.state files.old) (RecordingStage name.now) recording) }
     ensures refuses { IfErr result (λ fault. Refuses (F.state files.old) (F.state files.new) (RecordingStage name.now) fault) }
     ensures named { IfErr result (λ fault. IsOfFileOrMemory name.now fault) }
+    ensures unread { IfErr result (λ fault. IsUnread (F.state files.new) fault) }
     ensures quiet { IfOk result (λ _. (F.state files.new).read_faults ≡ (F.state files.old).read_faults) }
     ensures counted { IfErr result (λ fault. IsCounted (F.state files.old) (F.state files.new) fault) }
     ensures kept { OnlyReads (F.state files.old) (F.state files.new) }

@@ -6,7 +6,7 @@ ghost use Rattle.psl_tree.specs.Counts.{obligations_of, shown};
 ghost use Rattle.psl_tree.specs.Names.{AtomInRange};
 ghost use Rattle.psl_tree.specs.Trees.{formula_of};
 ghost use Rattle.pslc.specs.Faults.{of_none};
-ghost use Rattle.pslc.specs.Stages.{Gives, Refuses, IsOfFile, IsOfFileOrMemory, IsCounted, TextFails};
+ghost use Rattle.pslc.specs.Stages.{Gives, Refuses, IsOfFile, IsOfFileOrMemory, IsUnread, IsCounted, TextFails};
 ghost use Rattle.pslc.specs.Waves.{LinesReading, ShowStage, line_of};
 
 use crate::directives::directives;
@@ -23,6 +23,7 @@ pub fn show<F: Shelf>(alloc: Global, files: &mut F, unit: &str, names: &str) -> 
     ensures gives { IfOk result (λ lines. Gives (F.state files.old) (ShowStage unit.now names.now) lines) }
     ensures refuses { IfErr result (λ fault. Refuses (F.state files.old) (F.state files.new) (ShowStage unit.now names.now) fault) }
     ensures named { IfErr result (λ fault. IsOfFileOrMemory unit.now fault ⊎ IsOfFile names.now fault) }
+    ensures unread { IfErr result (λ fault. IsUnread (F.state files.new) fault) }
     ensures quiet { IfOk result (λ _. (F.state files.new).read_faults ≡ (F.state files.old).read_faults) }
     ensures counted { IfErr result (λ fault. IsCounted (F.state files.old) (F.state files.new) fault) }
     ensures kept { OnlyReads (F.state files.old) (F.state files.new) }

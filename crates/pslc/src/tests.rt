@@ -83,10 +83,22 @@ fn run_on(
     if let Some(body) = body {
         files.push(file(alloc, "r.vcd", &[names, body])?)?;
     }
+    run_over(alloc, words, &files, &[], fail)
+}
+
+/// A run over files, where the calls of the files in `unread` and those of the standard output in `unwritten` fail.
+fn run_over(
+    alloc: Global,
+    words: &[String],
+    files: &Files,
+    unread: &[u32],
+    unwritten: &[u32],
+) -> Result<Ran, NoMemory> {
     let none = Numbers::new(alloc);
-    let fail = Numbers::from_slice(alloc, fail)?;
-    let mut shelf = MemShelf::new(alloc, &files, 0, 0, &none)?;
-    let mut out = MemSink::new(alloc, 2000, &fail)?;
+    let unread = Numbers::from_slice(alloc, unread)?;
+    let unwritten = Numbers::from_slice(alloc, unwritten)?;
+    let mut shelf = MemShelf::new(alloc, files, 0, 0, &unread)?;
+    let mut out = MemSink::new(alloc, 2000, &unwritten)?;
     let mut err = MemSink::new(alloc, 1000, &none)?;
     let report = run(alloc, words, &mut shelf, &mut out, &mut err);
     Ok(Ran {
@@ -357,6 +369,40 @@ fn a_sample_too_many(rt: HostRuntime) -> Result<(), Fail> {
         b"pslc: r.vcd:1000003:1: V13 TooManySamples\n".as_slice()
     );
     assert_eq!(rt; ran.status, 7);
+    Ok(())
+}
+
+/// Each file is selected, read, and read once more to its end. The lines where these calls fail, one after the other.
+const UNREAD: [&str; 6] = [
+    "pslc: u.psl: read fault\n",
+    "pslc: u.psl: read fault\n",
+    "pslc: u.psl: read fault\n",
+    "pslc: r.vcd: read fault\n",
+    "pslc: r.vcd: read fault\n",
+    "pslc: r.vcd: read fault\n",
+];
+
+#[test]
+fn files_that_fail(rt: HostRuntime) -> Result<(), Fail> {
+    let alloc = rt.alloc();
+    let mut files = Files::new(alloc);
+    files.push(file(alloc, "u.psl", &[TEXT])?)?;
+    files.push(file(alloc, "r.vcd", &[NAMES, "#0\n"])?)?;
+    let commands: [&[&str]; 2] = [&["wave", "u.psl", "r.vcd"], &["show", "u.psl", "r.vcd"]];
+    for command in commands {
+        let words = words_of(alloc, command)?;
+        let mut call = 0;
+        for line in UNREAD {
+            call += 1;
+            let ran = run_over(alloc, words.as_slice(), &files, &[call], &[])?;
+            assert_eq!(rt; ran.out.bytes(), b"".as_slice());
+            assert_eq!(rt; ran.err.bytes(), line.as_bytes());
+            assert_eq!(rt; (ran.status, ran.reason), (3, Some(Reason::ReadFault)));
+        }
+        let ran = run_over(alloc, words.as_slice(), &files, &[7], &[])?;
+        assert_eq!(rt; ran.err.bytes(), b"".as_slice());
+        assert_eq!(rt; (ran.status, ran.reason), (0, None));
+    }
     Ok(())
 }
 

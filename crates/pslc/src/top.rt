@@ -1,10 +1,10 @@
 ghost use Rattle.std.specs.Prelude.{◌≡◌, ◌≢◌, ◌⊎◌, ◌<◌, ℕ, List, Option, map, None, Some, IfOk, IfErr, IfSome, IsNone, IsErrOf, string_bytes};
 ghost use Rattle.psl_base.specs.Faults.{Rose};
 ghost use Rattle.psl_base.specs.Shelf.{Contents, OnlyReads};
-ghost use Rattle.pslc.specs.Commands.{FirstRefusal, IsOutcomeOf, IsNamed, IsNoCommand};
+ghost use Rattle.pslc.specs.Commands.{FirstRefusal, IsOfCommand, IsOutcomeOf, IsNamed, IsNoCommand};
 ghost use Rattle.pslc.specs.Endings.{status_of, Explained, Prints, IsUnwritten, IsOutOfMemory, IsDeviceStatus};
 ghost use Rattle.pslc.specs.Faults.{of_none, fault_of};
-ghost use Rattle.pslc.specs.Stages.{OfTold, IsCounted};
+ghost use Rattle.pslc.specs.Stages.{OfTold, IsUnread, IsCounted};
 ghost use Rattle.pslc.specs.Text.{text_of};
 
 use crate::finish::{Planned, finish};
@@ -28,7 +28,8 @@ pub fn run<F: Shelf, O: Sink, E: Sink>(
     out: &mut O,
     err: &mut E,
 ) -> Report
-    // The status follows from what was found out and the fault, 0 exactly where each assert is neutral yes.
+    // The status follows from what was found out and the fault: without one it is 1 exactly where some assert or
+    // assume is neutral no, else 0.
     ensures status { result.status ≡ status_of result.outcome result.fault }
 
     // Each fault has its cause; without one, nothing that is told is refused.
@@ -37,8 +38,13 @@ pub fn run<F: Shelf, O: Sink, E: Sink>(
     // Words that are no command are told so, whatever the files tell, unless that cannot be written.
     ensures no_command { IsNoCommand (map string_bytes words.now) → (result.fault ≡ Some (of_none Reason.Usage)) ⊎ ((result.fault ≡ Some (of_none Reason.WriteFault)) ⊎ (result.fault ≡ Some (of_none Reason.NoMemory))) }
 
-    // The fault names the file that it is of.
+    // A fault of a file names one that the words name, and one of reading is of the last that was asked for, without
+    // a place.
     ensures named { IfSome result.fault (IsNamed (map string_bytes words.now)) }
+    ensures unread { IfSome result.fault (IsUnread (F.state files.new)) }
+
+    // Whatever the files tell, the outcome is one of the command that the words are, and that of `gen` is exact.
+    ensures command { IsOfCommand (map string_bytes words.now) result.outcome }
 
     // The verdicts are satisfaction of the sampled word in the three views, the lines what the directives mean.
     ensures outcome { OfTold (F.state files.old) (λ told. IsOutcomeOf (map string_bytes words.now) told result.outcome) }
@@ -72,7 +78,9 @@ fn plan<F: Shelf>(alloc: Global, words: &[String], files: &mut F) -> Result<Plan
     ensures explained { Explained ⊥ (F.state files.old) (F.state files.new) (FirstRefusal (map string_bytes words.now)) (fault_of result) }
     ensures no_command { IsNoCommand (map string_bytes words.now) → IsErrOf result (of_none Reason.Usage) ⊎ IsErrOf result (of_none Reason.NoMemory) }
     ensures named { IfErr result (λ fault. IsNamed (map string_bytes words.now) fault) }
+    ensures unread { IfErr result (λ fault. IsUnread (F.state files.new) fault) }
     ensures unwritten { IfErr result (λ fault. IsUnwritten fault) }
+    ensures command { IfOk result (λ made. IsOfCommand (map string_bytes words.now) made.outcome) }
     ensures outcome { IfOk result (λ made. OfTold (F.state files.old) (λ told. IsOutcomeOf (map string_bytes words.now) told made.outcome)) }
     ensures found { IfOk result (λ made. made.outcome ≢ Outcome.Nothing) }
     ensures quiet { IfOk result (λ _. (F.state files.new).read_faults ≡ (F.state files.old).read_faults) }
@@ -91,6 +99,8 @@ fn command<F: Shelf>(alloc: Global, words: &[String], files: &mut F) -> Result<O
     ensures explained { Explained ⊥ (F.state files.old) (F.state files.new) (FirstRefusal (map string_bytes words.now)) (fault_of result) }
     ensures no_command { IsNoCommand (map string_bytes words.now) → IsErrOf result (of_none Reason.Usage) ⊎ IsErrOf result (of_none Reason.NoMemory) }
     ensures named { IfErr result (λ fault. IsNamed (map string_bytes words.now) fault) }
+    ensures unread { IfErr result (λ fault. IsUnread (F.state files.new) fault) }
+    ensures command { IfOk result (λ outcome. IsOfCommand (map string_bytes words.now) outcome) }
     ensures outcome { IfOk result (λ outcome. OfTold (F.state files.old) (λ told. IsOutcomeOf (map string_bytes words.now) told outcome)) }
     ensures found { IfOk result (λ outcome. outcome ≢ Outcome.Nothing) }
     ensures quiet { IfOk result (λ _. (F.state files.new).read_faults ≡ (F.state files.old).read_faults) }

@@ -1,7 +1,7 @@
 ghost use Rattle.std.specs.Prelude.{◌≡◌, ◌≤◌, length, Ok, Err, IfOk, IfErr};
 ghost use Rattle.psl_base.specs.Places.{file_limit};
 ghost use Rattle.psl_base.specs.Shelf.{OnlyReads, IsContent};
-ghost use Rattle.pslc.specs.Stages.{Gives, Refuses, IsOfFileOrMemory, IsCounted, LoadFails, TextFails};
+ghost use Rattle.pslc.specs.Stages.{Gives, Refuses, IsOfFileOrMemory, IsUnread, IsCounted, LoadFails, TextFails};
 ghost use Rattle.pslc.specs.Waves.{TokensReading, TreeReading, UnitReading, UnitStage};
 
 use crate::causes::{lex_place, lex_reason, parse_place, parse_reason};
@@ -18,6 +18,7 @@ pub fn load_unit<F: Shelf>(alloc: Global, files: &mut F, name: &str) -> Result<U
     ensures gives { IfOk result (λ tree. Gives (F.state files.old) (UnitStage name.now) tree) }
     ensures refuses { IfErr result (λ fault. Refuses (F.state files.old) (F.state files.new) (UnitStage name.now) fault) }
     ensures named { IfErr result (λ fault. IsOfFileOrMemory name.now fault) }
+    ensures unread { IfErr result (λ fault. IsUnread (F.state files.new) fault) }
     ensures quiet { IfOk result (λ _. (F.state files.new).read_faults ≡ (F.state files.old).read_faults) }
     ensures counted { IfErr result (λ fault. IsCounted (F.state files.old) (F.state files.new) fault) }
     ensures kept { OnlyReads (F.state files.old) (F.state files.new) }

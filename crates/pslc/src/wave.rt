@@ -4,7 +4,7 @@ ghost use Rattle.psl_tree.specs.Atoms.{AtomsOfFormula};
 ghost use Rattle.psl_tree.specs.Counts.{formula_size};
 ghost use Rattle.psl_tree.specs.Names.{AtomInRange};
 ghost use Rattle.psl_tree.specs.Trees.{formula_of};
-ghost use Rattle.pslc.specs.Stages.{Gives, Refuses, IsOfFile, IsOfFileOrMemory, IsCounted, TextFails};
+ghost use Rattle.pslc.specs.Stages.{Gives, Refuses, IsOfFile, IsOfFileOrMemory, IsUnread, IsCounted, TextFails};
 ghost use Rattle.pslc.specs.Waves.{JudgeReading, VerdictsReading, WaveStage};
 
 use crate::causes::{judge_place, judge_reason};
@@ -28,6 +28,7 @@ pub fn wave<F: Shelf>(
     ensures gives { IfOk result (λ verdicts. Gives (F.state files.old) (WaveStage unit.now recording.now) verdicts) }
     ensures refuses { IfErr result (λ fault. Refuses (F.state files.old) (F.state files.new) (WaveStage unit.now recording.now) fault) }
     ensures named { IfErr result (λ fault. IsOfFileOrMemory unit.now fault ⊎ IsOfFile recording.now fault) }
+    ensures unread { IfErr result (λ fault. IsUnread (F.state files.new) fault) }
     ensures quiet { IfOk result (λ _. (F.state files.new).read_faults ≡ (F.state files.old).read_faults) }
     ensures counted { IfErr result (λ fault. IsCounted (F.state files.old) (F.state files.new) fault) }
     ensures kept { OnlyReads (F.state files.old) (F.state files.new) }

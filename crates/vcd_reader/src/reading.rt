@@ -1,6 +1,6 @@
 ghost use Rattle.std.specs.Prelude.{◌≡◌, ◌<◌, ◌≤◌, ◌^◌, length, None, Ok, IfOk, IfErr, IsErrOf};
 ghost use Rattle.psl_base.specs.Places.{file_limit};
-ghost use Rattle.psl_base.specs.Shelf.{OnlyReads, IsLonger, Tells, HasTaken, ReadingFails};
+ghost use Rattle.psl_base.specs.Shelf.{OnlyReads, IsLonger, Tells, HasTaken, ReadingFails, SelectsNoOther};
 ghost use Rattle.vcd_reader.specs.Meaning.{reading, fault_with};
 ghost use Rattle.vcd_reader.specs.Rows.{rows_of, IsSound};
 ghost use Rattle.vcd_reader.specs.Told.{Says, IsFirstFault, IsReadFault, HaltsReading, HaltsWithin, fault_by};
@@ -29,6 +29,7 @@ pub fn read_vcd<S: Shelf>(alloc: Global, shelf: &mut S, name: &str) -> Result<Re
 
     ensures failed { IsErrOf result VcdFault.ReadFault → ReadingFails name.now (S.state shelf.old) (S.state shelf.new) }
     ensures absent { Tells (S.state shelf.old) name.now None → IsErrOf result VcdFault.ReadFault }
+    ensures last { IsErrOf result VcdFault.ReadFault → SelectsNoOther name.now (S.state shelf.new) }
 
     // A count that rose comes with a fault of reading.
     ensures counted { (S.state shelf.old).read_faults < (S.state shelf.new).read_faults → IsErrOf result VcdFault.ReadFault }

@@ -1,4 +1,4 @@
-use Rattle.pslc.proofs.Waving.{recording-refused, inputs-given}
+use Rattle.pslc.proofs.Waving.{recording-refused}
 use Rattle.pslc.proofs.inputs.load_inputs.Goals as goal
 
 pub returns-in-Err-load_recording-clause-refuses : goal.returns-in-Err-load_recording-clause-refuses

@@ -1,5 +1,6 @@
 use Rattle.std.proofs.Common.{map, string_bytes, sym, subst, Some}
-use Rattle.pslc.proofs.Completing.{wave-runs, show-runs, wave-named, show-named, stage-found, stage-unrefused, stage-refused, made-explained, made-outcome, refused-words, unused-refused}
+use Rattle.pslc.proofs.Completing.{wave-runs, show-runs, wave-named, show-named, stage-found, stage-unrefused, stage-refused, made-explained, made-outcome, made-command, refused-words, unused-refused}
+use Rattle.pslc.proofs.Staging.{memory-unread}
 use Rattle.pslc.proofs.top.command.Goals as goal
 use Rattle.pslc.specs.Commands.{FirstRefusal}
 use Rattle.pslc.specs.Endings.{Explained}
@@ -70,3 +71,17 @@ returns-in-Err-clause-named g c =
 pub returns-in-Err-show-clause-named : goal.returns-in-Err-show-clause-named
 returns-in-Err-show-clause-named g c =
     show-named (map string_bytes c.args.words.now) c.in-Ok-Show.unit.now c.in-Ok-Show.names.now c.in-Err-show.fault (rw c.in-Ok-Show.field-0-is at c.in-Ok-Show.ensures.command) c.in-Err-show.ensures.named
+
+pub returns-in-Ok-clause-command : goal.returns-in-Ok-clause-command
+returns-in-Ok-clause-command g c = (c.in-Ok-Wave.unit.now, c.in-Ok-Wave.recording.now, rw c.in-Ok-Wave.field-0-is at c.in-Ok-Wave.ensures.command)
+
+pub returns-in-Ok-show-clause-command : goal.returns-in-Ok-show-clause-command
+returns-in-Ok-show-clause-command g c = (c.in-Ok-Show.unit.now, c.in-Ok-Show.names.now, rw c.in-Ok-Show.field-0-is at c.in-Ok-Show.ensures.command)
+
+pub returns-in-Ok-Gen-clause-command : goal.returns-in-Ok-Gen-clause-command
+returns-in-Ok-Gen-clause-command g c =
+    made-command (map string_bytes c.args.words.now) c.in-Ok-Gen.seed c.in-Ok-Gen.samples (rw c.in-Ok-Gen.field-0-is at c.in-Ok-Gen.ensures.command)
+    c.generate.result c.generate.ensures.made
+
+pub returns-in-Ok-Gen-clause-unread : goal.returns-in-Ok-Gen-clause-unread
+returns-in-Ok-Gen-clause-unread g c = memory-unread (g.F.Shelf.state c.args.files.now) c.generate.result c.generate.ensures.memory

@@ -1,7 +1,7 @@
 use Rattle.std.proofs.Common.{map, string_bytes}
 use Rattle.psl_base.specs.Faults.{Rose}
 use Rattle.pslc.proofs.Completing.{completes, run-explained}
-use Rattle.pslc.proofs.Ending.{run-named, run-nothing, run-counted}
+use Rattle.pslc.proofs.Ending.{run-named, run-unread, run-command, run-nothing, run-counted}
 use Rattle.pslc.proofs.top.run.Goals as goal
 use Rattle.pslc.specs.Commands.{FirstRefusal}
 
@@ -28,6 +28,18 @@ returns-clause-named g c =
     run-named (Rose (g.O.Sink.state c.args.out.now).faults (g.O.Sink.state c.finish.new.out).faults)
     (Rose (g.E.Sink.state c.args.err.now).faults (g.E.Sink.state c.finish.new.err).faults)
     c.finish.result.outcome c.finish.result.fault (map string_bytes c.args.words.now) c.plan-planned.result c.plan-planned.ensures.named c.finish.ensures.made c.finish.ensures.faulted
+
+pub returns-clause-unread : goal.returns-clause-unread
+returns-clause-unread g c =
+    run-unread (Rose (g.O.Sink.state c.args.out.now).faults (g.O.Sink.state c.finish.new.out).faults)
+    (Rose (g.E.Sink.state c.args.err.now).faults (g.E.Sink.state c.finish.new.err).faults)
+    c.finish.result.outcome c.finish.result.fault (g.F.Shelf.state c.plan-planned.new.files) c.plan-planned.result c.plan-planned.ensures.unread c.finish.ensures.made c.finish.ensures.faulted
+
+pub returns-clause-command : goal.returns-clause-command
+returns-clause-command g c =
+    run-command (Rose (g.O.Sink.state c.args.out.now).faults (g.O.Sink.state c.finish.new.out).faults)
+    (Rose (g.E.Sink.state c.args.err.now).faults (g.E.Sink.state c.finish.new.err).faults)
+    c.finish.result.outcome c.finish.result.fault (map string_bytes c.args.words.now) c.plan-planned.result c.plan-planned.ensures.command c.finish.ensures.made c.finish.ensures.faulted
 
 pub returns-clause-nothing : goal.returns-clause-nothing
 returns-clause-nothing g c =
