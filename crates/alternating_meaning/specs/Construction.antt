@@ -6,7 +6,6 @@ use Rattle.psl_tree.specs.Trees as trees
 use Rattle.psl_tree.specs.Trees.{Boolean, Sequence, Formula, Now, NowStrong, Weak, Strong, Next, Until, Suffix, Abort, SyncAbort, Clocked}
 use Rattle.sere_nfa.specs.Acceptance as nfa
 use Rattle.sere_nfa.specs.Acceptance.{Edge, State, state_at}
-use Rattle.sere_nfa.specs.Construction as sequences
 use Rattle.sere_nfa.specs.Construction.{nfa_of}
 use Rattle.alternating_meaning.specs.Going.{goes_on, entry}
 use Rattle.alternating_meaning.specs.Obligations.{Obligation}

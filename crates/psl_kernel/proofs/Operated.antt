@@ -1,5 +1,5 @@
 -- Operators on anything, by the operators of each kind.
-use Rattle.std.proofs.Common.{◌≡◌, refl, ap, subst, Bool as Truth, true, false, List, Option, None, Some}
+use Rattle.std.proofs.Common.{◌≡◌, refl, ap, subst, Bool as Truth, true, false, List, None, Some}
 use Rattle.psl_grammar.specs.declared.tree.Expression as code_expression
 use Rattle.psl_tree.specs.declared.name.Name.{Name}
 use Rattle.psl_sugar.specs.declared.operator.Strength.{Strength}

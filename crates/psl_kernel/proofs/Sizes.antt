@@ -1,8 +1,8 @@
 -- The sizes of rows: each is at least as large as its parts are.
-use Rattle.std.proofs.Common.{◌≡◌, ℕ, zero, suc, ◌+◌, ◌-◌, ◌≤◌, Option, None, Some, arith}
+use Rattle.std.proofs.Common.{ℕ, ◌+◌, ◌-◌, ◌≤◌, Option, None, Some, arith}
 use Rattle.psl_tree.specs.Trees.{Boolean, Sequence, Formula, Not, And, Now}
 use Rattle.psl_tree.specs.Counts.{boolean_size, sequence_size, formula_size}
-use Rattle.psl_sugar.specs.Properties.{next_steps, next_times, next_event, next_event_times, next_range, next_event_range}
+use Rattle.psl_sugar.specs.Properties.{next_times, next_event, next_event_times, next_range, next_event_range}
 use Rattle.psl_sugar.specs.declared.operator.Strength.{Strength}
 use Rattle.psl_sugar.specs.declared.operator.Strength.TheVariants as strengths
 use Rattle.psl_sugar.specs.declared.operator.Quantifier.{Quantifier}

@@ -1,5 +1,5 @@
 -- Vectors: where their bits lie, and that they have as many constructors as bits.
-use Rattle.std.proofs.Common.{◌≡◌, ℕ, zero, suc, ◌+◌, ◌-◌, ◌≤◌, ◌<◌, min, List, Bool, true, false, if◌then◌else◌, Option, None, Some, arith, refl}
+use Rattle.std.proofs.Common.{◌≡◌, ℕ, zero, suc, ◌+◌, ◌-◌, ◌≤◌, ◌<◌, List, Bool, true, false, if◌then◌else◌, Option, None, Some, arith}
 use Rattle.psl_lexer.specs.declared.token.Token.{Token}
 use Rattle.psl_tree.specs.Trees.{Boolean, Const, Test, Not, And, Or}
 use Rattle.psl_tree.specs.Counts.{boolean_size}

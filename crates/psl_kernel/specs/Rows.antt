@@ -1,6 +1,6 @@
 -- Rows of the table of derived forms, by the kinds of their operands, and what a builder of a row gives: the row of what
 -- its operands stand for, or that this has more than 4,096 constructors.
-use Rattle.std.specs.Prelude.{◌≡◌, Bool as Truth, true, false, Option, None, Some, Result}
+use Rattle.std.specs.Prelude.{Bool as Truth, true, false, Option, None, Some, Result}
 use Rattle.psl_tree.specs.Trees.{Boolean, Sequence, Formula, Empty, Concat, Fuse, Either, Both, Star, Strong, Not, And, Or, Suffix, Abort, SyncAbort}
 use Rattle.psl_meaning.specs.Sugar.{disjunction, implication, eventually, always}
 use Rattle.psl_sugar.specs.Booleans.{boolean_implication, boolean_iff}

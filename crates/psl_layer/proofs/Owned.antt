@@ -1,5 +1,5 @@
 -- Directives whose property has a clock of its own, and those whose property has none.
-use Rattle.std.proofs.Common.{◌≡◌, refl, sym, subst, Box, Global, List, Option, Some, false}
+use Rattle.std.proofs.Common.{◌≡◌, refl, Box, Global, List, Option, false}
 use Rattle.psl_lexer.specs.declared.token.Token.{Token}
 use Rattle.psl_grammar.specs.declared.tree.Expression as code_expression
 use Rattle.psl_grammar.specs.declared.tree.Expression.TheVariants as expressions

@@ -1,5 +1,5 @@
 -- Names one behind another, and the default clock of statements that are left.
-use Rattle.std.proofs.Common.{◌≡◌, ℕ, suc, ◌+◌, ◌<◌, List, [], ◌∷◌, ◌++◌, length, get_or, drop, Option, None, Some, Result, Ok, Err, refl, sym, ap, subst, ◌∙◌, add-one}
+use Rattle.std.proofs.Common.{◌≡◌, ℕ, suc, ◌+◌, ◌<◌, List, [], ◌∷◌, ◌++◌, length, get_or, drop, Option, None, Some, Result, refl, sym, ap, subst, ◌∙◌, add-one}
 use Rattle.std.proofs.Math.Seq.{drop-cons}
 use Rattle.std.specs.Option.{option_or}
 use Rattle.psl_grammar.specs.declared.tree.Statement as code_statement
@@ -7,7 +7,7 @@ use Rattle.psl_tree.specs.Trees.{Boolean}
 use Rattle.psl_tree.specs.declared.name.Name.{Name}
 use Rattle.psl_sugar.specs.declared.fault.SugarFault.{SugarFault}
 use Rattle.psl_layer_meaning.specs.Directives.{declared_by, clock_of, default_clock}
-use Rattle.psl_layer_meaning.specs.Kernel.{Meaning, Named}
+use Rattle.psl_layer_meaning.specs.Kernel.{Named}
 use Rattle.psl_kernel.specs.Built.{Gives, IsScope}
 use Rattle.psl_kernel.specs.declared.scope.Declared.{Declared}
 use Rattle.psl_layer.specs.Asked.{GivesClock, IsClockOf, IsGrown}

@@ -1,5 +1,5 @@
 -- Whole texts: from the directives that are asked to what a text is resolved to.
-use Rattle.std.proofs.Common.{◌≡◌, ℕ, List, [], ◌∷◌, ◌++◌, Option, None, Some, Result, Ok, Err}
+use Rattle.std.proofs.Common.{◌≡◌, List, [], Some, Ok, Err}
 use Rattle.psl_base.specs.declared.place.Place.{Place}
 use Rattle.psl_grammar.specs.declared.tree.UnitTree as code_tree
 use Rattle.psl_tree.specs.declared.directive.Directive.{Directive}

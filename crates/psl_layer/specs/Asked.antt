@@ -1,5 +1,5 @@
 -- What is built for declarations, default clocks and directives, beside what the definitions say.
-use Rattle.std.specs.Prelude.{◌≡◌, ℕ, ◌+◌, suc, List, [], ◌∷◌, ◌++◌, map, length, Option, None, Some, Result, Ok, Err}
+use Rattle.std.specs.Prelude.{◌≡◌, ℕ, suc, List, [], ◌∷◌, ◌++◌, map, length, Option, None, Some, Result, Ok, Err}
 use Rattle.psl_grammar.specs.declared.tree.Expression as code_expression
 use Rattle.psl_grammar.specs.declared.tree.Statement as code_statement
 use Rattle.psl_tree.specs.Trees.{Boolean, Formula}
@@ -9,7 +9,7 @@ use Rattle.psl_tree.specs.declared.name.Name.{Name}
 use Rattle.psl_sugar.specs.Budget.{GivesBoolean, GivesFormula}
 use Rattle.psl_sugar.specs.declared.fault.SugarFault.{SugarFault}
 use Rattle.psl_layer_meaning.specs.Answers.{directive_of, numbered, first_too_large}
-use Rattle.psl_layer_meaning.specs.Directives.{Asked, asked_by, declared_by, clock_of, default_clock, directive_formula}
+use Rattle.psl_layer_meaning.specs.Directives.{Asked, asked_by, declared_by, clock_of, directive_formula}
 use Rattle.psl_layer_meaning.specs.Kernel.{Meaning, Named}
 use Rattle.psl_layer_meaning.specs.declared.fault.LayerFault.{LayerFault}
 use Rattle.psl_layer_meaning.specs.declared.fault.LayerFault.TheVariants as faults

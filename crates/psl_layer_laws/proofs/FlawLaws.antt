@@ -1,25 +1,19 @@
 -- The faults of expressions hang on their tokens alone.
-use Rattle.std.proofs.Common.{◌≡◌, refl, sym, ap, ◌∙◌, subst, ℕ, List, [], ◌∷◌, ◌++◌, Option, None, Some, Bool, true, false}
-use Rattle.std.specs.Prelude.{if◌then◌else◌, ◌&&◌}
+use Rattle.std.proofs.Common.{◌≡◌, refl, ap, ◌∙◌, ℕ, List, ◌++◌, Option, Bool, true, false}
+use Rattle.std.specs.Prelude.{if◌then◌else◌}
 use Rattle.psl_base.specs.declared.place.Place.{Place}
-use Rattle.psl_lexer.specs.declared.kind.TokenKind.{TokenKind}
 use Rattle.psl_lexer.specs.declared.token.Token.{Token}
-use Rattle.psl_grammar.specs.declared.tree.Count as code_count
-use Rattle.psl_grammar.specs.declared.tree.Count.TheVariants as counts
 use Rattle.psl_grammar.specs.declared.tree.Expression as code_expression
 use Rattle.psl_grammar.specs.declared.tree.Expression.TheVariants as expressions
 use Rattle.psl_grammar.specs.declared.tree.Statement as code_statement
-use Rattle.psl_grammar.specs.declared.tree.Statement.TheVariants as statements
-use Rattle.psl_layer_laws.specs.Same.{Same, SameStatement, SameStatements}
+use Rattle.psl_layer_laws.specs.Same.{Same}
 use Rattle.psl_layer_laws.proofs.KindLaws.{place-same, operator-same, kind-same}
 use Rattle.psl_layer_meaning.specs.declared.fault.Flaw.{Flaw}
-use Rattle.psl_layer_meaning.specs.declared.found.Reference.{Reference}
 use Rattle.psl_layer_meaning.specs.declared.found.Side.{Side}
 use Rattle.psl_layer_meaning.specs.declared.kind.ExpressionKind.{ExpressionKind}
 use Rattle.psl_layer_meaning.specs.declared.operator.InfixOperator.{InfixOperator}
-use Rattle.psl_layer_meaning.specs.Flaws.{prefix_flaws, infix_flaws, is_declared, refers_in, signal_flaws, edge_flaws, literal_side, signal_side, side_of, side_flaws, is_comparison, repeated_flaws, clocked_flaws, grouped_flaws, wants_boolean, wants_sequence, count_flaws, is_goto, expression_flaws}
-use Rattle.psl_layer_meaning.specs.Kinds.{declared_as, place_of, operator_before, kind_of}
-use Rattle.psl_layer_meaning.specs.Operators.{prefix_operator, repetition_operator}
+use Rattle.psl_layer_meaning.specs.Flaws.{infix_flaws, is_declared, signal_flaws, edge_flaws, literal_side, signal_side, side_of, side_flaws, is_comparison, expression_flaws}
+use Rattle.psl_layer_meaning.specs.Kinds.{declared_as}
 use Rattle.psl_layer_meaning.specs.Texts.{path_text}
 use Rattle.psl_tree.specs.declared.name.Name.{Name}
 use Rattle.std.specs.Option.{is_some}

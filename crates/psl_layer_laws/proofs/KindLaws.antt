@@ -1,16 +1,11 @@
 -- What the kinds of expressions say hangs on their tokens alone.
-use Rattle.std.proofs.Common.{◌≡◌, refl, sym, ap, ◌∙◌, subst, ℕ, List, [], ◌∷◌, ◌++◌, Option, None, Some, Bool, true, false}
+use Rattle.std.proofs.Common.{◌≡◌, refl, ap, ◌∙◌, ℕ, List, Option, None, Some, Bool, false}
 use Rattle.std.specs.Prelude.{if◌then◌else◌, ◌&&◌}
-use Rattle.psl_base.specs.declared.place.Place.{Place}
-use Rattle.psl_lexer.specs.declared.kind.TokenKind.{TokenKind}
 use Rattle.psl_lexer.specs.declared.token.Token.{Token}
-use Rattle.psl_grammar.specs.declared.tree.Count as code_count
-use Rattle.psl_grammar.specs.declared.tree.Count.TheVariants as counts
 use Rattle.psl_grammar.specs.declared.tree.Expression as code_expression
 use Rattle.psl_grammar.specs.declared.tree.Expression.TheVariants as expressions
 use Rattle.psl_grammar.specs.declared.tree.Statement as code_statement
-use Rattle.psl_grammar.specs.declared.tree.Statement.TheVariants as statements
-use Rattle.psl_layer_laws.specs.Same.{Same, SameStatement, SameStatements}
+use Rattle.psl_layer_laws.specs.Same.{Same}
 use Rattle.psl_layer_meaning.specs.declared.operator.InfixOperator.{InfixOperator}
 use Rattle.psl_layer_meaning.specs.Kinds.{is_part, is_within, before_part, prefix_kind, infix_kind, clocked_kind, grouped_kind, path_place, place_of, operator_before, declared_as, signal_kind, kind_of}
 use Rattle.psl_layer_meaning.specs.declared.kind.ExpressionKind.{ExpressionKind}

@@ -1,24 +1,14 @@
 -- What expressions stand for hangs on their tokens alone.
-use Rattle.std.proofs.Common.{◌≡◌, refl, sym, ap, ◌∙◌, subst, ℕ, List, [], ◌∷◌, ◌++◌, Option, None, Some, Bool, true, false}
-use Rattle.std.specs.Prelude.{if◌then◌else◌, ◌&&◌}
-use Rattle.psl_base.specs.declared.place.Place.{Place}
-use Rattle.psl_lexer.specs.declared.kind.TokenKind.{TokenKind}
+use Rattle.std.proofs.Common.{◌≡◌, refl, ap, ◌∙◌, subst, List, Bool, true, false}
 use Rattle.psl_lexer.specs.declared.token.Token.{Token}
-use Rattle.psl_grammar.specs.declared.tree.Count as code_count
-use Rattle.psl_grammar.specs.declared.tree.Count.TheVariants as counts
 use Rattle.psl_grammar.specs.declared.tree.Expression as code_expression
 use Rattle.psl_grammar.specs.declared.tree.Expression.TheVariants as expressions
-use Rattle.psl_grammar.specs.declared.tree.Statement as code_statement
-use Rattle.psl_grammar.specs.declared.tree.Statement.TheVariants as statements
-use Rattle.psl_layer_laws.specs.Same.{Same, SameStatement, SameStatements}
+use Rattle.psl_layer_laws.specs.Same.{Same}
 use Rattle.psl_layer_laws.proofs.KindLaws.{operator-same}
 use Rattle.psl_layer_meaning.specs.declared.operator.InfixOperator.{InfixOperator}
 use Rattle.psl_layer_meaning.specs.declared.operator.InfixOperator.TheVariants as operators
-use Rattle.psl_layer_meaning.specs.Kernel.{Meaning, OfBoolean, Named, boolean_in, sequence_in, formula_in, strong_in, prefix_meaning, compared, compared_bits, operated, infix_meaning, repeated_meaning, alone_meaning, optional_count, clocked_in, grouped_meaning, literal_meaning, signal_meaning, edge_meaning, next_meaning, event_meaning, meaning_of}
-use Rattle.psl_layer_meaning.specs.Kinds.{operator_before}
-use Rattle.psl_layer_meaning.specs.LookUp.{reference}
-use Rattle.psl_layer_meaning.specs.Operators.{prefix_operator, repetition_operator, strength_of, edge_of}
-use Rattle.psl_layer_meaning.specs.Texts.{literal_value}
+use Rattle.psl_layer_meaning.specs.Kernel.{Meaning, OfBoolean, Named, compared, operated, infix_meaning, meaning_of}
+use Rattle.psl_layer_meaning.specs.Operators.{strength_of}
 use Rattle.psl_sugar.specs.declared.operator.Strength.{Strength}
 use Rattle.psl_tree.specs.declared.name.Name.{Name}
 

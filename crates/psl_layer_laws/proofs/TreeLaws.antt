@@ -1,24 +1,19 @@
 -- Texts with one tree of the grammar have the same faults and the same kernel.
-use Rattle.std.proofs.Common.{◌≡◌, refl, sym, ap, ◌∙◌, subst, ℕ, List, [], ◌∷◌, ◌++◌, Option, None, Some, Bool, true, false}
-use Rattle.std.specs.Prelude.{if◌then◌else◌, ◌&&◌}
+use Rattle.std.proofs.Common.{◌≡◌, refl, sym, ap, ◌∙◌, ℕ, List, [], ◌∷◌, ◌++◌, Option, None, Some, Bool, false}
 use Rattle.psl_base.specs.declared.place.Place.{Place}
-use Rattle.psl_lexer.specs.declared.kind.TokenKind.{TokenKind}
 use Rattle.psl_lexer.specs.declared.token.Token.{Token}
-use Rattle.psl_grammar.specs.declared.tree.Count as code_count
-use Rattle.psl_grammar.specs.declared.tree.Count.TheVariants as counts
 use Rattle.psl_grammar.specs.declared.tree.Expression as code_expression
 use Rattle.psl_grammar.specs.declared.tree.Expression.TheVariants as expressions
 use Rattle.psl_grammar.specs.declared.tree.Statement as code_statement
 use Rattle.psl_grammar.specs.declared.tree.Statement.TheVariants as statements
 use Rattle.psl_layer_laws.specs.Same.{Same, SameStatement, SameStatements}
-use Rattle.std.proofs.lemmas.List.{append-nil}
 use Rattle.std.specs.List.{list_any}
-use Rattle.std.specs.Option.{is_some, option_or}
+use Rattle.std.specs.Option.{option_or}
 use Rattle.std.specs.Prelude.{◌||◌}
 use Rattle.psl_grammar.specs.declared.tree.UnitTree as code_tree
 use Rattle.psl_grammar.specs.declared.tree.UnitTree.TheVariants as trees
 use Rattle.psl_grammar.specs.declared.tree.VerificationUnit.{VerificationUnit}
-use Rattle.psl_grammar.specs.Surface.{node_of, report_node, labelled_node, statement_node, statements_node, binding_node, unit_node, units_node, tree_node}
+use Rattle.psl_grammar.specs.Surface.{node_of, report_node, statement_node, statements_node, binding_node, unit_node, units_node, tree_node}
 use Rattle.psl_grammar.specs.Trees as nodes
 use Rattle.psl_grammar.specs.Trees.{Node}
 use Rattle.psl_layer_laws.proofs.FlawLaws.{flaws-same}
@@ -29,16 +24,15 @@ use Rattle.psl_layer_meaning.specs.declared.fault.Flaw.{Flaw}
 use Rattle.psl_layer_meaning.specs.declared.kind.ExpressionKind.{ExpressionKind}
 use Rattle.psl_layer_meaning.specs.declared.operator.DeclarationWord.{DeclarationWord}
 use Rattle.psl_layer_meaning.specs.declared.operator.DeclarationWord.TheVariants as declarations
-use Rattle.psl_layer_meaning.specs.Directives.{Asked, declared_by, named_by, clock_by, clock_of, default_clock, under_clock, asserted, covered_under, cover_formula, directive_formula, label_text, asked_by, asked_after, asked_in, asked_in_units, kernel}
-use Rattle.psl_layer_meaning.specs.Flaws.{directive_flaws, declares_clock, declaration_flaws, statement_flaws, statements_flaws, units_flaws, tree_flaws, expression_flaws}
-use Rattle.psl_layer_meaning.specs.Kernel.{Meaning, Named, boolean_in, sequence_in, formula_in, meaning_of}
-use Rattle.psl_layer_meaning.specs.Kinds.{kind_declared_by, declared_kind, declared_as, place_of, kind_of}
+use Rattle.psl_layer_meaning.specs.Directives.{Asked, declared_by, clock_of, default_clock, asserted, covered_under, cover_formula, directive_formula, asked_by, asked_after, asked_in, asked_in_units, kernel}
+use Rattle.psl_layer_meaning.specs.Flaws.{declares_clock, declaration_flaws, statement_flaws, statements_flaws, units_flaws, tree_flaws}
+use Rattle.psl_layer_meaning.specs.Kernel.{Meaning, Named, meaning_of}
+use Rattle.psl_layer_meaning.specs.Kinds.{kind_declared_by, declared_as, place_of, kind_of}
 use Rattle.psl_layer_meaning.specs.Operators.{declaration_word, directive_kind_of}
-use Rattle.psl_sugar.specs.Properties.{covered_at}
 use Rattle.psl_tree.specs.declared.directive.Kind as directive_kind
 use Rattle.psl_tree.specs.declared.directive.Kind.TheVariants as directives
 use Rattle.psl_tree.specs.declared.name.Name.{Name}
-use Rattle.psl_tree.specs.Trees.{Boolean, Formula}
+use Rattle.psl_tree.specs.Trees.{Boolean}
 
 -- ---- from nodes
 

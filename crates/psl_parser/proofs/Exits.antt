@@ -1,5 +1,5 @@
 -- What a method returns, by how its last step ended.
-use Rattle.std.proofs.Common.{◌≡◌, refl, sym, ◌∙◌, ap, subst, List, [], ◌∷◌, Option, Some, Result, Ok, Err}
+use Rattle.std.proofs.Common.{◌≡◌, sym, subst, [], ◌∷◌, Option, Some, Result, Ok, Err}
 use Rattle.std.specs.Result.{IsErrAnd}
 use Rattle.psl_grammar.specs.declared.tree.Count as code_count
 use Rattle.psl_grammar.specs.declared.tree.Statement as code_statement

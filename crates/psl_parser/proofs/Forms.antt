@@ -1,11 +1,11 @@
 -- Steps of a reader of the grammar that several methods share.
 use Rattle.std.proofs.Common.{◌≡◌, refl, sym, ◌∙◌, ap, subst, Bool, true, false, not, List, [], ◌∷◌, ◌++◌, append_assoc, append-nil}
-use Rattle.psl_grammar.proofs.Loops.{Through, through-more, InfixedThrough, infixed-more, infixed-end}
+use Rattle.psl_grammar.proofs.Loops.{through-more, InfixedThrough, infixed-more}
 use Rattle.psl_grammar.proofs.NextToken.{clash, not-true}
 use Rattle.psl_grammar.specs.Firsts.{at}
-use Rattle.psl_grammar.specs.Parts.{Part, Quoted, Sym, Prop, ImpRight, Post, ◌~◌, ◌//◌, Many}
+use Rattle.psl_grammar.specs.Parts.{Part, Sym, Prop, ImpRight, Post, ◌~◌, Many}
 use Rattle.psl_grammar.specs.Reading.{State, Starts, Reads, Reads as reads, Stops, Stops as stops, Fault}
-use Rattle.psl_grammar.specs.Trees.{Token, Node, Infix, Posted, Tail, Item, Tok, Tree, posted, conjoined, applied, tails, wide_tails}
+use Rattle.psl_grammar.specs.Trees.{Token, Node, Infix, Posted, Item, Tok, Tree, posted, conjoined, applied, tails, wide_tails}
 use Rattle.psl_lexer.specs.declared.kind.TokenKind.{TokenKind}
 use Rattle.psl_parser.specs.Pieces.{PostsThrough}
 use Rattle.psl_parser.proofs.Rounds.{Joined, Behind, Waiting}

@@ -2,19 +2,17 @@
 use Rattle.std.proofs.Common.{◌≡◌, refl, sym, ◌∙◌, ap, subst, List, [], ◌∷◌, ◌++◌, map, append-nil, append_assoc, Option, None, Some}
 use Rattle.psl_grammar.proofs.Loops.{Through, through-start, through-more}
 use Rattle.psl_grammar.specs.declared.tree.Count as code_count
-use Rattle.psl_grammar.specs.declared.tree.Expression.TheVariants as expressions
 use Rattle.psl_grammar.specs.declared.tree.Statement as code_statement
 use Rattle.psl_grammar.specs.declared.tree.VerificationUnit.{VerificationUnit}
 use Rattle.psl_grammar.specs.Parts.{Part, Quoted, Sym, ◌~◌, ◌//◌, Many, Maybe, Path, Post, Start, Prop, Vunit, Statement, Directive, Declaration}
 use Rattle.psl_grammar.specs.Productions.{index, edge}
 use Rattle.psl_grammar.specs.Reading.{State, Left, Starts, Reads, Reads as r}
-use Rattle.psl_grammar.specs.Surface.{binding_node, count_node, labelled_node, node_of, report_node, signal_node, statement_node, statements_node, unit_node, units_node}
-use Rattle.psl_grammar.specs.Trees.{Token, Node, Absent, Named, Indexed, Leaf, Edge, Directed, Labelled, UnitOf, Listed, Repeat, Item, Tok, Tree, atom, built, listed, names, opened}
+use Rattle.psl_grammar.specs.Surface.{binding_node, count_node, report_node, signal_node, statement_node, statements_node, unit_node, units_node}
+use Rattle.psl_grammar.specs.Trees.{Token, Node, Absent, Named, Edge, Directed, UnitOf, Listed, Repeat, Item, Tok, Tree, atom, built, listed, names, opened}
 use Rattle.psl_lexer.specs.declared.kind.TokenKind.{TokenKind}
 use Rattle.psl_lexer.specs.declared.kind.TokenKind.TheVariants as kinds
-use Rattle.psl_parser.specs.declared.make.Piece.{Piece}
 use Rattle.psl_parser.specs.declared.make.Repetition.{Repetition}
-use Rattle.psl_parser.specs.Pieces.{signal, edged, starred, equals, label, report, binding, Gave, count_items, ReadsRepetition, ReadsPlain, ReadsEquals, ReadsIndex, ReadsOptionalIndex, ReadsLabel, ReadsSomeLabel, ReadsReport, ReadsSomeReport, ReadsBinding, ReadsDirective, statement_items, unit_items}
+use Rattle.psl_parser.specs.Pieces.{signal, edged, starred, equals, label, report, binding, count_items, ReadsRepetition, ReadsPlain, ReadsEquals, ReadsIndex, ReadsOptionalIndex, ReadsLabel, ReadsSomeLabel, ReadsReport, ReadsSomeReport, ReadsBinding, ReadsDirective, statement_items, unit_items}
 use Rattle.psl_parser.proofs.Forms.{node}
 use Rattle.psl_parser.proofs.Rounds.{Dotted}
 

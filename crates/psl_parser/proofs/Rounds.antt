@@ -1,11 +1,9 @@
 -- What the loops of the reader keep.
-use Rattle.std.proofs.Common.{◌≡◌, refl, sym, ◌∙◌, ap, subst, List, [], ◌∷◌, ◌++◌, append_assoc, append-nil, map}
-use Rattle.psl_grammar.proofs.Loops.{Through, through-start, through-more, through-end, through-stop, InfixedThrough, infixed-start, infixed-more, infixed-end}
-use Rattle.psl_grammar.specs.declared.tree.Statement as code_statement
-use Rattle.psl_grammar.specs.declared.tree.VerificationUnit.{VerificationUnit}
-use Rattle.psl_grammar.specs.Parts.{Part, Many, Sym, Post, Path}
-use Rattle.psl_grammar.specs.Reading.{State, Starts, StartsNot, Reads, Stops, Fault}
-use Rattle.psl_grammar.specs.Trees.{Token, Node, Infix, Posted, Item, Tok, Tree, infixed, posted, conjoined, applied, tails, wide_tails, names}
+use Rattle.std.proofs.Common.{◌≡◌, refl, List, [], ◌++◌}
+use Rattle.psl_grammar.proofs.Loops.{Through, through-start, InfixedThrough, infixed-start}
+use Rattle.psl_grammar.specs.Parts.{Part, Sym, Post}
+use Rattle.psl_grammar.specs.Reading.{State}
+use Rattle.psl_grammar.specs.Trees.{Token, Node, Item, applied, names}
 use Rattle.psl_parser.specs.Pieces.{PostsThrough}
 
 -- operators that associate to the left: the items of some rounds have made `now` of `first`

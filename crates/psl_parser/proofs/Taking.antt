@@ -9,8 +9,7 @@ use Rattle.psl_grammar.specs.Reading.{State, Left, Right, Reads, Reads as reads,
 use Rattle.psl_grammar.specs.Trees.{Token, Tok}
 use Rattle.psl_lexer.specs.declared.kind.TokenKind.{TokenKind}
 use Rattle.psl_parser.specs.declared.fault.Fault.{Fault}
-use Rattle.psl_parser.specs.declared.fault.Fault.TheVariants as faults
-use Rattle.psl_parser.specs.Steps.{reason, Took, Missed, Reached, TookNot, TookNot as took_not}
+use Rattle.psl_parser.specs.Steps.{reason, Took, Reached, TookNot, TookNot as took_not}
 
 -- which side of a choice is taken
 

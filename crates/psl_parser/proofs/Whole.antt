@@ -5,9 +5,9 @@ use Rattle.psl_grammar.proofs.Proved.{one_tree, one_place, tree_has_no_fault, re
 use Rattle.psl_grammar.specs.declared.tree.UnitTree.{UnitTree}
 use Rattle.psl_grammar.specs.Derivation.{IsSyntaxFault, Begins}
 use Rattle.psl_grammar.specs.Parts.{Text, Sym}
-use Rattle.psl_grammar.specs.Reading.{State, Reads, Stops, Syntax, Limit, ReadsWhole, StopsWhole}
+use Rattle.psl_grammar.specs.Reading.{State, Reads, Stops, Syntax, Limit, StopsWhole}
 use Rattle.psl_grammar.specs.Surface.{tree_node}
-use Rattle.psl_grammar.specs.Trees.{Token, Node, Tree}
+use Rattle.psl_grammar.specs.Trees.{Token, Tree}
 use Rattle.psl_limits.specs.declared.Limit.{Limit as Kind}
 use Rattle.psl_limits.specs.declared.Limit.TheVariants as limits
 use Rattle.psl_limits.specs.declared.Passed.{Passed}
@@ -15,7 +15,7 @@ use Rattle.psl_limits.specs.Limits.{IsFirstPassed, NonePasses, PassesAt}
 use Rattle.psl_parser.specs.declared.fault.ParseFault.{ParseFault}
 use Rattle.psl_parser.specs.declared.fault.ParseFault.TheVariants as faults
 use Rattle.psl_parser.specs.Laws.{OneFault, NotBoth, OneParsed}
-use Rattle.psl_parser.specs.Parsing.{limit_fault, limit_of, IsParsed, IsParseFault, HasSyntaxFault, IsSyntaxFirst, IsLimitFirst, NoSyntaxFault}
+use Rattle.psl_parser.specs.Parsing.{limit_fault, limit_of, IsParsed, IsParseFault, HasSyntaxFault, IsSyntaxFirst, IsLimitFirst}
 
 -- what the scan says
 abbrev pub Scanned : List Token → Option Passed → Type 0

@@ -7,7 +7,7 @@ use Rattle.psl_grammar.specs.Parts.{Symbol, Prop, Path, Wtail, Ctail, Sere, Post
 use Rattle.psl_grammar.specs.Productions.{grouped, index, range, next_range, event_range, edge}
 use Rattle.psl_grammar.specs.Reading.{State, Reads}
 use Rattle.psl_grammar.specs.Surface.{count_node, labelled_node, node_of, statement_node, unit_node}
-use Rattle.psl_grammar.specs.Trees.{Token, Node, Named, Braced, Postfix, Repeat, Posted, Between, Item, Tok, Tree, posted, conjoined, applied, built}
+use Rattle.psl_grammar.specs.Trees.{Token, Node, Named, Braced, Repeat, Posted, Between, Item, Tok, Tree, posted, conjoined, applied, built}
 use Rattle.psl_lexer.specs.declared.kind.TokenKind.{TokenKind}
 use Rattle.psl_lexer.specs.declared.kind.TokenKind.TheVariants as kinds
 use Rattle.psl_parser.specs.declared.make.Piece.{Piece}

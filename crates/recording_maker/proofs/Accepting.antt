@@ -1,19 +1,16 @@
 -- A made recording is read as the values that it was made of.
-use Rattle.std.proofs.Common.{◌≡◌, ◌∙◌, refl, sym, ap, subst, ℕ, ◌+◌, ◌≤◌, List, [], ◌∷◌, ◌++◌, map, Option, None, Some, Ok, arith}
-use Rattle.std.specs.Prelude.{length}
+use Rattle.std.proofs.Common.{◌≡◌, ◌∙◌, refl, ap, subst, ℕ, ◌+◌, ◌≤◌, List, [], map, Option, None, Ok, arith}
 use Rattle.std.specs.List.{range_with_len}
 use Rattle.recording_maker.proofs.Samples.{before_sample, events_from, definitions-go, lines-go}
 use Rattle.recording_maker.proofs.Standings.{Goes, Says, says}
 use Rattle.recording_maker.proofs.Values.{times-are, rows-are}
-use Rattle.recording_maker.specs.Made.{made_text, made_names, made_values, made_sampled, samples_from}
+use Rattle.recording_maker.specs.Made.{made_text, made_names, made_sampled, samples_from}
 use Rattle.vcd_reader.proofs.Firsts.{faultless-reading}
-use Rattle.vcd_reader.specs.declared.stop.Stop.{Stop}
-use Rattle.vcd_reader.specs.Events.{Event, value_at, times_of}
-use Rattle.vcd_reader.specs.Meaning.{end_after, events_after, dump_of, dump_by, sampled_of, reading}
+use Rattle.vcd_reader.specs.Events.{Event, value_at}
+use Rattle.vcd_reader.specs.Meaning.{end_after, events_after, dump_of, sampled_of, reading}
 use Rattle.vcd_reader.specs.Rules.{sample_limit}
-use Rattle.vcd_reader.specs.Sampled.{Sampled}
 use Rattle.vcd_reader.specs.Standing.{Standing, at_first, standing_by}
-use Rattle.vcd_reader.specs.Tokens.{Token, tokens, tokens_from}
+use Rattle.vcd_reader.specs.Tokens.{tokens, tokens_from}
 
 -- what the tokens say
 whole : (seed samples : ℕ) → samples ≤ sample_limit → Says [] (tokens (made_text seed samples)) (events_from seed 0 samples) (before_sample samples)

@@ -1,7 +1,6 @@
 -- One sample more of a recording that is made.
-use Rattle.std.proofs.Common.{◌≡◌, ◌∙◌, refl, sym, ap, ℕ, zero, suc, ◌+◌, Bool, List, [], ◌∷◌, ◌++◌, arith, append_assoc}
+use Rattle.std.proofs.Common.{◌≡◌, ◌∙◌, sym, ap, ℕ, zero, suc, ◌+◌, Bool, List, [], ◌∷◌, ◌++◌, arith, append_assoc}
 use Rattle.std.specs.Prelude.{decimal}
-use Rattle.std.specs.List.{range_with_len, flat_map}
 use Rattle.std.proofs.lemmas.List.{append-nil}
 use Rattle.recording_maker.specs.Generator.{number_after, number_at, bit_16, request_at, answer_at}
 use Rattle.recording_maker.specs.Made.{definitions, digit, line, sample_lines, samples_from}

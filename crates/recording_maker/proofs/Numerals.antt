@@ -1,12 +1,12 @@
 -- The decimal form of a time is read as that time.
-use Rattle.std.proofs.Common.{◌≡◌, ◌∙◌, sym, ap, ℕ, ◌+◌, ◌-◌, ◌*◌, ◌<◌, ◌≤◌, ◌^◌, Bool, true, false, List, [], ◌∷◌, length, Some, arith, refl, rules}
-use Rattle.std.specs.Prelude.{decimal, None, cond, nat_le}
+use Rattle.std.proofs.Common.{◌≡◌, ◌∙◌, ap, ℕ, ◌<◌, ◌^◌, true, List, [], ◌∷◌, length, Some, arith, refl, rules}
+use Rattle.std.specs.Prelude.{decimal, nat_le}
 use Rattle.std.specs.Int.{IsInRange}
 use Rattle.std.specs.List.{list_all}
-use Rattle.std.proofs.lemmas.Bool.{le-leb, and_from, and_left, and_right, cond-true}
+use Rattle.std.proofs.lemmas.Bool.{le-leb, and_from, cond-true}
 use Rattle.std.proofs.lemmas.Fmt.{decimal_nonempty, digits_decimal, digits_value-decimal}
-use Rattle.std.proofs.lemmas.Str.Parse.{IsDigitsTest, FoldsDigits, IsNumeralModel, numerals_by_fold}
-use Rattle.vcd_reader.specs.Decimal.{is_digit, are_digits, number_after, decimal_upto}
+use Rattle.std.proofs.lemmas.Str.Parse.{IsNumeralModel, numerals_by_fold}
+use Rattle.vcd_reader.specs.Decimal.{is_digit, are_digits, number_after}
 use Rattle.vcd_reader.specs.Standing.{time_of, time_most}
 
 -- each byte is a digit

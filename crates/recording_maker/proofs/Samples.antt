@@ -1,25 +1,21 @@
 -- The lines of a made recording, token by token.
-use Rattle.std.proofs.Common.{◌≡◌, ◌∙◌, refl, sym, ap, subst, ℕ, zero, suc, ◌+◌, ◌-◌, ◌<◌, ◌≤◌, ◌^◌, Bool, true, false, cond, List, [], ◌∷◌, ◌++◌, length, Option, None, Some, arith, append_assoc, rules}
-use Rattle.std.specs.Prelude.{decimal, nat_lt, nat_le, not, ◌&&◌}
+use Rattle.std.proofs.Common.{◌≡◌, ◌∙◌, refl, sym, ap, subst, ℕ, zero, suc, ◌+◌, ◌<◌, ◌≤◌, ◌^◌, Bool, true, false, List, [], ◌∷◌, ◌++◌, length, Option, None, Some, arith, append_assoc}
+use Rattle.std.specs.Prelude.{decimal, nat_le}
 use Rattle.std.specs.List.{list_all, flat_map, range_with_len}
-use Rattle.std.specs.Option.{option_to_list}
 use Rattle.std.proofs.Math.Bool.{and-false}
-use Rattle.std.proofs.lemmas.Bool.{lt-leb, le-ltb, ne_eqb, and_from, and_right, leb-true}
-use Rattle.std.proofs.lemmas.Fmt.{decimal_nonempty}
+use Rattle.std.proofs.lemmas.Bool.{lt-leb, le-ltb, ne_eqb, and_from, leb-true}
 use Rattle.recording_maker.proofs.Numerals.{form-all, form-time}
 use Rattle.recording_maker.proofs.Standings.{Goes, goes-on}
 use Rattle.recording_maker.proofs.Tokens.{is_solid, true-left, true-right, word-token}
 use Rattle.recording_maker.specs.Generator.{request_at, answer_at}
 use Rattle.recording_maker.specs.Made.{digit, line, definitions, sample_lines, samples_from, made_names}
-use Rattle.vcd_reader.specs.declared.shape.Shape.{Shape}
 use Rattle.vcd_reader.specs.declared.shape.Shape.TheVariants.{Time, Scalar}
 use Rattle.vcd_reader.specs.Decimal.{is_digit}
 use Rattle.vcd_reader.specs.Declarations.{Declared}
 use Rattle.vcd_reader.specs.Events.{Event, At, Change, is_last, falls}
-use Rattle.vcd_reader.specs.Meaning.{rule_after, event_after}
 use Rattle.vcd_reader.specs.Rules.{rule_at, sample_limit}
 use Rattle.vcd_reader.specs.Shapes.{shape_of, keyword_of}
-use Rattle.vcd_reader.specs.Standing.{Standing, Told, nothing_told, Telling, Ready, at_first, standing_after, time_of}
+use Rattle.vcd_reader.specs.Standing.{Standing, Told, Telling, Ready, at_first, time_of}
 use Rattle.vcd_reader.specs.Tokens.{Token, tokens_from}
 
 -- what the definitions declare

@@ -1,6 +1,5 @@
 -- Tokens that are read one after the other, without a fault: what they say.
-use Rattle.std.proofs.Common.{◌≡◌, ◌∙◌, refl, sym, ap, subst, List, [], ◌∷◌, ◌++◌, None, append_assoc, append-nil}
-use Rattle.std.specs.List.{fold}
+use Rattle.std.proofs.Common.{◌≡◌, ◌∙◌, sym, ap, subst, List, [], ◌∷◌, ◌++◌, None, append_assoc, append-nil}
 use Rattle.std.specs.Option.{option_to_list}
 use Rattle.std.proofs.lemmas.List.Sums.{fold_push}
 use Rattle.vcd_reader.specs.Events.{Event}

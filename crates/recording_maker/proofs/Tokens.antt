@@ -1,9 +1,9 @@
 -- The tokens of a text whose lines are one word each.
-use Rattle.std.proofs.Common.{◌≡◌, ◌∙◌, refl, sym, ap, ℕ, suc, ◌+◌, ◌<◌, Bool, true, false, not, cond, List, [], ◌∷◌, ◌++◌, length, arith}
+use Rattle.std.proofs.Common.{◌≡◌, ◌∙◌, refl, ap, ℕ, suc, ◌+◌, ◌<◌, Bool, true, false, not, List, [], ◌∷◌, ◌++◌, length, arith}
 use Rattle.std.specs.Prelude.{◌&&◌}
 use Rattle.std.specs.List.{list_all}
 use Rattle.std.proofs.lemmas.Bool.{cond-true, cond-false}
-use Rattle.vcd_reader.specs.Tokens.{Token, is_white, begins_word, onto_first, tokens_from}
+use Rattle.vcd_reader.specs.Tokens.{is_white, begins_word, onto_first, tokens_from}
 
 -- a byte that is no white space
 abbrev pub is_solid : ℕ → Bool

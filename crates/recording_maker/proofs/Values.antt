@@ -1,12 +1,11 @@
 -- The values that the events of a made recording give its signals.
-use Rattle.std.proofs.Common.{◌≡◌, ◌∙◌, refl, sym, ap, ℕ, zero, suc, ◌+◌, ◌<◌, ◌≤◌, Bool, true, false, cond, List, [], ◌∷◌, ◌++◌, map, Option, None, Some, arith}
-use Rattle.std.specs.Prelude.{nat_lt}
+use Rattle.std.proofs.Common.{◌≡◌, ◌∙◌, refl, ap, ℕ, zero, suc, ◌+◌, ◌<◌, ◌≤◌, Bool, List, [], ◌∷◌, ◌++◌, map, Option, None, Some, arith}
 use Rattle.std.specs.List.{range_with_len}
-use Rattle.std.proofs.lemmas.Bool.{le-ltb, lt-ltb, ne_eqb}
+use Rattle.std.proofs.lemmas.Bool.{le-ltb, lt-ltb}
 use Rattle.recording_maker.proofs.Samples.{time_before, sample_events, events_from, is-last-not}
 use Rattle.recording_maker.specs.Generator.{request_at, answer_at}
 use Rattle.recording_maker.specs.Made.{digit, made_values}
-use Rattle.vcd_reader.specs.Events.{Event, At, Change, before_higher, last_change, value_at, is_last, times_after, times_of}
+use Rattle.vcd_reader.specs.Events.{Event, before_higher, last_change, value_at, times_after}
 
 -- each sample has its own time
 pub times-are : (seed first count : ℕ) → times_after (time_before first) (events_from seed first count) ≡ range_with_len first count

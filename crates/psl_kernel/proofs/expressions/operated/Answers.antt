@@ -1,4 +1,4 @@
-use Rattle.std.proofs.Common.{◌≡◌, sym, subst, ◌∙◌}
+use Rattle.std.proofs.Common.{sym, subst, ◌∙◌}
 use Rattle.psl_layer_meaning.specs.Kernel.{Meaning, infix_meaning, operated}
 use Rattle.psl_kernel.specs.Built.{Gives}
 use Rattle.psl_kernel.specs.declared.meaning.Meaning.TheVariants as meanings

@@ -1,4 +1,4 @@
-use Rattle.std.proofs.Common.{◌≡◌, refl, sym, ◌∙◌, ap, List, [], ◌∷◌, ◌++◌, arith}
+use Rattle.std.proofs.Common.{refl, sym, ◌∙◌, ap, [], ◌∷◌, ◌++◌, arith}
 use Rattle.psl_grammar.proofs.Loops.{through-stop, through-end, infixed-end}
 use Rattle.psl_grammar.proofs.NextToken.{kind-of_one}
 use Rattle.psl_grammar.specs.Parts as P

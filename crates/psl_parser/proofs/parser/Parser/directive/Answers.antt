@@ -1,7 +1,6 @@
 use Rattle.psl_grammar.specs.Parts.{Sym}
 use Rattle.psl_parser.specs.Pieces.{ReadsDirective}
 use Rattle.psl_parser.proofs.Exits.{exit, made-statement}
-use Rattle.psl_parser.proofs.Forms.{node}
 use Rattle.psl_parser.proofs.Making.{report-some, directive-made}
 use Rattle.psl_parser.proofs.Taking.{taken, stopped}
 use Rattle.psl_grammar.specs.Reading.{Stops as s}

@@ -1,6 +1,6 @@
 use Rattle.psl_parser.specs.Pieces.{signal, Gave}
 use Rattle.psl_grammar.specs.Trees.{atom}
-use Rattle.psl_parser.proofs.Exits.{exit, made}
+use Rattle.psl_parser.proofs.Exits.{exit}
 use Rattle.psl_parser.proofs.Making.{signal-made}
 use Rattle.psl_grammar.specs.Reading.{Stops as s}
 use Rattle.psl_parser.proofs.parser.Parser.signal.Goals as goal
