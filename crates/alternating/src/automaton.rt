@@ -36,10 +36,10 @@ const MOST_OBLIGATIONS: u64 = 2048;
 #[derive(Debug, Drop, Error)]
 pub enum AltFault {
     /// A sequence of the formula counts more than 1,024 states.
-    #[error("a sequence needs more than 1024 states")]
+    #[error("a sequence counts more than 1024 states")]
     SereTooLarge,
     /// The formula counts more than 2,048 obligations.
-    #[error("the formula needs more than 2048 obligations")]
+    #[error("the formula counts more than 2048 obligations")]
     AutomatonTooLarge,
     /// The allocator refused memory.
     #[error("out of memory")]
@@ -179,7 +179,7 @@ impl Alternating {
 /// its value is satisfaction in the neutral view, with `top` past the last place in the weak view and
 /// with `bottom` in the strong view (IEEE 1850, Annex B). `SereTooLarge` comes exactly where a
 /// sequence of the formula counts more than 1,024 states; `AutomatonTooLarge` where none does and the
-/// formula counts more than 2,048 obligations. Both come before memory is taken.
+/// formula counts more than 2,048 obligations.
 pub fn of(alloc: Global, f: &Fl) -> Result<Alternating, AltFault>
     requires { IsPlain (formula_of f.now) }
     ensures built { IfOk result (λ automaton. automaton ≡ built (formula_of f.now)) }

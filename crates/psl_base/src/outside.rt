@@ -2,7 +2,8 @@ ghost use Rattle.std.specs.Prelude.{◌≡◌, ◌≢◌, ◌+◌, ◌^◌, ◌<
 ghost use Rattle.psl_base.specs.Shelf.{ShelfState, OnlyReads, Selects, SelectFails, Reads, ReadFails, OnlyWrites, Creates, CreateFails, Appends, AppendFails};
 ghost use Rattle.psl_base.specs.Sink.{SinkState, Puts, PutFails};
 
-/// A call of the outside world failed. What it was called on has counted the fault.
+/// A call of the outside world failed. What it was called on has counted the fault, or its count stands at the last
+/// value, or a name was selected that is told not to be there.
 #[derive(Clone, Copy, Debug, PartialEq, Eq)]
 pub struct Failed;
 

@@ -13,5 +13,5 @@ pub struct Name {
     pub right: u32,
 }
 
-/// Names in the order of their text. Several may stand for one signal.
+/// Names in the order in which a file declares them. Several may stand for one signal.
 pub type Names = Items<Name>;

@@ -26,7 +26,7 @@ const MOST_STATES: u64 = 1024;
 #[derive(Debug, Drop, Error)]
 pub enum NfaFault {
     /// The sequence counts more than 1,024 states.
-    #[error("the sequence needs more than 1024 states")]
+    #[error("the sequence counts more than 1024 states")]
     SereTooLarge,
     /// The allocator refused memory.
     #[error("out of memory")]
@@ -104,7 +104,7 @@ impl Nfa {
 
 /// The automaton of a sequence without clocks: it accepts exactly the lists of letters that satisfy
 /// the sequence tightly (IEEE 1850, Annex B), letters Top and Bottom among them. `SereTooLarge`
-/// comes where the sequence counts more than 1,024 states, and before memory is taken.
+/// comes exactly where the sequence counts more than 1,024 states.
 pub fn of(alloc: Global, r: &Sere) -> Result<Nfa, NfaFault>
     requires { HasNoClock (sequence_of r.now) }
     ensures built { IfOk result (λ nfa. nfa ≡ nfa_of (sequence_of r.now)) }

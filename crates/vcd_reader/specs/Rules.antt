@@ -131,7 +131,7 @@ is_too_long declared (WantsVectorCode start value) text =
     of_signal (λ signal. not signal.unread && nat_lt signal.size (length value)) declared (place_of declared.codes text)
 is_too_long declared opened text = false
 
--- ChangeBeforeDefinitionsEnd: a token of the body where a section of the definitions is wanted
+-- ChangeBeforeDefinitionsEnd: where a section of the definitions is wanted, a dump word or a token that begins with no `$`
 abbrev pub is_no_section : Shape → Bool
 is_no_section Dump = true
 is_no_section Time = true

@@ -45,11 +45,12 @@ pub enum VcdFault {
     #[error("not a change")]
     BadValue(Place),
 
-    /// A value with more letters than its signal has bits. The place is that of the code.
+    /// A value with more letters than its signal has bits, where the signal is read: none of a `real`, a `realtime`
+    /// or a `string` is. The place is that of the code.
     #[error("a value is too long")]
     VectorTooLong(Place),
 
-    /// A token of the body where a section of the definitions is wanted.
+    /// Where a section of the definitions is wanted, a token that does not begin with `$`, or `$dumpvars` or its kin.
     #[error("a change stands before the definitions end")]
     ChangeBeforeDefinitionsEnd(Place),
 

@@ -8,10 +8,10 @@ use thiserror::Error;
 #[derive(Clone, Copy, Debug, PartialEq, Eq, Error)]
 pub enum JudgeFault {
     /// A sequence of this directive's formula counts more than 1,024 states.
-    #[error("a sequence of a directive needs more than 1024 states")]
+    #[error("a sequence of a directive counts more than 1024 states")]
     Sere(u32),
     /// This directive's formula counts more than 2,048 obligations.
-    #[error("the formula of a directive needs more than 2048 obligations")]
+    #[error("the formula of a directive counts more than 2048 obligations")]
     Automaton(u32),
     /// The allocator refused memory.
     #[error("out of memory")]

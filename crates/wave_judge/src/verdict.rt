@@ -19,14 +19,15 @@ pub struct Verdict {
 /// A verdict for each directive, in the order of the text.
 pub type Verdicts = Items<Verdict>;
 
-/// How far a directive is known to hold.
+/// In which of the three views a directive holds. No order between the views is claimed: a level says of the views
+/// after its own nothing, and what other recordings say that go on in another way is not told.
 #[derive(Clone, Copy, Debug, PartialEq, Eq)]
 pub enum Level {
-    /// It holds in the strong view: no continuation can break it.
+    /// It holds in the strong view: on the recording, followed for ever by a letter on which no Boolean holds.
     HoldsStrongly,
-    /// It holds on the recording alone.
+    /// It holds on the recording alone, and not in the strong view.
     Holds,
-    /// It holds only in the weak view: a continuation may still fulfil it.
+    /// It holds only in the weak view: on the recording, followed for ever by a letter on which each Boolean holds.
     Pending,
     /// It holds in no view.
     Fails,

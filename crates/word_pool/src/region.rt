@@ -92,7 +92,7 @@ impl Pool {
     ///
     /// # Errors
     ///
-    /// `NoMemory` if the region or the table must grow and memory is refused. The lists stay.
+    /// `NoMemory` if memory is refused. The lists stay.
     pub fn put(&mut self, words: &[u32]) -> Result<Id, NoMemory>
         requires words { used_words self.old + length words.now ≤ MOST_WORDS }
         requires ids { live_ids self.old < 2 ^ 32 - 1 }
