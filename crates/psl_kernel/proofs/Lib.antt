@@ -1,4 +1,4 @@
-pub mod LookedFor
+pub mod Declaring
 pub mod Operated
 pub mod Sizes
 pub mod Widths

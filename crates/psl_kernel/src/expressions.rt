@@ -63,7 +63,7 @@ fn signal(
 {
     if index.is_none() {
         let text = path_text(alloc, path.as_slice())?;
-        if let Some(meaning) = declared_meaning(alloc, scope.as_slice(), text.as_slice())? {
+        if let Some(meaning) = declared_meaning(alloc, scope, text.as_slice())? {
             return Ok(meaning);
         }
     }

@@ -19,4 +19,4 @@ mod tests;
 pub use expressions::meaning_of;
 pub use meaning::Meaning;
 pub use operators::clocked;
-pub use scope::{Declared, Scope};
+pub use scope::{Scope, declare, no_names};

@@ -1,34 +1,45 @@
 // Declared names, and what they stand for.
-ghost use Rattle.std.specs.Prelude.{IfOk};
-ghost use Rattle.psl_kernel.specs.Built.{IsDeclaredAs};
+ghost use Rattle.std.specs.Prelude.{[], IfOk, OnOk};
+ghost use Rattle.psl_kernel.specs.Built.{IsDeclaredAs, IsNamed, IsScope};
 
 use crate::Meaning;
-use psl_base::{Items, NoMemory, Text};
+use psl_base::NoMemory;
 use std::alloc::Global;
+use std::collections::BTreeMap;
 
-/// A declared name, and what it stands for.
-#[derive(Debug, Drop)]
-pub struct Declared {
-    pub text: Text,
-    pub meaning: Meaning,
+/// Declared names with what they stand for, ordered by their texts.
+pub type Scope<'a> = BTreeMap<&'a [u8], Meaning>;
+
+/// No declared names.
+pub fn no_names<'a>(alloc: Global) -> Scope<'a>
+    ensures { IsScope result [] }
+{
+    Scope::new(alloc)
 }
 
-/// Declared names in the order of their declarations; of two with one text the first counts.
-pub type Scope = Items<Declared>;
+/// Adds a declared name. Of two with one text the first counts.
+pub fn declare<'a>(scope: &mut Scope<'a>, text: &'a [u8], meaning: Meaning) -> Result<(), NoMemory>
+    ensures { OnOk result (IsNamed scope.old text.now meaning scope.new) }
+{
+    if scope.contains_key(text) {
+        return Ok(());
+    }
+    match scope.insert(text, meaning) {
+        Ok(_) => Ok(()),
+        Err(_) => Err(NoMemory),
+    }
+}
 
 /// What a text is declared as, if it is declared.
 pub(crate) fn declared_meaning(
     alloc: Global,
-    scope: &[Declared],
+    scope: &Scope,
     text: &[u8],
 ) -> Result<Option<Meaning>, NoMemory>
     ensures { IfOk result (IsDeclaredAs scope.now text.now) }
 {
-    for declared in scope {
-        if declared.text.as_slice() == text {
-            let meaning = declared.meaning.copy(alloc)?;
-            return Ok(Some(meaning));
-        }
+    match scope.get(text) {
+        Some(meaning) => Ok(Some(meaning.copy(alloc)?)),
+        None => Ok(None),
     }
-    Ok(None)
 }

@@ -1,5 +1,5 @@
 // What no clause says: that a meaning is built with ample memory, for each kind of expression, and when one is too large.
-use crate::{Declared, Meaning, Scope, clocked, meaning_of};
+use crate::{Meaning, Scope, clocked, declare, meaning_of, no_names};
 use psl_base::{Items, NoMemory, Place, Text, boxed};
 use psl_grammar::{Count, Expression, Path};
 use psl_lexer::{Token, TokenKind};
@@ -38,12 +38,13 @@ fn names(alloc: Global) -> Result<Names, NoMemory> {
 }
 
 // A sequence `s` of no letter.
-fn scope(alloc: Global) -> Result<Scope, NoMemory> {
-    let mut scope = Items::new(alloc);
-    scope.push(Declared {
-        text: Text::from_slice(alloc, b"s")?,
-        meaning: Meaning::Sequence(Ok(MeasuredSere::empty())),
-    })?;
+fn scope(alloc: Global) -> Result<Scope<'static>, NoMemory> {
+    let mut scope = no_names(alloc);
+    declare(
+        &mut scope,
+        b"s",
+        Meaning::Sequence(Ok(MeasuredSere::empty())),
+    )?;
     Ok(scope)
 }
 

@@ -16,8 +16,7 @@ use Rattle.psl_layer_meaning.specs.Directives.{Asked, asked_by, asked_after, ask
 use Rattle.psl_layer_meaning.specs.Kernel.{Named}
 use Rattle.psl_layer_meaning.specs.declared.fault.LayerFault.{LayerFault}
 use Rattle.psl_layer_meaning.specs.declared.fault.LayerFault.TheVariants as faults
-use Rattle.psl_kernel.specs.Built.{IsScope}
-use Rattle.psl_kernel.specs.declared.scope.Declared.{Declared}
+use Rattle.psl_kernel.specs.Built.{Declared, IsScope}
 use Rattle.psl_layer.specs.Asked.{GivesClock, IsGrown, IsLonger, IsLongerBy}
 use Rattle.psl_layer.proofs.Scopes.{cut}
 
@@ -116,7 +115,7 @@ longer_err old first second (faults.EmptyRange place) is = is
 longer_err old first second (faults.ConstantTooWide place) is = is
 
 -- the statements that are left, after names and directives
-pub record UnitRest (old unit : List Directive) (scope : List Declared) (names : List Name) (clock : Option (Result Boolean SugarFault)) (all rest : List code_statement.Statement) : Type 0 where
+pub record UnitRest (old unit : List Directive) (scope : Declared) (names : List Name) (clock : Option (Result Boolean SugarFault)) (all rest : List code_statement.Statement) : Type 0 where
   pub named : List Named
   pub holds : IsScope scope named
   pub wanted : Option Boolean
@@ -125,11 +124,11 @@ pub record UnitRest (old unit : List Directive) (scope : List Declared) (names :
   pub whole : asked_in names all ≡ done ++ asked_after named names wanted rest
   pub made : IsLonger old done (Ok unit)
 
-pub unit_begun : (old : List Directive) (names : List Name) (clock : Option (Result Boolean SugarFault)) (all : List code_statement.Statement) →
-    GivesClock clock (default_clock [] names all) → UnitRest old old [] names clock all all
-unit_begun old names clock all gives = record {
+pub unit_begun : (old : List Directive) (scope : Declared) (names : List Name) (clock : Option (Result Boolean SugarFault)) (all : List code_statement.Statement) →
+    IsScope scope [] → GivesClock clock (default_clock [] names all) → UnitRest old old scope names clock all all
+unit_begun old scope names clock all none gives = record {
   named = [];
-  holds = tt;
+  holds = none;
   wanted = default_clock [] names all;
   gives = gives;
   done = [];
@@ -146,7 +145,7 @@ asked_cut names named wanted done all index item at below =
     ∙ sym (append_assoc done (asked_by named names wanted item) (asked_after (named ++ declared_by named names item) names wanted (drop (index + 1) all)))
 
 -- a statement more
-pub unit_more : (old unit new : List Directive) (scope grown : List Declared) (names : List Name) (clock : Option (Result Boolean SugarFault)) (all : List code_statement.Statement)
+pub unit_more : (old unit new : List Directive) (scope grown : Declared) (names : List Name) (clock : Option (Result Boolean SugarFault)) (all : List code_statement.Statement)
     (index : ℕ) (item : code_statement.Statement) → item ≡ get_or all index item → index < length all →
     IsLongerBy scope names clock unit item (Ok new) → IsGrown scope names item grown →
     UnitRest old unit scope names clock all (drop index all) → UnitRest old new grown names clock all (drop (index + 1) all)
@@ -161,7 +160,7 @@ unit_more old unit new scope grown names clock all index item at below is_new is
 }
 
 -- a fault at a statement is one of the list
-pub unit_err : (old unit : List Directive) (scope : List Declared) (names : List Name) (clock : Option (Result Boolean SugarFault)) (all : List code_statement.Statement)
+pub unit_err : (old unit : List Directive) (scope : Declared) (names : List Name) (clock : Option (Result Boolean SugarFault)) (all : List code_statement.Statement)
     (index : ℕ) (item : code_statement.Statement) (fault : LayerFault) → item ≡ get_or all index item → index < length all →
     IsLongerBy scope names clock unit item (Err fault) →
     UnitRest old unit scope names clock all (drop index all) → IsLonger old (asked_in names all) (Err fault)
@@ -173,7 +172,7 @@ unit_err old unit scope names clock all index item fault at below is before =
     (longer_more old unit before.done own (Err fault) before.made (is before.named before.wanted before.holds before.gives)))
 
 -- no statement is left
-pub unit_end : (old unit : List Directive) (scope : List Declared) (names : List Name) (clock : Option (Result Boolean SugarFault)) (all : List code_statement.Statement)
+pub unit_end : (old unit : List Directive) (scope : Declared) (names : List Name) (clock : Option (Result Boolean SugarFault)) (all : List code_statement.Statement)
     (index : ℕ) → drop index all ≡ [] →
     UnitRest old unit scope names clock all (drop index all) → IsLonger old (asked_in names all) (Ok unit)
 unit_end old unit scope names clock all index end before =

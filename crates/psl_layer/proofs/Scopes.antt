@@ -1,5 +1,6 @@
--- Names one behind another, and the default clock of statements that are left.
+-- The names after a statement, and the default clock of statements that are left.
 use Rattle.std.proofs.Common.{◌≡◌, ℕ, suc, ◌+◌, ◌<◌, List, [], ◌∷◌, ◌++◌, length, get_or, drop, Option, None, Some, Result, refl, sym, ap, subst, ◌∙◌, add-one}
+use Rattle.std.proofs.lemmas.List.{append-nil}
 use Rattle.std.proofs.Math.Seq.{drop-cons}
 use Rattle.std.specs.Option.{option_or}
 use Rattle.psl_grammar.specs.declared.tree.Statement as code_statement
@@ -8,33 +9,21 @@ use Rattle.psl_tree.specs.declared.name.Name.{Name}
 use Rattle.psl_sugar.specs.declared.fault.SugarFault.{SugarFault}
 use Rattle.psl_layer_meaning.specs.Directives.{declared_by, clock_of, default_clock}
 use Rattle.psl_layer_meaning.specs.Kernel.{Named}
-use Rattle.psl_kernel.specs.Built.{Gives, IsScope}
-use Rattle.psl_kernel.specs.declared.scope.Declared.{Declared}
+use Rattle.psl_kernel.specs.Built.{Declared, IsScope}
 use Rattle.psl_layer.specs.Asked.{GivesClock, IsClockOf, IsGrown}
 
--- one name more
-pub pushed : (scope : List Declared) (named : List Named) (new : Declared) (wanted : Named) → IsScope scope named → new.text ≡ wanted.text → Gives new.meaning wanted.meaning →
-    IsScope (scope ++ new ∷ []) (named ++ wanted ∷ [])
-pushed [] [] new wanted holds same gives = (same, (gives, tt))
-pushed [] (first ∷ more) new wanted holds same gives = absurd holds
-pushed (first ∷ more) [] new wanted holds same gives = absurd holds
-pushed (first ∷ more) (other ∷ others) new wanted holds same gives = (holds.0, (holds.1.0, pushed more others new wanted holds.1.1 same gives))
-
 -- no name more
-pub unchanged : (scope : List Declared) (named : List Named) → IsScope scope named → IsScope scope (named ++ [])
-unchanged [] [] holds = tt
-unchanged [] (first ∷ more) holds = absurd holds
-unchanged (first ∷ more) [] holds = absurd holds
-unchanged (first ∷ more) (other ∷ others) holds = (holds.0, (holds.1.0, unchanged more others holds.1.1))
+pub unchanged : (scope : Declared) (named : List Named) → IsScope scope named → IsScope scope (named ++ [])
+unchanged scope named holds = subst (λ (all : List Named). IsScope scope all) (sym (append-nil named)) holds
 
 -- the statements that are left, after names that these stand for
-pub record ClockRest (scope : List Declared) (names : List Name) (all rest : List code_statement.Statement) : Type 0 where
+pub record ClockRest (scope : Declared) (names : List Name) (all rest : List code_statement.Statement) : Type 0 where
   pub named : List Named
   pub holds : IsScope scope named
   pub same : default_clock [] names all ≡ default_clock named names rest
 
-pub clock_begun : (names : List Name) (all : List code_statement.Statement) → ClockRest [] names all all
-clock_begun names all = record { named = []; holds = tt; same = refl }
+pub clock_begun : (scope : Declared) (names : List Name) (all : List code_statement.Statement) → IsScope scope [] → ClockRest scope names all all
+clock_begun scope names all none = record { named = []; holds = none; same = refl }
 
 pub cut : (all : List code_statement.Statement) (index : ℕ) (item : code_statement.Statement) → item ≡ get_or all index item → index < length all → drop index all ≡ item ∷ drop (index + 1) all
 cut all index item at below =
@@ -47,7 +36,7 @@ no_clock None other none = refl
 no_clock (Some clock) other none = absurd none
 
 -- a statement more that declares no default clock
-pub clock_more : (scope new : List Declared) (names : List Name) (all : List code_statement.Statement) (index : ℕ) (item : code_statement.Statement) →
+pub clock_more : (scope new : Declared) (names : List Name) (all : List code_statement.Statement) (index : ℕ) (item : code_statement.Statement) →
     item ≡ get_or all index item → index < length all → IsClockOf scope names item None → IsGrown scope names item new →
     ClockRest scope names all (drop index all) → ClockRest new names all (drop (index + 1) all)
 clock_more scope new names all index item at below none grown before = record {
@@ -64,7 +53,7 @@ its_clock clock None other gives = absurd gives
 its_clock clock (Some wanted) other gives = gives
 
 -- a statement that declares it
-pub clock_found : (scope : List Declared) (names : List Name) (all : List code_statement.Statement) (index : ℕ) (item : code_statement.Statement) (clock : Result Boolean SugarFault) →
+pub clock_found : (scope : Declared) (names : List Name) (all : List code_statement.Statement) (index : ℕ) (item : code_statement.Statement) (clock : Result Boolean SugarFault) →
     item ≡ get_or all index item → index < length all → IsClockOf scope names item (Some clock) →
     ClockRest scope names all (drop index all) → GivesClock (Some clock) (default_clock [] names all)
 clock_found scope names all index item clock at below is before =
@@ -73,7 +62,7 @@ clock_found scope names all index item clock at below is before =
     subst P (sym whole) (its_clock clock (clock_of before.named names item) (default_clock (before.named ++ declared_by before.named names item) names (drop (index + 1) all)) (is before.named before.holds))
 
 -- no statement declares it
-pub clock_none : (scope : List Declared) (names : List Name) (all : List code_statement.Statement) (index : ℕ) → drop index all ≡ [] →
+pub clock_none : (scope : Declared) (names : List Name) (all : List code_statement.Statement) (index : ℕ) → drop index all ≡ [] →
     ClockRest scope names all (drop index all) → GivesClock None (default_clock [] names all)
 clock_none scope names all index end before =
     let P : Option Boolean → Type 0 = λ wanted. GivesClock None wanted in

@@ -1,5 +1,5 @@
 -- What is built for declarations, default clocks and directives, beside what the definitions say.
-use Rattle.std.specs.Prelude.{◌≡◌, ℕ, suc, List, [], ◌∷◌, ◌++◌, map, length, Option, None, Some, Result, Ok, Err}
+use Rattle.std.specs.Prelude.{◌≡◌, suc, List, ◌++◌, map, length, Option, None, Some, Result, Ok, Err}
 use Rattle.psl_grammar.specs.declared.tree.Expression as code_expression
 use Rattle.psl_grammar.specs.declared.tree.Statement as code_statement
 use Rattle.psl_tree.specs.Trees.{Boolean, Formula}
@@ -13,18 +13,12 @@ use Rattle.psl_layer_meaning.specs.Directives.{Asked, asked_by, declared_by, clo
 use Rattle.psl_layer_meaning.specs.Kernel.{Meaning, Named}
 use Rattle.psl_layer_meaning.specs.declared.fault.LayerFault.{LayerFault}
 use Rattle.psl_layer_meaning.specs.declared.fault.LayerFault.TheVariants as faults
-use Rattle.psl_kernel.specs.Built.{Gives, IsScope}
+use Rattle.psl_kernel.specs.Built.{Gives, Declared, IsScope}
 use Rattle.psl_kernel.specs.declared.meaning.Meaning as code_meaning
-use Rattle.psl_kernel.specs.declared.scope.Declared.{Declared}
 
 -- a scope with what a statement declares, whatever it stands for
-abbrev pub IsGrown : List Declared → List Name → code_statement.Statement → List Declared → Type 0
+abbrev pub IsGrown : Declared → List Name → code_statement.Statement → Declared → Type 0
 IsGrown scope names statement new = (named : List Named) → IsScope scope named → IsScope new (named ++ declared_by named names statement)
-
--- a scope with one name more, whatever it stands for
-abbrev pub IsNamed : List Declared → List ℕ → code_meaning.Meaning → List Declared → Type 0
-IsNamed scope text meaning new =
-    (named : List Named) (wanted : Meaning) → IsScope scope named → Gives meaning wanted → IsScope new (named ++ record { text = text; meaning = wanted } ∷ [])
 
 -- a default clock where one is wanted, or that it is too large
 abbrev pub GivesClock : Option (Result Boolean SugarFault) → Option Boolean → Type 0
@@ -34,7 +28,7 @@ GivesClock (Some _) None = ⊥
 GivesClock (Some clock) (Some wanted) = GivesBoolean clock wanted
 
 -- the default clock that a statement declares
-abbrev pub IsClockOf : List Declared → List Name → code_statement.Statement → Option (Result Boolean SugarFault) → Type 0
+abbrev pub IsClockOf : Declared → List Name → code_statement.Statement → Option (Result Boolean SugarFault) → Type 0
 IsClockOf scope names statement clock = (named : List Named) → IsScope scope named → GivesClock clock (clock_of named names statement)
 
 -- anything under a default clock
@@ -43,7 +37,7 @@ UnderRow row clock part result =
     (first : Option Boolean) (second : Meaning) → GivesClock clock first → Gives part second → GivesFormula result (row first second)
 
 -- the formula of a directive
-abbrev pub IsFormulaOf : List Declared → List Name → Option (Result Boolean SugarFault) → directive_kind.Kind → code_expression.Expression → Result Formula SugarFault → Type 0
+abbrev pub IsFormulaOf : Declared → List Name → Option (Result Boolean SugarFault) → directive_kind.Kind → code_expression.Expression → Result Formula SugarFault → Type 0
 IsFormulaOf scope names clock kind property result =
     (named : List Named) (wanted : Option Boolean) → IsScope scope named → GivesClock clock wanted → GivesFormula result (directive_formula named names wanted kind property)
 
@@ -60,6 +54,6 @@ IsLonger old asked (Err (faults.EmptyRange place)) = ⊥
 IsLonger old asked (Err (faults.ConstantTooWide place)) = ⊥
 
 -- the same of one statement, after the names before it and under the default clock of its list
-abbrev pub IsLongerBy : List Declared → List Name → Option (Result Boolean SugarFault) → List Directive → code_statement.Statement → Result (List Directive) LayerFault → Type 0
+abbrev pub IsLongerBy : Declared → List Name → Option (Result Boolean SugarFault) → List Directive → code_statement.Statement → Result (List Directive) LayerFault → Type 0
 IsLongerBy scope names clock old statement result =
     (named : List Named) (wanted : Option Boolean) → IsScope scope named → GivesClock clock wanted → IsLonger old (asked_by named names wanted statement) result

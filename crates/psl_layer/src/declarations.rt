@@ -1,13 +1,12 @@
 // Declarations of names and of the default clock.
-ghost use Rattle.std.specs.Prelude.{IfOk, []};
+ghost use Rattle.std.specs.Prelude.{IfOk, OnOk, []};
 ghost use Rattle.psl_layer_meaning.specs.Directives as spec;
-ghost use Rattle.psl_layer.specs.Asked.{GivesClock, IsClockOf, IsGrown, IsNamed};
+ghost use Rattle.psl_layer.specs.Asked.{GivesClock, IsClockOf, IsGrown};
 
-use psl_base::{Items, NoMemory};
+use psl_base::NoMemory;
 use psl_grammar::Statement;
-use psl_kernel::{Declared, Meaning, Scope, meaning_of};
+use psl_kernel::{Meaning, Scope, declare, meaning_of, no_names};
 use psl_layer_meaning::DeclarationWord;
-use psl_lexer::Token;
 use psl_names::{NameIndex, declaration_word};
 use psl_sugar::{MeasuredBool, SugarFault};
 use std::alloc::Global;
@@ -15,40 +14,29 @@ use std::alloc::Global;
 /// A default clock, if there is one.
 pub(crate) type Clock = Option<Result<MeasuredBool, SugarFault>>;
 
-// A scope with one name more.
-#[tactic(auto, using(crate::proofs::Scopes::pushed))]
-fn with_name(alloc: Global, scope: Scope, name: &Token, meaning: Meaning) -> Result<Scope, NoMemory>
-    ensures { IfOk result (IsNamed scope name.now.text meaning) }
-{
-    let mut scope = scope;
-    let text = name.text.copy(alloc)?;
-    scope.push(Declared { text, meaning })?;
-    Ok(scope)
-}
-
-/// The names after a statement, from those before it.
+/// Adds what a statement declares to the names before it.
 #[tactic(auto, using(crate::proofs::Scopes::unchanged))]
-pub(crate) fn after(
+pub(crate) fn grow<'a>(
     alloc: Global,
-    scope: Scope,
+    scope: &mut Scope<'a>,
     names: &NameIndex,
-    statement: &Statement,
-) -> Result<Scope, NoMemory>
-    ensures { IfOk result (IsGrown scope names.now statement.now) }
+    statement: &'a Statement,
+) -> Result<(), NoMemory>
+    ensures { OnOk result (IsGrown scope.old names.now statement.now scope.new) }
 {
     let Statement::Declaration { word, name, body } = statement else {
-        return Ok(scope);
+        return Ok(());
     };
     match declaration_word(word.kind) {
         DeclarationWord::Sequence => {
-            let sequence = meaning_of(alloc, &scope, names, false, body)?.into_sequence();
-            with_name(alloc, scope, name, Meaning::Sequence(sequence))
+            let sequence = meaning_of(alloc, scope, names, false, body)?.into_sequence();
+            declare(scope, name.text.as_slice(), Meaning::Sequence(sequence))
         }
         DeclarationWord::Property => {
-            let formula = meaning_of(alloc, &scope, names, false, body)?.into_formula();
-            with_name(alloc, scope, name, Meaning::Property(formula))
+            let formula = meaning_of(alloc, scope, names, false, body)?.into_formula();
+            declare(scope, name.text.as_slice(), Meaning::Property(formula))
         }
-        DeclarationWord::DefaultClock => Ok(scope),
+        DeclarationWord::DefaultClock => Ok(()),
     }
 }
 
@@ -82,12 +70,12 @@ pub(crate) fn default_clock(
 ) -> Result<Clock, NoMemory>
     ensures { IfOk result (λ clock. GivesClock clock (spec.default_clock [] names.now all.now)) }
 {
-    let mut scope = Items::new(alloc);
+    let mut scope = no_names(alloc);
     for statement in all {
         if let Some(clock) = clock_of(alloc, &scope, names, statement)? {
             return Ok(Some(clock));
         }
-        scope = after(alloc, scope, names, statement)?;
+        grow(alloc, &mut scope, names, statement)?;
     }
     Ok(None)
 }

@@ -3,11 +3,11 @@ ghost use Rattle.std.specs.Prelude.{◌≡◌, suc, length, IfOk};
 ghost use Rattle.psl_layer_meaning.specs.Directives as spec;
 ghost use Rattle.psl_layer.specs.Asked.{IsLonger, IsLongerBy};
 
-use crate::declarations::{Clock, after, default_clock};
+use crate::declarations::{Clock, default_clock, grow};
 use crate::directives::{copy_of, directive_formula};
-use psl_base::{Items, NoMemory, Text};
+use psl_base::{NoMemory, Text};
 use psl_grammar::Statement;
-use psl_kernel::Scope;
+use psl_kernel::{Scope, no_names};
 use psl_layer_meaning::LayerFault;
 use psl_lexer::Token;
 use psl_names::{NameIndex, directive_kind_of};
@@ -92,13 +92,13 @@ pub(crate) fn with_statements(
 {
     let clock = default_clock(alloc, names, all)?;
     let mut unit = unit;
-    let mut scope = Items::new(alloc);
+    let mut scope = no_names(alloc);
     for statement in all {
         unit = match with_statement(alloc, unit, &scope, names, &clock, statement) {
             Ok(longer) => longer,
             Err(fault) => return Err(fault),
         };
-        scope = after(alloc, scope, names, statement)?;
+        grow(alloc, &mut scope, names, statement)?;
     }
     Ok(unit)
 }
