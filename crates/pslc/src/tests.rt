@@ -372,14 +372,14 @@ fn a_sample_too_many(rt: HostRuntime) -> Result<(), Fail> {
     Ok(())
 }
 
-/// Each file is selected, read, and read once more to its end. The lines where these calls fail, one after the other.
-const UNREAD: [&str; 6] = [
-    "pslc: u.psl: read fault\n",
-    "pslc: u.psl: read fault\n",
-    "pslc: u.psl: read fault\n",
-    "pslc: r.vcd: read fault\n",
-    "pslc: r.vcd: read fault\n",
-    "pslc: r.vcd: read fault\n",
+/// Each file is selected, read, and read once more to its end. The numbers of these calls, and the line where one fails.
+const UNREAD: [(u32, &str); 6] = [
+    (1, "pslc: u.psl: read fault\n"),
+    (2, "pslc: u.psl: read fault\n"),
+    (3, "pslc: u.psl: read fault\n"),
+    (4, "pslc: r.vcd: read fault\n"),
+    (5, "pslc: r.vcd: read fault\n"),
+    (6, "pslc: r.vcd: read fault\n"),
 ];
 
 #[test]
@@ -391,9 +391,7 @@ fn files_that_fail(rt: HostRuntime) -> Result<(), Fail> {
     let commands: [&[&str]; 2] = [&["wave", "u.psl", "r.vcd"], &["show", "u.psl", "r.vcd"]];
     for command in commands {
         let words = words_of(alloc, command)?;
-        let mut call = 0;
-        for line in UNREAD {
-            call += 1;
+        for (call, line) in UNREAD {
             let ran = run_over(alloc, words.as_slice(), &files, &[call], &[])?;
             assert_eq!(rt; ran.out.bytes(), b"".as_slice());
             assert_eq!(rt; ran.err.bytes(), line.as_bytes());
