@@ -8,14 +8,14 @@ use Rattle.std.proofs.lemmas.List.Elements.{All-from_recursion, recursion_from_A
 use Rattle.psl_meaning.specs.Clockless.{IsPlain}
 use Rattle.psl_tree.specs.Counts.{obligations_of}
 use Rattle.psl_tree.specs.Trees.{Formula}
-use Rattle.alternating_meaning.specs.Construction.{Part, part_of}
-use Rattle.alternating_meaning.specs.Obligations.{Obligation, numbered}
-use Rattle.alternating_meaning.specs.Positive.{OwesWithin}
-use Rattle.alternating_meaning.proofs.Counts.{part-count}
-use Rattle.alternating_meaning.proofs.Means.{part-means}
-use Rattle.alternating_meaning.proofs.MetLaws.{within-wider}
-use Rattle.alternating_meaning.proofs.Parts.{IsRight}
-use Rattle.alternating_meaning.proofs.Values.{EachRight}
+use Rattle.alternating_theory.specs.Construction.{Part, part_of}
+use Rattle.alternating_theory.specs.Obligations.{Obligation, numbered}
+use Rattle.alternating_theory.specs.Positive.{OwesWithin}
+use Rattle.alternating_theory.proofs.Counts.{part-count}
+use Rattle.alternating_theory.proofs.Means.{part-means}
+use Rattle.alternating_theory.proofs.MetLaws.{within-wider}
+use Rattle.alternating_theory.proofs.Parts.{IsRight}
+use Rattle.alternating_theory.proofs.Values.{EachRight}
 use Rattle.alternating.specs.Views.{positive_of, obligation_of, obligations_of_code, part_of_code, ObligationsWithin, PartWithin}
 use Rattle.alternating.specs.declared.obligation.Obligation as code_obligation
 use Rattle.alternating.specs.declared.part.Part as code_part

@@ -3,11 +3,11 @@ use Rattle.std.proofs.Common.{◌≡◌, ◌∙◌, ℕ, zero, suc, ◌+◌, ◌
 use Rattle.std.specs.Prelude.{◌↔◌, ◌||◌, IsTrue}
 use Rattle.std.proofs.lemmas.List.{drop_more, map_push}
 use Rattle.sere_nfa.specs.Acceptance.{Automaton, IsSound, ReachesEnd}
-use Rattle.alternating_meaning.specs.Going.{is_alive, goes_on}
-use Rattle.alternating_meaning.specs.Obligations.{Obligation}
-use Rattle.alternating_meaning.proofs.Aborts.{same-test}
-use Rattle.alternating_meaning.proofs.Sequences.{within-below}
-use Rattle.alternating_meaning.proofs.Edges.{LeadBelow, alive-reaches, reaches-alive}
+use Rattle.alternating_theory.specs.Going.{is_alive, goes_on}
+use Rattle.alternating_theory.specs.Obligations.{Obligation}
+use Rattle.alternating_theory.proofs.Aborts.{same-test}
+use Rattle.alternating_theory.proofs.Sequences.{within-below}
+use Rattle.alternating_theory.proofs.Edges.{LeadBelow, alive-reaches, reaches-alive}
 use Rattle.alternating.specs.Views.{obligation_of, obligations_of_code}
 use Rattle.alternating.specs.declared.obligation.Obligation as code_obligation
 use Rattle.sere_nfa.specs.Acceptance.{State, state_at}

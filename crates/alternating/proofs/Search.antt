@@ -8,11 +8,11 @@ use Rattle.std.proofs.lemmas.List.Elements.{recursion_from_All}
 use Rattle.sere_nfa.specs.Marking as search
 use Rattle.sere_nfa.specs.Marking.{is_marked, visit, visit_all}
 use Rattle.sere_nfa.proofs.Reach.{Member, Visits, visits-all, EachBelow, work, no-marks}
-use Rattle.alternating_meaning.specs.Obligations.{Obligation, obligation_at}
-use Rattle.alternating_meaning.specs.Positive.{Positive, Const, Holds, Owed, And, Or, owes, OwesWithin}
-use Rattle.alternating_meaning.specs.Trimmed.{some_below, reached_within, is_reached}
-use Rattle.alternating_meaning.proofs.Aborts.{same-test}
-use Rattle.alternating_meaning.proofs.Reached.{same-number, some-found, start-reached, reached-closed}
+use Rattle.alternating_theory.specs.Obligations.{Obligation, obligation_at}
+use Rattle.alternating_theory.specs.Positive.{Positive, Const, Holds, Owed, And, Or, owes, OwesWithin}
+use Rattle.alternating_theory.specs.Trimmed.{some_below, reached_within, is_reached}
+use Rattle.alternating_theory.proofs.Aborts.{same-test}
+use Rattle.alternating_theory.proofs.Reached.{same-number, some-found, start-reached, reached-closed}
 use Rattle.alternating.specs.Search.{owed_in, MarksReached}
 use Rattle.alternating.specs.Views.{positive_of, obligation_of, obligations_of_code, ObligationsWithin}
 use Rattle.alternating.specs.declared.obligation.Obligation as code_obligation

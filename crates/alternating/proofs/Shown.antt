@@ -1,6 +1,6 @@
 -- What the public calls show of an automaton.
 use Rattle.std.proofs.Common.{◌≡◌, ℕ, zero, suc, ◌<◌, List, [], ◌∷◌, length, get_or, refl, arith}
-use Rattle.alternating_meaning.specs.Obligations.{obligation_at}
+use Rattle.alternating_theory.specs.Obligations.{obligation_at}
 use Rattle.alternating.specs.Views.{obligation_of, obligations_of_code}
 use Rattle.alternating.specs.declared.obligation.Obligation as code_obligation
 

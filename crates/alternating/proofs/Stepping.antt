@@ -10,10 +10,10 @@ use Rattle.psl_tree.specs.Trees.{Boolean}
 use Rattle.psl_tree.specs.declared.atom.Atom.{Atom}
 use Rattle.psl_tree.specs.declared.letter.Letter.{Letter}
 use Rattle.psl_tree.specs.declared.letter.Letter.TheVariants.{Top, Bottom, Holds as Atoms}
-use Rattle.alternating_meaning.specs.Obligations.{Obligation, Automaton, never, obligation_at, value_of}
-use Rattle.alternating_meaning.specs.Positive.{Positive, Const, Holds, Owed, And, Or, met}
-use Rattle.alternating_meaning.proofs.Aborts.{same-test}
-use Rattle.alternating_meaning.proofs.Reached.{same-number, met-owed}
+use Rattle.alternating_theory.specs.Obligations.{Obligation, Automaton, never, obligation_at, value_of}
+use Rattle.alternating_theory.specs.Positive.{Positive, Const, Holds, Owed, And, Or, met}
+use Rattle.alternating_theory.proofs.Aborts.{same-test}
+use Rattle.alternating_theory.proofs.Reached.{same-number, met-owed}
 use Rattle.alternating.specs.Atoms.{AtomsOfPositive, AtomsOfObligations, is_among}
 use Rattle.alternating.specs.Packed.{is_set, held_from, letter_of, is_held, BitsTell}
 use Rattle.alternating.specs.Stepped.{value_at, stepped, StepsBack, StartTells, BitsPack}

@@ -8,11 +8,11 @@ use Rattle.psl_tree.specs.declared.atom.Atom.{Atom}
 use Rattle.sere_nfa.specs.Acceptance.{Edge, State, state_at}
 use Rattle.sere_nfa.specs.Construction as sequences
 use Rattle.sere_nfa.specs.Construction.{Draft, either_of, both_of, joined, narrowed, narrowed_by, fused, edge_pair, edge_pairs, state_pair, state_pairs, again, star_part, is_repetition, nfa_of}
-use Rattle.alternating_meaning.specs.Construction.{Part, part_of, opposite_obligation, with_letter, until_obligation, cut_obligation, taken, going, quiet, prefix_obligation, suffix_obligation}
-use Rattle.alternating_meaning.specs.Going.{edges_of_all, entry, goes_on}
-use Rattle.alternating_meaning.specs.Obligations.{Obligation}
-use Rattle.alternating_meaning.specs.Positive.{Positive, Const, Holds, Owed, And, Or, renumbered, opposite}
-use Rattle.alternating_meaning.specs.Trimmed.{kept, renumbered_obligation, is_reached, count_below, built}
+use Rattle.alternating_theory.specs.Construction.{Part, part_of, opposite_obligation, with_letter, until_obligation, cut_obligation, taken, going, quiet, prefix_obligation, suffix_obligation}
+use Rattle.alternating_theory.specs.Going.{edges_of_all, entry, goes_on}
+use Rattle.alternating_theory.specs.Obligations.{Obligation}
+use Rattle.alternating_theory.specs.Positive.{Positive, Const, Holds, Owed, And, Or, renumbered, opposite}
+use Rattle.alternating_theory.specs.Trimmed.{kept, renumbered_obligation, is_reached, count_below, built}
 use Rattle.alternating.specs.Atoms.{AtomsOfPositive, AtomsOfObligations, KeepsAtoms}
 
 -- sequences

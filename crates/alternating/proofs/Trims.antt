@@ -5,13 +5,13 @@ use Rattle.std.proofs.lemmas.Bool.{cases_lt}
 use Rattle.std.proofs.lemmas.List.Elements.{All-from_recursion}
 use Rattle.std.proofs.lemmas.List.{map_push, map_more, length-map, length-take-le, get_or_default}
 use Rattle.sere_nfa.specs.Marking.{is_marked}
-use Rattle.alternating_meaning.specs.Obligations.{Obligation, Automaton, obligation_at}
-use Rattle.alternating_meaning.specs.Positive.{Positive, Const, Holds, Owed, And, Or, OwesWithin, renumbered}
-use Rattle.alternating_meaning.specs.Trimmed.{is_reached, count_below, kept, renumbered_obligation, trimmed}
-use Rattle.alternating_meaning.proofs.Settled.{count-at_most}
-use Rattle.alternating_meaning.proofs.Kept.{count-last}
-use Rattle.alternating_meaning.proofs.MetLaws.{within-wider}
-use Rattle.alternating_meaning.proofs.Trims.{trimmed-last, trimmed-fewer, trimmed-below}
+use Rattle.alternating_theory.specs.Obligations.{Obligation, Automaton, obligation_at}
+use Rattle.alternating_theory.specs.Positive.{Positive, Const, Holds, Owed, And, Or, OwesWithin, renumbered}
+use Rattle.alternating_theory.specs.Trimmed.{is_reached, count_below, kept, renumbered_obligation, trimmed}
+use Rattle.alternating_theory.proofs.Settled.{count-at_most}
+use Rattle.alternating_theory.proofs.Kept.{count-last}
+use Rattle.alternating_theory.proofs.MetLaws.{within-wider}
+use Rattle.alternating_theory.proofs.Trims.{trimmed-last, trimmed-fewer, trimmed-below}
 use Rattle.alternating.proofs.Search.{within-at}
 use Rattle.alternating.specs.Search.{MarksReached, Names}
 use Rattle.alternating.specs.Views.{positive_of, obligation_of, obligations_of_code, ObligationsWithin}

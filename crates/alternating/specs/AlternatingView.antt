@@ -1,6 +1,6 @@
 -- What contracts see of the program's automaton, and what it keeps.
 use Rattle.std.specs.Prelude.{◌<◌, ◌^◌, length}
-use Rattle.alternating_meaning.specs.Obligations.{Automaton}
+use Rattle.alternating_theory.specs.Obligations.{Automaton}
 use Rattle.alternating.specs.Views.{obligations_of_code, ObligationsWithin}
 use Rattle.alternating.specs.declared.automaton.Alternating.TheInside.{Inside}
 

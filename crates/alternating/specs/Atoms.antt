@@ -5,8 +5,8 @@ use Rattle.psl_tree.specs.Atoms.{AtomsOfBoolean, AtomsOfFormula}
 use Rattle.psl_tree.specs.Holds.{is_same_atom}
 use Rattle.psl_tree.specs.Trees.{Formula}
 use Rattle.psl_tree.specs.declared.atom.Atom.{Atom}
-use Rattle.alternating_meaning.specs.Obligations.{Obligation, Automaton}
-use Rattle.alternating_meaning.specs.Positive.{Positive, Const, Holds, Owed, And, Or}
+use Rattle.alternating_theory.specs.Obligations.{Obligation, Automaton}
+use Rattle.alternating_theory.specs.Positive.{Positive, Const, Holds, Owed, And, Or}
 
 -- each atom of the combination has P
 abbrev pub AtomsOfPositive : (Atom → Type 0) → Positive → Type 0

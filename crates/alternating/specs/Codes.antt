@@ -5,8 +5,8 @@ use Rattle.std.specs.Coded.{Coded, code_by, coded×, coded⊎, coded_ℕ, coded_
 use Rattle.std.proofs.Common.{inl, inr, ap, ◌∙◌}
 use Rattle.psl_tree.specs.Trees.{Boolean}
 use Rattle.sere_nfa.specs.Codes.{boolean_code}
-use Rattle.alternating_meaning.specs.Obligations.{Obligation, Automaton}
-use Rattle.alternating_meaning.specs.Positive.{Positive, Const, Holds, Owed, And, Or}
+use Rattle.alternating_theory.specs.Obligations.{Obligation, Automaton}
+use Rattle.alternating_theory.specs.Positive.{Positive, Const, Holds, Owed, And, Or}
 
 -- a constructor of a combination: a constant, a Boolean, an obligation or the number of another
 abbrev pub Token : Type 0

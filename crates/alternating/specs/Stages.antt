@@ -1,7 +1,7 @@
 -- From which states of a sequence's automaton an edge leads on to an end.
 use Rattle.std.specs.Prelude.{◌≡◌, ◌+◌, ◌<◌, ◌^◌, ℕ, Bool as Truth, List, length, map}
 use Rattle.sere_nfa.specs.Acceptance.{Automaton, IsSound}
-use Rattle.alternating_meaning.specs.Going.{goes_on}
+use Rattle.alternating_theory.specs.Going.{goes_on}
 
 -- the marks say of each state whether an edge leads on from it
 abbrev pub GoingOn : Automaton → List Truth → Type 0

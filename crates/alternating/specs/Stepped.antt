@@ -4,8 +4,8 @@ use Rattle.psl_meaning.specs.Followed.{Past}
 use Rattle.psl_tree.specs.declared.atom.Atom.{Atom}
 use Rattle.psl_tree.specs.declared.letter.Letter.{Letter}
 use Rattle.psl_tree.specs.declared.letter.Letter.TheVariants.{Holds}
-use Rattle.alternating_meaning.specs.Obligations.{Automaton, obligation_at, value_of, value_on}
-use Rattle.alternating_meaning.specs.Positive.{met}
+use Rattle.alternating_theory.specs.Obligations.{Automaton, obligation_at, value_of, value_on}
+use Rattle.alternating_theory.specs.Positive.{met}
 use Rattle.alternating.specs.Atoms.{AtomsOfObligations, is_among}
 use Rattle.alternating.specs.Packed.{is_set, is_held, PacksLetter}
 

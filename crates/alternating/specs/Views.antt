@@ -1,9 +1,9 @@
 -- The program's obligations and parts as plain data.
 use Rattle.std.specs.Prelude.{ℕ, List, map, All}
 use Rattle.psl_tree.specs.Trees.{boolean_of}
-use Rattle.alternating_meaning.specs.Construction.{Part}
-use Rattle.alternating_meaning.specs.Obligations.{Obligation}
-use Rattle.alternating_meaning.specs.Positive.{Positive, Const, Holds, Owed, And, Or, OwesWithin}
+use Rattle.alternating_theory.specs.Construction.{Part}
+use Rattle.alternating_theory.specs.Obligations.{Obligation}
+use Rattle.alternating_theory.specs.Positive.{Positive, Const, Holds, Owed, And, Or, OwesWithin}
 use Rattle.alternating.specs.declared.positive.Positive as code_positive
 use Rattle.alternating.specs.declared.obligation.Obligation as code_obligation
 use Rattle.alternating.specs.declared.part.Part as code_part

@@ -1,7 +1,7 @@
 ghost use Rattle.std.specs.Prelude.{◌≡◌, ◌+◌, ◌-◌, ◌^◌, ◌<◌, ◌++◌, false, length, map, IfOk, OnOk};
 ghost use Rattle.psl_tree.specs.Trees.{boolean_of};
-ghost use Rattle.alternating_meaning.specs.Construction.{abort_part, cut_obligation};
-ghost use Rattle.alternating_meaning.specs.Positive.{Or, OwesWithin};
+ghost use Rattle.alternating_theory.specs.Construction.{abort_part, cut_obligation};
+ghost use Rattle.alternating_theory.specs.Positive.{Or, OwesWithin};
 ghost use Rattle.alternating.specs.Views.{positive_of, obligation_of, obligations_of_code, part_of_code, ObligationsWithin, PartWithin};
 
 use crate::obligation::Obligation;

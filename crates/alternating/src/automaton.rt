@@ -3,10 +3,10 @@ ghost use Rattle.psl_meaning.specs.Clockless.{IsPlain};
 ghost use Rattle.psl_meaning.specs.Followed.{Nothing, Tops, Bottoms};
 ghost use Rattle.psl_tree.specs.Counts.{obligations_of, states_of};
 ghost use Rattle.psl_tree.specs.Trees.{formula_of, sequence_of};
-ghost use Rattle.alternating_meaning.specs.Laws.{ValuesOf, NamesOf, SizeOf};
-ghost use Rattle.alternating_meaning.specs.Obligations.{obligation_at};
-ghost use Rattle.alternating_meaning.specs.Positive.{OwesWithin};
-ghost use Rattle.alternating_meaning.specs.Trimmed.{built, trimmed};
+ghost use Rattle.alternating_theory.specs.Laws.{ValuesOf, NamesOf, SizeOf};
+ghost use Rattle.alternating_theory.specs.Obligations.{obligation_at};
+ghost use Rattle.alternating_theory.specs.Positive.{OwesWithin};
+ghost use Rattle.alternating_theory.specs.Trimmed.{built, trimmed};
 ghost use Rattle.alternating.specs.Atoms.{KeepsAtoms};
 ghost use Rattle.alternating.specs.Limits.{HasLargeSequence};
 ghost use Rattle.alternating.specs.Packed.{letter_of};
@@ -55,7 +55,7 @@ pub struct Alternating {
 }
 
 impl Model for Alternating {
-    ghost use Rattle.alternating_meaning.specs.Obligations.{Automaton};
+    ghost use Rattle.alternating_theory.specs.Obligations.{Automaton};
     ghost use Rattle.alternating.specs.Codes.{automaton_code};
 
     ghost Value = { Automaton };

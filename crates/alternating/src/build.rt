@@ -4,7 +4,7 @@ ghost use Rattle.psl_tree.specs.Counts.{obligations_of, states_of};
 ghost use Rattle.psl_tree.specs.Trees.{formula_of, sequence_of};
 ghost use Rattle.sere_nfa.specs.Acceptance.{IsSound};
 ghost use Rattle.sere_nfa.specs.Construction.{nfa_of};
-ghost use Rattle.alternating_meaning.specs.Construction.{part_of, prefix_part, suffix_part};
+ghost use Rattle.alternating_theory.specs.Construction.{part_of, prefix_part, suffix_part};
 ghost use Rattle.alternating.specs.Limits.{HasLargeSequence};
 ghost use Rattle.alternating.specs.Views.{part_of_code, PartWithin};
 

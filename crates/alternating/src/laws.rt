@@ -1,7 +1,7 @@
 ghost use Rattle.std.specs.Prelude.{List};
 ghost use Rattle.psl_tree.specs.declared.letter.Letter.{Letter};
 ghost use Rattle.psl_tree.specs.declared.atom.Atom.{Atom};
-ghost use Rattle.alternating_meaning.specs.Obligations.{Automaton};
+ghost use Rattle.alternating_theory.specs.Obligations.{Automaton};
 ghost use Rattle.alternating.specs.Stepped.{StartTells, BitsPack};
 
 /// Laws of the values of all obligations: the start's is that of the automaton, and words whose bits

@@ -1,6 +1,6 @@
 ghost use Rattle.std.specs.Prelude.{◌≡◌, ◌^◌, ◌<◌, ◌≤◌, length, IfOk, OnOk};
 ghost use Rattle.sere_nfa.specs.Marking.{visit, visit_all};
-ghost use Rattle.alternating_meaning.specs.Positive.{OwesWithin};
+ghost use Rattle.alternating_theory.specs.Positive.{OwesWithin};
 ghost use Rattle.alternating.specs.Search.{marking_of, owed_in, MarksReached};
 ghost use Rattle.alternating.specs.Views.{positive_of, obligations_of_code, ObligationsWithin};
 

@@ -1,8 +1,8 @@
 ghost use Rattle.std.specs.Prelude.{◌≡◌, ◌+◌, ◌-◌, ◌^◌, length, slice_index, IfOk};
 ghost use Rattle.psl_tree.specs.Trees.{boolean_of};
-ghost use Rattle.alternating_meaning.specs.Construction.{cut_obligation, opposite_obligation, with_letter, until_obligation};
-ghost use Rattle.alternating_meaning.specs.Positive.{OwesWithin};
-ghost use Rattle.alternating_meaning.specs.Trimmed.{renumbered_obligation};
+ghost use Rattle.alternating_theory.specs.Construction.{cut_obligation, opposite_obligation, with_letter, until_obligation};
+ghost use Rattle.alternating_theory.specs.Positive.{OwesWithin};
+ghost use Rattle.alternating_theory.specs.Trimmed.{renumbered_obligation};
 ghost use Rattle.alternating.specs.Views.{positive_of, obligation_of};
 
 use crate::positive::{Positive, all_of, one_of};

@@ -1,6 +1,6 @@
 ghost use Rattle.std.specs.Prelude.{◌≡◌, ◌+◌, ◌^◌, ◌<◌, ◌++◌, [], ◌∷◌, length, map, IfOk, OnOk};
 ghost use Rattle.psl_tree.specs.Trees.{boolean_of};
-ghost use Rattle.alternating_meaning.specs.Construction.{now_part, not_part, and_part, next_part, until_part, opposite_obligation};
+ghost use Rattle.alternating_theory.specs.Construction.{now_part, not_part, and_part, next_part, until_part, opposite_obligation};
 ghost use Rattle.alternating.specs.Views.{obligation_of, obligations_of_code, part_of_code};
 
 use crate::obligation::Obligation;

@@ -1,5 +1,5 @@
 ghost use Rattle.std.specs.Prelude.{◌≡◌, ◌+◌, ◌-◌, ◌*◌, ◌^◌, ◌≤◌, length, slice_index, IfOk};
-ghost use Rattle.alternating_meaning.specs.Positive.{OwesWithin, And, Or, met, opposite, renumbered};
+ghost use Rattle.alternating_theory.specs.Positive.{OwesWithin, And, Or, met, opposite, renumbered};
 ghost use Rattle.alternating.specs.Packed.{letter_of};
 ghost use Rattle.alternating.specs.Stepped.{value_at};
 ghost use Rattle.alternating.specs.Views.{positive_of};

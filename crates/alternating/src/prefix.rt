@@ -1,6 +1,6 @@
 ghost use Rattle.std.specs.Prelude.{◌≡◌, ◌<◌, All, length, map, IfOk};
 ghost use Rattle.sere_nfa.specs.Views.{edge_of, edges_of};
-ghost use Rattle.alternating_meaning.specs.Construction.{taken, taken_edge, prefix_obligation, prefix_part};
+ghost use Rattle.alternating_theory.specs.Construction.{taken, taken_edge, prefix_obligation, prefix_part};
 ghost use Rattle.alternating.specs.Stages.{IsStage};
 ghost use Rattle.alternating.specs.Views.{positive_of, obligation_of, obligations_of_code, part_of_code};
 

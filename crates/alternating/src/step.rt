@@ -1,6 +1,6 @@
 ghost use Rattle.std.specs.Prelude.{◌≡◌, ◌*◌, ◌^◌, ◌<◌, ◌≤◌, length, map};
-ghost use Rattle.alternating_meaning.specs.Positive.{met};
-ghost use Rattle.alternating_meaning.specs.Obligations.{value_past};
+ghost use Rattle.alternating_theory.specs.Positive.{met};
+ghost use Rattle.alternating_theory.specs.Obligations.{value_past};
 ghost use Rattle.alternating.specs.Beyonds.{past_of};
 ghost use Rattle.alternating.specs.Packed.{letter_of};
 ghost use Rattle.alternating.specs.Stepped.{value_at};

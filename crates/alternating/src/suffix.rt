@@ -1,8 +1,8 @@
 ghost use Rattle.std.specs.Prelude.{◌≡◌, ◌+◌, ◌<◌, ◌++◌, All, length, map, IfOk};
 ghost use Rattle.psl_tree.specs.Trees.{boolean_of, Not};
-ghost use Rattle.alternating_meaning.specs.Positive.{Holds};
+ghost use Rattle.alternating_theory.specs.Positive.{Holds};
 ghost use Rattle.sere_nfa.specs.Views.{edge_of, edges_of};
-ghost use Rattle.alternating_meaning.specs.Construction.{going, going_edge, quiet, quiet_edge, suffix_obligation, suffix_part};
+ghost use Rattle.alternating_theory.specs.Construction.{going, going_edge, quiet, quiet_edge, suffix_obligation, suffix_part};
 ghost use Rattle.alternating.specs.Stages.{IsStage};
 ghost use Rattle.alternating.specs.Views.{positive_of, obligation_of, part_of_code};
 

@@ -1,8 +1,8 @@
 ghost use Rattle.std.specs.Prelude.{◌≡◌, ◌+◌, ◌^◌, ◌<◌, ◌≤◌, ◌++◌, [], ◌∷◌, if◌then◌else◌, length, map, slice_index, IfOk, OnOk};
 ghost use Rattle.sere_nfa.specs.Marking.{is_marked};
-ghost use Rattle.alternating_meaning.specs.Trimmed.{kept, renumbered_obligation};
+ghost use Rattle.alternating_theory.specs.Trimmed.{kept, renumbered_obligation};
 ghost use Rattle.alternating.specs.Search.{Names};
-ghost use Rattle.alternating_meaning.specs.Positive.{OwesWithin};
+ghost use Rattle.alternating_theory.specs.Positive.{OwesWithin};
 ghost use Rattle.alternating.specs.Views.{positive_of, obligation_of, obligations_of_code, ObligationsWithin};
 
 use crate::obligation::Obligation;

@@ -8,7 +8,7 @@ use Rattle.std.specs.Option.{option_or}
 use Rattle.std.specs.Ordering.{nat_cmp}
 use Rattle.std.specs.Prelude.{if◌then◌else◌, is_some}
 use Rattle.std.specs.Str.{bytes_eq}
-use Rattle.psl_layer_meaning.specs.Kernel.{Meaning, Named, declared_meaning}
+use Rattle.psl_elaboration.specs.Kernel.{Meaning, Named, declared_meaning}
 use Rattle.psl_kernel.specs.Built.{Gives, GivesOption, Declared, built_at, IsNamed}
 use Rattle.psl_kernel.specs.declared.meaning.Meaning as code_meaning
 

@@ -3,9 +3,9 @@ use Rattle.std.proofs.Common.{◌≡◌, refl, ap, subst, Bool as Truth, true, f
 use Rattle.psl_grammar.specs.declared.tree.Expression as code_expression
 use Rattle.psl_tree.specs.declared.name.Name.{Name}
 use Rattle.psl_sugar.specs.declared.operator.Strength.{Strength}
-use Rattle.psl_layer_meaning.specs.Kernel.{Meaning, OfBoolean, compared, operated, infix_meaning}
-use Rattle.psl_layer_meaning.specs.declared.operator.InfixOperator.{InfixOperator}
-use Rattle.psl_layer_meaning.specs.declared.operator.InfixOperator.TheVariants as operators
+use Rattle.psl_elaboration.specs.Kernel.{Meaning, OfBoolean, compared, operated, infix_meaning}
+use Rattle.psl_elaboration.specs.declared.operator.InfixOperator.{InfixOperator}
+use Rattle.psl_elaboration.specs.declared.operator.InfixOperator.TheVariants as operators
 use Rattle.psl_kernel.specs.Built.{Gives}
 use Rattle.psl_kernel.specs.Rows.{MeaningsRow, comparison}
 use Rattle.psl_kernel.specs.declared.meaning.Meaning as code_meaning

@@ -6,13 +6,13 @@ use Rattle.psl_tree.specs.Counts.{boolean_size}
 use Rattle.psl_tree.specs.declared.name.Name.{Name}
 use Rattle.psl_sugar.specs.Booleans.{conjunction_of, disjunction_of, literal, bit_of as vector_bit, equality, some_bit}
 use Rattle.psl_sugar.specs.declared.boolean.Vector.{Vector}
-use Rattle.psl_layer_meaning.specs.Kernel.{vector, compared_bits, bits_meaning}
-use Rattle.psl_layer_meaning.specs.LookUp.{is_index, distance, look_up, whole_of, bit_of, with_index, refers_to, index_number, reference}
-use Rattle.psl_layer_meaning.specs.Texts.{path_text, indexed_text}
-use Rattle.psl_layer_meaning.specs.declared.found.Found.{Found}
-use Rattle.psl_layer_meaning.specs.declared.found.Found.TheVariants as finds
-use Rattle.psl_layer_meaning.specs.declared.found.Reference.{Reference}
-use Rattle.psl_layer_meaning.specs.declared.found.Reference.TheVariants as references
+use Rattle.psl_elaboration.specs.Kernel.{vector, compared_bits, bits_meaning}
+use Rattle.psl_elaboration.specs.LookUp.{is_index, distance, look_up, whole_of, bit_of, with_index, refers_to, index_number, reference}
+use Rattle.psl_elaboration.specs.Texts.{path_text, indexed_text}
+use Rattle.psl_elaboration.specs.declared.found.Found.{Found}
+use Rattle.psl_elaboration.specs.declared.found.Found.TheVariants as finds
+use Rattle.psl_elaboration.specs.declared.found.Reference.{Reference}
+use Rattle.psl_elaboration.specs.declared.found.Reference.TheVariants as references
 use Rattle.psl_kernel.specs.Placed.{IsPlaced}
 
 whole_placed : (found : Found) → IsPlaced (whole_of found)

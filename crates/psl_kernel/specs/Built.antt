@@ -8,7 +8,7 @@ use Rattle.psl_lexer.specs.declared.token.Token.{Token}
 use Rattle.psl_grammar.specs.declared.tree.Expression as code_expression
 use Rattle.psl_tree.specs.declared.name.Name.{Name}
 use Rattle.psl_sugar.specs.Budget.{GivesBoolean, GivesSequence, GivesFormula}
-use Rattle.psl_layer_meaning.specs.Kernel.{Meaning, OfBoolean, OfSequence, OfProperty, Named, declared_meaning, signal_meaning, meaning_of}
+use Rattle.psl_elaboration.specs.Kernel.{Meaning, OfBoolean, OfSequence, OfProperty, Named, declared_meaning, signal_meaning, meaning_of}
 use Rattle.psl_kernel.specs.declared.meaning.Meaning as code_meaning
 use Rattle.psl_kernel.specs.declared.meaning.Meaning.TheVariants as meanings
 

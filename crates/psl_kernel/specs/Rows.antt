@@ -10,11 +10,11 @@ use Rattle.psl_sugar.specs.Sequences.{both_of_any_length, within, repeated, goto
 use Rattle.psl_sugar.specs.declared.count.Count.{Count}
 use Rattle.psl_sugar.specs.declared.fault.SugarFault.{SugarFault}
 use Rattle.psl_sugar.specs.declared.operator.Strength.{Strength}
-use Rattle.psl_layer_meaning.specs.Kernel.{Meaning, OfBoolean, OfSequence, OfProperty, boolean_in, sequence_in, formula_in}
-use Rattle.psl_layer_meaning.specs.declared.operator.InfixOperator.{InfixOperator}
-use Rattle.psl_layer_meaning.specs.declared.operator.InfixOperator.TheVariants as operators
-use Rattle.psl_layer_meaning.specs.declared.operator.PrefixOperator.{PrefixOperator}
-use Rattle.psl_layer_meaning.specs.declared.operator.PrefixOperator.TheVariants as prefixes
+use Rattle.psl_elaboration.specs.Kernel.{Meaning, OfBoolean, OfSequence, OfProperty, boolean_in, sequence_in, formula_in}
+use Rattle.psl_elaboration.specs.declared.operator.InfixOperator.{InfixOperator}
+use Rattle.psl_elaboration.specs.declared.operator.InfixOperator.TheVariants as operators
+use Rattle.psl_elaboration.specs.declared.operator.PrefixOperator.{PrefixOperator}
+use Rattle.psl_elaboration.specs.declared.operator.PrefixOperator.TheVariants as prefixes
 use Rattle.psl_kernel.specs.Built.{Gives}
 use Rattle.psl_kernel.specs.declared.meaning.Meaning as code_meaning
 use Rattle.psl_kernel.specs.declared.connective.Connective.{Connective}

@@ -1,8 +1,8 @@
 // Expressions.
 ghost use Rattle.std.specs.Prelude.{◌≡◌, IfOk};
-ghost use Rattle.psl_layer_meaning.specs.Kernel as kernel;
-ghost use Rattle.psl_layer_meaning.specs.LookUp.{reference};
-ghost use Rattle.psl_layer_meaning.specs.Operators as words;
+ghost use Rattle.psl_elaboration.specs.Kernel as kernel;
+ghost use Rattle.psl_elaboration.specs.LookUp.{reference};
+ghost use Rattle.psl_elaboration.specs.Operators as words;
 ghost use Rattle.psl_kernel.specs.Built.{Gives, IsMeaning, IsSignalMeaning};
 ghost use Rattle.psl_kernel.specs.Rows as rows;
 
@@ -15,7 +15,7 @@ use crate::{Meaning, Scope};
 use psl_base::NoMemory;
 use psl_grammar::{Count, Expression, Path};
 use psl_kinds::operator_before;
-use psl_layer_meaning::InfixOperator;
+use psl_elaboration::InfixOperator;
 use psl_lexer::Token;
 use psl_names::{NameIndex, edge_of, path_text, prefix_operator, repetition_operator, strength_of};
 use psl_sugar::Strength;

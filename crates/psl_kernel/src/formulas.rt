@@ -3,7 +3,7 @@ ghost use Rattle.psl_tree.specs.Trees.{Clocked};
 ghost use Rattle.psl_kernel.specs.Rows.{FormulaRow, FormulasRow, FormulaTestRow, SuffixRow, formula_row, prefix_row, until_row, suffix_row, abort_row};
 
 use crate::connective::Connective;
-use psl_layer_meaning::{InfixOperator, PrefixOperator};
+use psl_elaboration::{InfixOperator, PrefixOperator};
 use psl_sugar::{MeasuredBool, MeasuredFl, MeasuredSere, Strength, SugarFault};
 use std::alloc::Global;
 

@@ -1,6 +1,6 @@
 // What an expression stands for, and how it is read as another kind.
 ghost use Rattle.std.specs.Prelude.{◌≡◌, IfOk};
-ghost use Rattle.psl_layer_meaning.specs.Kernel as kernel;
+ghost use Rattle.psl_elaboration.specs.Kernel as kernel;
 ghost use Rattle.psl_kernel.specs.Rows.{ReadBoolean, ReadSequence, ReadFormula};
 
 use psl_base::NoMemory;

@@ -1,5 +1,5 @@
 // Next forms and next events.
-ghost use Rattle.psl_layer_meaning.specs.Kernel as kernel;
+ghost use Rattle.psl_elaboration.specs.Kernel as kernel;
 ghost use Rattle.psl_kernel.specs.Rows.{FormulaRow, FormulaTestRow};
 
 use psl_grammar::Count;

@@ -1,6 +1,6 @@
 // Operators on anything.
-ghost use Rattle.psl_layer_meaning.specs.Kernel as kernel;
-ghost use Rattle.psl_layer_meaning.specs.declared.operator.PrefixOperator.TheVariants as prefixes;
+ghost use Rattle.psl_elaboration.specs.Kernel as kernel;
+ghost use Rattle.psl_elaboration.specs.declared.operator.PrefixOperator.TheVariants as prefixes;
 ghost use Rattle.psl_kernel.specs.Rows.{ClockRow, MeaningRow, MeaningsRow, ReadFormula, connected, eventual_in, sequenced, suffixed, aborted, lasting};
 
 use crate::Meaning;
@@ -11,7 +11,7 @@ use crate::formulas::{
     until_formulas,
 };
 use crate::sequences::{clocked_sequence, in_sequence};
-use psl_layer_meaning::{InfixOperator, PrefixOperator};
+use psl_elaboration::{InfixOperator, PrefixOperator};
 use psl_sugar::{MeasuredBool, MeasuredFl, Strength, SugarFault};
 use std::alloc::Global;
 

@@ -2,7 +2,7 @@
 ghost use Rattle.psl_tree.specs.Trees.{Clocked};
 ghost use Rattle.psl_kernel.specs.Rows.{SequenceClockRow, SequencesRow, sequence_row};
 
-use psl_layer_meaning::InfixOperator;
+use psl_elaboration::InfixOperator;
 use psl_sugar::{MeasuredBool, MeasuredSere, SugarFault};
 use std::alloc::Global;
 

@@ -1,15 +1,15 @@
 // Signals, edges, numbers and comparisons.
 ghost use Rattle.std.specs.Prelude.{◌≡◌, ◌+◌, ◌<◌, ◌≤◌, ◌^◌, IfOk, IfErr};
 ghost use Rattle.psl_sugar.specs.Budget.{GivesBoolean};
-ghost use Rattle.psl_layer_meaning.specs.Kernel as kernel;
-ghost use Rattle.psl_layer_meaning.specs.LookUp.{reference as spec_reference};
-ghost use Rattle.psl_layer_meaning.specs.Texts.{literal_value as spec_value};
-ghost use Rattle.psl_layer_meaning.specs.declared.found.Reference.TheVariants as references;
+ghost use Rattle.psl_elaboration.specs.Kernel as kernel;
+ghost use Rattle.psl_elaboration.specs.LookUp.{reference as spec_reference};
+ghost use Rattle.psl_elaboration.specs.Texts.{literal_value as spec_value};
+ghost use Rattle.psl_elaboration.specs.declared.found.Reference.TheVariants as references;
 ghost use Rattle.psl_kernel.specs.Placed.{IsPlaced};
 
 use psl_base::NoMemory;
 use psl_grammar::{Expression, Path};
-use psl_layer_meaning::Reference;
+use psl_elaboration::Reference;
 use psl_lexer::{Token, TokenKind};
 use psl_names::{NameIndex, literal_value, reference};
 use psl_sugar::{MOST_CONSTRUCTORS, MeasuredBool, SugarFault, Vector};

@@ -4,10 +4,10 @@ use Rattle.std.proofs.Math.Seq.{drop-cons, take-suc}
 use Rattle.psl_grammar.specs.declared.tree.Statement as code_statement
 use Rattle.psl_grammar.specs.declared.tree.VerificationUnit.{VerificationUnit}
 use Rattle.psl_tree.specs.declared.name.Name.{Name}
-use Rattle.psl_layer_meaning.specs.FirstFlaw.{first_of, earlier}
-use Rattle.psl_layer_meaning.specs.Flaws.{statement_flaws, statements_flaws, units_flaws}
-use Rattle.psl_layer_meaning.specs.declared.fault.Flaw.{Flaw}
-use Rattle.psl_layer_meaning.proofs.Firsts.{first_of-append, earlier-assoc}
+use Rattle.psl_elaboration.specs.FirstFlaw.{first_of, earlier}
+use Rattle.psl_elaboration.specs.Flaws.{statement_flaws, statements_flaws, units_flaws}
+use Rattle.psl_elaboration.specs.declared.fault.Flaw.{Flaw}
+use Rattle.psl_elaboration.proofs.Firsts.{first_of-append, earlier-assoc}
 
 -- the first fault, where a statement's own one is gone through
 pub statement_step : (names : List Name) (scope rest : List code_statement.Statement) (statement : code_statement.Statement) (first own : Option Flaw) →

@@ -4,11 +4,11 @@ use Rattle.psl_grammar.specs.declared.tree.Expression as code_expression
 use Rattle.psl_grammar.specs.declared.tree.Statement as code_statement
 use Rattle.psl_tree.specs.declared.name.Name.{Name}
 use Rattle.psl_kinds.specs.declared.checked.Checked.{Checked}
-use Rattle.psl_layer_meaning.specs.FirstFlaw.{first_of}
-use Rattle.psl_layer_meaning.specs.declared.fault.Flaw.{Flaw}
-use Rattle.psl_layer_meaning.specs.declared.operator.InfixOperator.{InfixOperator}
-use Rattle.psl_layer_meaning.specs.Flaws.{expression_flaws, is_comparison, side_flaws, side_of, infix_flaws}
-use Rattle.psl_layer_meaning.specs.Kinds.{kind_of, place_of}
+use Rattle.psl_elaboration.specs.FirstFlaw.{first_of}
+use Rattle.psl_elaboration.specs.declared.fault.Flaw.{Flaw}
+use Rattle.psl_elaboration.specs.declared.operator.InfixOperator.{InfixOperator}
+use Rattle.psl_elaboration.specs.Flaws.{expression_flaws, is_comparison, side_flaws, side_of, infix_flaws}
+use Rattle.psl_elaboration.specs.Kinds.{kind_of, place_of}
 
 -- its kind, the place of its first token and its first fault, after the statements before it, in a sere or outside of one
 pub record IsChecked (scope : List code_statement.Statement) (names : List Name) (in_sere : Truth) (x : code_expression.Expression) (checked : Checked) : Type 0 where

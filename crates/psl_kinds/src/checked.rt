@@ -1,5 +1,5 @@
 use psl_base::Place;
-use psl_layer_meaning::{ExpressionKind, Flaw};
+use psl_elaboration::{ExpressionKind, Flaw};
 
 /// What is known of an expression once it was gone through.
 #[derive(Clone, Copy, Debug)]

@@ -1,13 +1,13 @@
 // The sides of comparisons.
 ghost use Rattle.std.specs.Prelude.{◌≡◌, ◌≤◌, ◌^◌, nat_le, IfOk};
-ghost use Rattle.psl_layer_meaning.specs.FirstFlaw.{first_of};
-ghost use Rattle.psl_layer_meaning.specs.Flaws as spec;
+ghost use Rattle.psl_elaboration.specs.FirstFlaw.{first_of};
+ghost use Rattle.psl_elaboration.specs.Flaws as spec;
 
 use crate::signals::{is_declared_whole, refers_in};
 use crate::wants::flaw_where;
 use psl_base::{NoMemory, Place};
 use psl_grammar::Expression;
-use psl_layer_meaning::{Cause, Flaw, InfixOperator, Reference, Side};
+use psl_elaboration::{Cause, Flaw, InfixOperator, Reference, Side};
 use psl_lexer::{Token, TokenKind};
 use psl_names::{NameIndex, Scope, literal_value};
 use std::alloc::Global;

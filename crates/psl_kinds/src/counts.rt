@@ -1,11 +1,11 @@
 // Counts and ranges.
 ghost use Rattle.std.specs.Prelude.{◌≡◌, Some};
-ghost use Rattle.psl_layer_meaning.specs.FirstFlaw.{first_of};
-ghost use Rattle.psl_layer_meaning.specs.Flaws as spec;
+ghost use Rattle.psl_elaboration.specs.FirstFlaw.{first_of};
+ghost use Rattle.psl_elaboration.specs.Flaws as spec;
 
 use crate::wants::flaw_where;
 use psl_grammar::Count;
-use psl_layer_meaning::{Cause, Flaw, RepetitionOperator};
+use psl_elaboration::{Cause, Flaw, RepetitionOperator};
 use psl_lexer::Token;
 use psl_names::{is_endless, number_of};
 

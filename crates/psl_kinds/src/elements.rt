@@ -1,13 +1,13 @@
 // What operators ask of the kinds of their operands.
 ghost use Rattle.std.specs.Prelude.{◌≡◌};
-ghost use Rattle.psl_layer_meaning.specs.FirstFlaw.{first_of};
-ghost use Rattle.psl_layer_meaning.specs.Flaws as spec;
+ghost use Rattle.psl_elaboration.specs.FirstFlaw.{first_of};
+ghost use Rattle.psl_elaboration.specs.Flaws as spec;
 
 use crate::Checked;
 use crate::order::earlier;
 use crate::wants::{wants_boolean, wants_sequence};
 use psl_base::Place;
-use psl_layer_meaning::{ExpressionKind, Flaw, InfixOperator, PrefixOperator, RepetitionOperator};
+use psl_elaboration::{ExpressionKind, Flaw, InfixOperator, PrefixOperator, RepetitionOperator};
 
 /// The fault of an operator before its operand.
 pub(crate) fn prefix_flaw(in_sere: bool, operator: PrefixOperator, x: Checked) -> Option<Flaw>

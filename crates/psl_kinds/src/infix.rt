@@ -1,8 +1,8 @@
 // Operators between operands.
 ghost use Rattle.std.specs.Prelude.{◌≡◌, IfOk, if◌then◌else◌};
-ghost use Rattle.psl_layer_meaning.specs.FirstFlaw.{first_of, earlier};
-ghost use Rattle.psl_layer_meaning.specs.Flaws as spec;
-ghost use Rattle.psl_layer_meaning.specs.Kinds as kinds;
+ghost use Rattle.psl_elaboration.specs.FirstFlaw.{first_of, earlier};
+ghost use Rattle.psl_elaboration.specs.Flaws as spec;
+ghost use Rattle.psl_elaboration.specs.Kinds as kinds;
 ghost use Rattle.psl_kinds.specs.CheckedBy.{own_flaws};
 
 use crate::Checked;
@@ -13,7 +13,7 @@ use crate::order::earlier;
 use crate::shapes::operator_before;
 use psl_base::NoMemory;
 use psl_grammar::Expression;
-use psl_layer_meaning::{Flaw, InfixOperator};
+use psl_elaboration::{Flaw, InfixOperator};
 use psl_lexer::Token;
 use psl_names::{NameIndex, Scope};
 use std::alloc::Global;

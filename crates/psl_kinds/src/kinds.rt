@@ -1,8 +1,8 @@
 // The kinds that operators give.
 ghost use Rattle.std.specs.Prelude.{◌≡◌};
-ghost use Rattle.psl_layer_meaning.specs.Kinds as spec;
+ghost use Rattle.psl_elaboration.specs.Kinds as spec;
 
-use psl_layer_meaning::{ExpressionKind, InfixOperator, PrefixOperator};
+use psl_elaboration::{ExpressionKind, InfixOperator, PrefixOperator};
 
 // Anything combined in a sere, and outside of one.
 fn combined(in_sere: bool) -> ExpressionKind

@@ -1,10 +1,10 @@
 // What is known of an expression, from what is known of its parts.
 ghost use Rattle.std.specs.Prelude.{◌≡◌, Some, None, true};
-ghost use Rattle.psl_layer_meaning.specs.FirstFlaw.{first_of, earlier};
-ghost use Rattle.psl_layer_meaning.specs.Flaws as flaws;
-ghost use Rattle.psl_layer_meaning.specs.Kinds as kinds;
-ghost use Rattle.psl_layer_meaning.specs.Operators.{prefix_operator, repetition_operator};
-ghost use Rattle.psl_layer_meaning.specs.declared.kind.ExpressionKind.TheVariants as kind;
+ghost use Rattle.psl_elaboration.specs.FirstFlaw.{first_of, earlier};
+ghost use Rattle.psl_elaboration.specs.Flaws as flaws;
+ghost use Rattle.psl_elaboration.specs.Kinds as kinds;
+ghost use Rattle.psl_elaboration.specs.Operators.{prefix_operator, repetition_operator};
+ghost use Rattle.psl_elaboration.specs.declared.kind.ExpressionKind.TheVariants as kind;
 
 use crate::Checked;
 use crate::counts::{count_flaw, is_goto, optional_count_flaw};
@@ -13,7 +13,7 @@ use crate::kinds::{clocked_kind, grouped_kind, prefix_kind};
 use crate::order::earlier;
 use crate::wants::{wants_boolean, wants_sequence};
 use psl_grammar::Count;
-use psl_layer_meaning::ExpressionKind;
+use psl_elaboration::ExpressionKind;
 use psl_lexer::Token;
 use psl_names::{prefix_operator, repetition_operator};
 

@@ -1,10 +1,10 @@
 // The shapes of expressions.
 ghost use Rattle.std.specs.Prelude.{◌≡◌};
-ghost use Rattle.psl_layer_meaning.specs.Kinds as spec;
+ghost use Rattle.psl_elaboration.specs.Kinds as spec;
 
 use psl_base::Place;
 use psl_grammar::Expression;
-use psl_layer_meaning::InfixOperator;
+use psl_elaboration::InfixOperator;
 use psl_lexer::{Token, TokenKind};
 use psl_names::infix_operator;
 

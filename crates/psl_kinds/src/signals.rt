@@ -1,10 +1,10 @@
 // Paths, as declared names and as signals.
 ghost use Rattle.std.specs.Prelude.{◌≡◌, ◌&&◌, IfOk};
-ghost use Rattle.psl_layer_meaning.specs.FirstFlaw.{first_of};
-ghost use Rattle.psl_layer_meaning.specs.Flaws as spec;
-ghost use Rattle.psl_layer_meaning.specs.Kinds.{declared_as, signal_kind, path_place};
-ghost use Rattle.psl_layer_meaning.specs.Texts.{path_text};
-ghost use Rattle.psl_layer_meaning.specs.declared.kind.ExpressionKind.TheVariants as kinds;
+ghost use Rattle.psl_elaboration.specs.FirstFlaw.{first_of};
+ghost use Rattle.psl_elaboration.specs.Flaws as spec;
+ghost use Rattle.psl_elaboration.specs.Kinds.{declared_as, signal_kind, path_place};
+ghost use Rattle.psl_elaboration.specs.Texts.{path_text};
+ghost use Rattle.psl_elaboration.specs.declared.kind.ExpressionKind.TheVariants as kinds;
 ghost use Rattle.std.specs.Option.{is_none};
 
 use crate::Checked;
@@ -12,7 +12,7 @@ use crate::order::earlier;
 use crate::shapes::path_place;
 use crate::wants::flaw_where;
 use psl_base::{NoMemory, Place};
-use psl_layer_meaning::{Cause, ExpressionKind, Flaw, Reference};
+use psl_elaboration::{Cause, ExpressionKind, Flaw, Reference};
 use psl_lexer::Token;
 use psl_names::{NameIndex, Scope, declared_as, path_text, reference};
 use std::alloc::Global;

@@ -1,8 +1,8 @@
 // Statements, and lists of them.
 ghost use Rattle.std.specs.Prelude.{◌≡◌, [], IfOk};
-ghost use Rattle.psl_layer_meaning.specs.Operators.{declaration_word as spec_word};
-ghost use Rattle.psl_layer_meaning.specs.FirstFlaw.{first_of};
-ghost use Rattle.psl_layer_meaning.specs.Flaws as spec;
+ghost use Rattle.psl_elaboration.specs.Operators.{declaration_word as spec_word};
+ghost use Rattle.psl_elaboration.specs.FirstFlaw.{first_of};
+ghost use Rattle.psl_elaboration.specs.Flaws as spec;
 
 use crate::Checked;
 use crate::expressions::check;
@@ -10,7 +10,7 @@ use crate::order::earlier;
 use crate::wants::{flaw_where, wants_boolean, wants_sequence};
 use psl_base::NoMemory;
 use psl_grammar::Statement;
-use psl_layer_meaning::{Cause, DeclarationWord, Flaw};
+use psl_elaboration::{Cause, DeclarationWord, Flaw};
 use psl_lexer::Token;
 use psl_names::{
     Declarations, NameIndex, Scope, declaration_word, declared_as, directive_kind_of, has_clock,

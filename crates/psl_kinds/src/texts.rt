@@ -1,13 +1,13 @@
 // Whole texts.
 ghost use Rattle.std.specs.Prelude.{◌≡◌, IfOk};
-ghost use Rattle.psl_layer_meaning.specs.FirstFlaw.{IsFirstFlaw, first_of};
-ghost use Rattle.psl_layer_meaning.specs.Flaws as spec;
+ghost use Rattle.psl_elaboration.specs.FirstFlaw.{IsFirstFlaw, first_of};
+ghost use Rattle.psl_elaboration.specs.Flaws as spec;
 
 use crate::order::earlier;
 use crate::statements::statements_flaw;
 use psl_base::NoMemory;
 use psl_grammar::{UnitTree, VerificationUnit};
-use psl_layer_meaning::Flaw;
+use psl_elaboration::Flaw;
 use psl_names::NameIndex;
 use std::alloc::Global;
 
@@ -30,7 +30,7 @@ fn units_flaw(
 
 /// The first fault of kinds and names in a text over the names of signals, or none where there is none: the first in
 /// text order, and of several at one place the one with the lowest number.
-#[tactic(auto, using(psl_layer_meaning::proofs::Firsts::first_of_is_first))]
+#[tactic(auto, using(psl_elaboration::proofs::Firsts::first_of_is_first))]
 pub fn first_flaw(
     alloc: Global,
     tree: &UnitTree,

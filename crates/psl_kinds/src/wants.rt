@@ -1,10 +1,10 @@
 // What is wanted of an operand's kind.
 ghost use Rattle.std.specs.Prelude.{◌≡◌};
-ghost use Rattle.psl_layer_meaning.specs.FirstFlaw.{first_of};
-ghost use Rattle.psl_layer_meaning.specs.Flaws as spec;
+ghost use Rattle.psl_elaboration.specs.FirstFlaw.{first_of};
+ghost use Rattle.psl_elaboration.specs.Flaws as spec;
 
 use psl_base::Place;
-use psl_layer_meaning::{Cause, ExpressionKind, Flaw};
+use psl_elaboration::{Cause, ExpressionKind, Flaw};
 
 /// A fault at a place where a test passes.
 pub(crate) fn flaw_where(test: bool, cause: Cause, place: Place) -> Option<Flaw>

@@ -11,11 +11,11 @@ use Rattle.psl_tree.specs.Trees.{Boolean}
 use Rattle.psl_tree.specs.declared.directive.Directive.{Directive}
 use Rattle.psl_tree.specs.declared.name.Name.{Name}
 use Rattle.psl_sugar.specs.declared.fault.SugarFault.{SugarFault}
-use Rattle.psl_layer_meaning.specs.Answers.{Numbered, directive_of, numbered, is_too_large, first_too_large}
-use Rattle.psl_layer_meaning.specs.Directives.{Asked, asked_by, asked_after, asked_in, asked_in_units, declared_by, default_clock}
-use Rattle.psl_layer_meaning.specs.Kernel.{Named}
-use Rattle.psl_layer_meaning.specs.declared.fault.LayerFault.{LayerFault}
-use Rattle.psl_layer_meaning.specs.declared.fault.LayerFault.TheVariants as faults
+use Rattle.psl_elaboration.specs.Answers.{Numbered, directive_of, numbered, is_too_large, first_too_large}
+use Rattle.psl_elaboration.specs.Directives.{Asked, asked_by, asked_after, asked_in, asked_in_units, declared_by, default_clock}
+use Rattle.psl_elaboration.specs.Kernel.{Named}
+use Rattle.psl_elaboration.specs.declared.fault.LayerFault.{LayerFault}
+use Rattle.psl_elaboration.specs.declared.fault.LayerFault.TheVariants as faults
 use Rattle.psl_kernel.specs.Built.{Declared, IsScope}
 use Rattle.psl_layer.specs.Asked.{GivesClock, IsGrown, IsLonger, IsLongerBy}
 use Rattle.psl_layer.proofs.Scopes.{cut}

@@ -7,8 +7,8 @@ use Rattle.psl_grammar.specs.declared.tree.Statement as code_statement
 use Rattle.psl_tree.specs.Trees.{Boolean}
 use Rattle.psl_tree.specs.declared.name.Name.{Name}
 use Rattle.psl_sugar.specs.declared.fault.SugarFault.{SugarFault}
-use Rattle.psl_layer_meaning.specs.Directives.{declared_by, clock_of, default_clock}
-use Rattle.psl_layer_meaning.specs.Kernel.{Named}
+use Rattle.psl_elaboration.specs.Directives.{declared_by, clock_of, default_clock}
+use Rattle.psl_elaboration.specs.Kernel.{Named}
 use Rattle.psl_kernel.specs.Built.{Declared, IsScope}
 use Rattle.psl_layer.specs.Asked.{GivesClock, IsClockOf, IsGrown}
 

@@ -4,15 +4,15 @@ use Rattle.psl_base.specs.declared.place.Place.{Place}
 use Rattle.psl_grammar.specs.declared.tree.UnitTree as code_tree
 use Rattle.psl_tree.specs.declared.directive.Directive.{Directive}
 use Rattle.psl_tree.specs.declared.name.Name.{Name}
-use Rattle.psl_layer_meaning.specs.Answers.{IsUnit, IsLayerFault}
-use Rattle.psl_layer_meaning.specs.Directives.{kernel}
-use Rattle.psl_layer_meaning.specs.FirstFlaw.{IsFirstFlaw, fault_as, fault_of}
-use Rattle.psl_layer_meaning.specs.Flaws.{tree_flaws}
-use Rattle.psl_layer_meaning.specs.declared.fault.Cause.{Cause}
-use Rattle.psl_layer_meaning.specs.declared.fault.Cause.TheVariants as causes
-use Rattle.psl_layer_meaning.specs.declared.fault.Flaw.{Flaw}
-use Rattle.psl_layer_meaning.specs.declared.fault.LayerFault.{LayerFault}
-use Rattle.psl_layer_meaning.specs.declared.fault.LayerFault.TheVariants as faults
+use Rattle.psl_elaboration.specs.Answers.{IsUnit, IsLayerFault}
+use Rattle.psl_elaboration.specs.Directives.{kernel}
+use Rattle.psl_elaboration.specs.FirstFlaw.{IsFirstFlaw, fault_as, fault_of}
+use Rattle.psl_elaboration.specs.Flaws.{tree_flaws}
+use Rattle.psl_elaboration.specs.declared.fault.Cause.{Cause}
+use Rattle.psl_elaboration.specs.declared.fault.Cause.TheVariants as causes
+use Rattle.psl_elaboration.specs.declared.fault.Flaw.{Flaw}
+use Rattle.psl_elaboration.specs.declared.fault.LayerFault.{LayerFault}
+use Rattle.psl_elaboration.specs.declared.fault.LayerFault.TheVariants as faults
 use Rattle.psl_layer.specs.Asked.{IsLonger}
 
 cause_is : (tree : code_tree.UnitTree) (names : List Name) (cause : Cause) (place : Place) →

@@ -8,11 +8,11 @@ use Rattle.psl_tree.specs.declared.directive.Kind as directive_kind
 use Rattle.psl_tree.specs.declared.name.Name.{Name}
 use Rattle.psl_sugar.specs.Budget.{GivesBoolean, GivesFormula}
 use Rattle.psl_sugar.specs.declared.fault.SugarFault.{SugarFault}
-use Rattle.psl_layer_meaning.specs.Answers.{directive_of, numbered, first_too_large}
-use Rattle.psl_layer_meaning.specs.Directives.{Asked, asked_by, declared_by, clock_of, directive_formula}
-use Rattle.psl_layer_meaning.specs.Kernel.{Meaning, Named}
-use Rattle.psl_layer_meaning.specs.declared.fault.LayerFault.{LayerFault}
-use Rattle.psl_layer_meaning.specs.declared.fault.LayerFault.TheVariants as faults
+use Rattle.psl_elaboration.specs.Answers.{directive_of, numbered, first_too_large}
+use Rattle.psl_elaboration.specs.Directives.{Asked, asked_by, declared_by, clock_of, directive_formula}
+use Rattle.psl_elaboration.specs.Kernel.{Meaning, Named}
+use Rattle.psl_elaboration.specs.declared.fault.LayerFault.{LayerFault}
+use Rattle.psl_elaboration.specs.declared.fault.LayerFault.TheVariants as faults
 use Rattle.psl_kernel.specs.Built.{Gives, Declared, IsScope}
 use Rattle.psl_kernel.specs.declared.meaning.Meaning as code_meaning
 

@@ -1,12 +1,12 @@
 // Declarations of names and of the default clock.
 ghost use Rattle.std.specs.Prelude.{IfOk, OnOk, []};
-ghost use Rattle.psl_layer_meaning.specs.Directives as spec;
+ghost use Rattle.psl_elaboration.specs.Directives as spec;
 ghost use Rattle.psl_layer.specs.Asked.{GivesClock, IsClockOf, IsGrown};
 
 use psl_base::NoMemory;
 use psl_grammar::Statement;
 use psl_kernel::{Meaning, Scope, declare, meaning_of, no_names};
-use psl_layer_meaning::DeclarationWord;
+use psl_elaboration::DeclarationWord;
 use psl_names::{NameIndex, declaration_word};
 use psl_sugar::{MeasuredBool, SugarFault};
 use std::alloc::Global;

@@ -1,6 +1,6 @@
 // The formulas of directives.
 ghost use Rattle.std.specs.Prelude.{◌≡◌, IfOk};
-ghost use Rattle.psl_layer_meaning.specs.Directives as spec;
+ghost use Rattle.psl_elaboration.specs.Directives as spec;
 ghost use Rattle.psl_tree.specs.declared.directive.Kind.TheVariants as kinds;
 ghost use Rattle.psl_layer.specs.Asked.{IsFormulaOf, UnderRow};
 

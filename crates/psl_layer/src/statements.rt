@@ -1,6 +1,6 @@
 // Directives in order.
 ghost use Rattle.std.specs.Prelude.{◌≡◌, suc, length, IfOk};
-ghost use Rattle.psl_layer_meaning.specs.Directives as spec;
+ghost use Rattle.psl_elaboration.specs.Directives as spec;
 ghost use Rattle.psl_layer.specs.Asked.{IsLonger, IsLongerBy};
 
 use crate::declarations::{Clock, default_clock, grow};
@@ -8,7 +8,7 @@ use crate::directives::{copy_of, directive_formula};
 use psl_base::{NoMemory, Text};
 use psl_grammar::Statement;
 use psl_kernel::{Scope, no_names};
-use psl_layer_meaning::LayerFault;
+use psl_elaboration::LayerFault;
 use psl_lexer::Token;
 use psl_names::{NameIndex, directive_kind_of};
 use psl_sugar::{MOST_CONSTRUCTORS, SugarFault};

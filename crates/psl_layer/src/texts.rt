@@ -1,8 +1,8 @@
 // Whole texts.
 ghost use Rattle.std.specs.Prelude.{◌≡◌, ◌≤◌, [], All, IfOk, IfErr};
-ghost use Rattle.psl_layer_meaning.specs.Answers.{IsUnit, IsLayerFault};
-ghost use Rattle.psl_layer_meaning.specs.Directives as spec;
-ghost use Rattle.psl_layer_meaning.specs.FirstFlaw as flaws;
+ghost use Rattle.psl_elaboration.specs.Answers.{IsUnit, IsLayerFault};
+ghost use Rattle.psl_elaboration.specs.Directives as spec;
+ghost use Rattle.psl_elaboration.specs.FirstFlaw as flaws;
 ghost use Rattle.psl_tree.specs.Atoms.{AtomsOfFormula};
 ghost use Rattle.psl_tree.specs.Counts.{formula_size};
 ghost use Rattle.psl_tree.specs.Names.{AreAlike, AtomInRange};
@@ -13,7 +13,7 @@ use crate::statements::with_statements;
 use psl_base::Items;
 use psl_grammar::{UnitTree, VerificationUnit};
 use psl_kinds::first_flaw;
-use psl_layer_meaning::{Cause, Flaw, LayerFault};
+use psl_elaboration::{Cause, Flaw, LayerFault};
 use psl_names::NameIndex;
 use psl_tree::{Names, Unit};
 use std::alloc::Global;

@@ -8,13 +8,13 @@ use Rattle.psl_grammar.specs.declared.tree.Expression.TheVariants as expressions
 use Rattle.psl_grammar.specs.declared.tree.Statement as code_statement
 use Rattle.psl_layer_laws.specs.Same.{Same}
 use Rattle.psl_layer_laws.proofs.KindLaws.{place-same, operator-same, kind-same}
-use Rattle.psl_layer_meaning.specs.declared.fault.Flaw.{Flaw}
-use Rattle.psl_layer_meaning.specs.declared.found.Side.{Side}
-use Rattle.psl_layer_meaning.specs.declared.kind.ExpressionKind.{ExpressionKind}
-use Rattle.psl_layer_meaning.specs.declared.operator.InfixOperator.{InfixOperator}
-use Rattle.psl_layer_meaning.specs.Flaws.{infix_flaws, is_declared, signal_flaws, edge_flaws, literal_side, signal_side, side_of, side_flaws, is_comparison, expression_flaws}
-use Rattle.psl_layer_meaning.specs.Kinds.{declared_as}
-use Rattle.psl_layer_meaning.specs.Texts.{path_text}
+use Rattle.psl_elaboration.specs.declared.fault.Flaw.{Flaw}
+use Rattle.psl_elaboration.specs.declared.found.Side.{Side}
+use Rattle.psl_elaboration.specs.declared.kind.ExpressionKind.{ExpressionKind}
+use Rattle.psl_elaboration.specs.declared.operator.InfixOperator.{InfixOperator}
+use Rattle.psl_elaboration.specs.Flaws.{infix_flaws, is_declared, signal_flaws, edge_flaws, literal_side, signal_side, side_of, side_flaws, is_comparison, expression_flaws}
+use Rattle.psl_elaboration.specs.Kinds.{declared_as}
+use Rattle.psl_elaboration.specs.Texts.{path_text}
 use Rattle.psl_tree.specs.declared.name.Name.{Name}
 use Rattle.std.specs.Option.{is_some}
 

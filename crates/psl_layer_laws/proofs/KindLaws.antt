@@ -6,12 +6,12 @@ use Rattle.psl_grammar.specs.declared.tree.Expression as code_expression
 use Rattle.psl_grammar.specs.declared.tree.Expression.TheVariants as expressions
 use Rattle.psl_grammar.specs.declared.tree.Statement as code_statement
 use Rattle.psl_layer_laws.specs.Same.{Same}
-use Rattle.psl_layer_meaning.specs.declared.operator.InfixOperator.{InfixOperator}
-use Rattle.psl_layer_meaning.specs.Kinds.{is_part, is_within, before_part, prefix_kind, infix_kind, clocked_kind, grouped_kind, path_place, place_of, operator_before, declared_as, signal_kind, kind_of}
-use Rattle.psl_layer_meaning.specs.declared.kind.ExpressionKind.{ExpressionKind}
-use Rattle.psl_layer_meaning.specs.declared.kind.ExpressionKind.TheVariants.{Boolean}
-use Rattle.psl_layer_meaning.specs.Operators.{infix_operator, prefix_operator}
-use Rattle.psl_layer_meaning.specs.Texts.{path_text}
+use Rattle.psl_elaboration.specs.declared.operator.InfixOperator.{InfixOperator}
+use Rattle.psl_elaboration.specs.Kinds.{is_part, is_within, before_part, prefix_kind, infix_kind, clocked_kind, grouped_kind, path_place, place_of, operator_before, declared_as, signal_kind, kind_of}
+use Rattle.psl_elaboration.specs.declared.kind.ExpressionKind.{ExpressionKind}
+use Rattle.psl_elaboration.specs.declared.kind.ExpressionKind.TheVariants.{Boolean}
+use Rattle.psl_elaboration.specs.Operators.{infix_operator, prefix_operator}
+use Rattle.psl_elaboration.specs.Texts.{path_text}
 use Rattle.std.specs.Option.{unwrap_or}
 
 pub part-same : (x y : code_expression.Expression) → Same x y → is_part x ≡ is_part y

@@ -5,10 +5,10 @@ use Rattle.psl_grammar.specs.declared.tree.Expression as code_expression
 use Rattle.psl_grammar.specs.declared.tree.Expression.TheVariants as expressions
 use Rattle.psl_layer_laws.specs.Same.{Same}
 use Rattle.psl_layer_laws.proofs.KindLaws.{operator-same}
-use Rattle.psl_layer_meaning.specs.declared.operator.InfixOperator.{InfixOperator}
-use Rattle.psl_layer_meaning.specs.declared.operator.InfixOperator.TheVariants as operators
-use Rattle.psl_layer_meaning.specs.Kernel.{Meaning, OfBoolean, Named, compared, operated, infix_meaning, meaning_of}
-use Rattle.psl_layer_meaning.specs.Operators.{strength_of}
+use Rattle.psl_elaboration.specs.declared.operator.InfixOperator.{InfixOperator}
+use Rattle.psl_elaboration.specs.declared.operator.InfixOperator.TheVariants as operators
+use Rattle.psl_elaboration.specs.Kernel.{Meaning, OfBoolean, Named, compared, operated, infix_meaning, meaning_of}
+use Rattle.psl_elaboration.specs.Operators.{strength_of}
 use Rattle.psl_sugar.specs.declared.operator.Strength.{Strength}
 use Rattle.psl_tree.specs.declared.name.Name.{Name}
 

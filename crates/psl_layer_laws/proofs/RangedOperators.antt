@@ -10,15 +10,15 @@ use Rattle.psl_grammar.specs.declared.tree.Count.TheVariants as counts
 use Rattle.psl_layer_laws.proofs.RangedBooleans as booleans
 use Rattle.psl_layer_laws.proofs.RangedProperties as properties
 use Rattle.psl_layer_laws.proofs.RangedSequences as sequences
-use Rattle.psl_layer_meaning.specs.declared.operator.InfixOperator.{InfixOperator}
-use Rattle.psl_layer_meaning.specs.declared.operator.InfixOperator.TheVariants as operators
-use Rattle.psl_layer_meaning.specs.declared.operator.PrefixOperator.{PrefixOperator}
-use Rattle.psl_layer_meaning.specs.declared.operator.PrefixOperator.TheVariants as prefixes
-use Rattle.psl_layer_meaning.specs.declared.operator.RepetitionOperator.{RepetitionOperator}
-use Rattle.psl_layer_meaning.specs.declared.operator.RepetitionOperator.TheVariants as repetitions
-use Rattle.psl_layer_meaning.specs.Kernel.{Meaning, OfBoolean, OfSequence, OfProperty, Named, boolean_in, sequence_in, formula_in, strong_in, prefix_meaning, conjunction_meaning, disjunction_meaning, implication_meaning, equivalence_meaning, infix_meaning, literal_meaning, repeated_meaning, alone_meaning, clocked_meaning, clocked_in, grouped_meaning, next_meaning, event_meaning, declared_meaning, meaning_or}
-use Rattle.psl_layer_meaning.specs.Operators.{strength_of, quantifier_of}
-use Rattle.psl_layer_meaning.specs.Texts.{number_of}
+use Rattle.psl_elaboration.specs.declared.operator.InfixOperator.{InfixOperator}
+use Rattle.psl_elaboration.specs.declared.operator.InfixOperator.TheVariants as operators
+use Rattle.psl_elaboration.specs.declared.operator.PrefixOperator.{PrefixOperator}
+use Rattle.psl_elaboration.specs.declared.operator.PrefixOperator.TheVariants as prefixes
+use Rattle.psl_elaboration.specs.declared.operator.RepetitionOperator.{RepetitionOperator}
+use Rattle.psl_elaboration.specs.declared.operator.RepetitionOperator.TheVariants as repetitions
+use Rattle.psl_elaboration.specs.Kernel.{Meaning, OfBoolean, OfSequence, OfProperty, Named, boolean_in, sequence_in, formula_in, strong_in, prefix_meaning, conjunction_meaning, disjunction_meaning, implication_meaning, equivalence_meaning, infix_meaning, literal_meaning, repeated_meaning, alone_meaning, clocked_meaning, clocked_in, grouped_meaning, next_meaning, event_meaning, declared_meaning, meaning_or}
+use Rattle.psl_elaboration.specs.Operators.{strength_of, quantifier_of}
+use Rattle.psl_elaboration.specs.Texts.{number_of}
 use Rattle.psl_sugar.specs.Sequences.{any_letter}
 use Rattle.psl_sugar.specs.declared.count.Count as sugar_count
 use Rattle.psl_sugar.specs.declared.operator.Strength.{Strength}

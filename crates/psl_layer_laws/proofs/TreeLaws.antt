@@ -20,15 +20,15 @@ use Rattle.psl_layer_laws.proofs.FlawLaws.{flaws-same}
 use Rattle.psl_layer_laws.proofs.KindLaws.{place-same, kind-same}
 use Rattle.psl_layer_laws.proofs.MeaningLaws.{meaning-same}
 use Rattle.psl_layer_laws.proofs.Nodes.{same}
-use Rattle.psl_layer_meaning.specs.declared.fault.Flaw.{Flaw}
-use Rattle.psl_layer_meaning.specs.declared.kind.ExpressionKind.{ExpressionKind}
-use Rattle.psl_layer_meaning.specs.declared.operator.DeclarationWord.{DeclarationWord}
-use Rattle.psl_layer_meaning.specs.declared.operator.DeclarationWord.TheVariants as declarations
-use Rattle.psl_layer_meaning.specs.Directives.{Asked, declared_by, clock_of, default_clock, asserted, covered_under, cover_formula, directive_formula, asked_by, asked_after, asked_in, asked_in_units, kernel}
-use Rattle.psl_layer_meaning.specs.Flaws.{declares_clock, declaration_flaws, statement_flaws, statements_flaws, units_flaws, tree_flaws}
-use Rattle.psl_layer_meaning.specs.Kernel.{Meaning, Named, meaning_of}
-use Rattle.psl_layer_meaning.specs.Kinds.{kind_declared_by, declared_as, place_of, kind_of}
-use Rattle.psl_layer_meaning.specs.Operators.{declaration_word, directive_kind_of}
+use Rattle.psl_elaboration.specs.declared.fault.Flaw.{Flaw}
+use Rattle.psl_elaboration.specs.declared.kind.ExpressionKind.{ExpressionKind}
+use Rattle.psl_elaboration.specs.declared.operator.DeclarationWord.{DeclarationWord}
+use Rattle.psl_elaboration.specs.declared.operator.DeclarationWord.TheVariants as declarations
+use Rattle.psl_elaboration.specs.Directives.{Asked, declared_by, clock_of, default_clock, asserted, covered_under, cover_formula, directive_formula, asked_by, asked_after, asked_in, asked_in_units, kernel}
+use Rattle.psl_elaboration.specs.Flaws.{declares_clock, declaration_flaws, statement_flaws, statements_flaws, units_flaws, tree_flaws}
+use Rattle.psl_elaboration.specs.Kernel.{Meaning, Named, meaning_of}
+use Rattle.psl_elaboration.specs.Kinds.{kind_declared_by, declared_as, place_of, kind_of}
+use Rattle.psl_elaboration.specs.Operators.{declaration_word, directive_kind_of}
 use Rattle.psl_tree.specs.declared.directive.Kind as directive_kind
 use Rattle.psl_tree.specs.declared.directive.Kind.TheVariants as directives
 use Rattle.psl_tree.specs.declared.name.Name.{Name}

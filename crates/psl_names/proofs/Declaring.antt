@@ -10,8 +10,8 @@ use Rattle.std.specs.Ordering.{nat_cmp}
 use Rattle.std.specs.Prelude.{if◌then◌else◌, nat_lt}
 use Rattle.std.specs.Str.{bytes_eq}
 use Rattle.psl_grammar.specs.declared.tree.Statement as code_statement
-use Rattle.psl_layer_meaning.specs.Kinds.{kind_declared_by, declared_as}
-use Rattle.psl_layer_meaning.specs.declared.kind.ExpressionKind.{ExpressionKind}
+use Rattle.psl_elaboration.specs.Kinds.{kind_declared_by, declared_as}
+use Rattle.psl_elaboration.specs.declared.kind.ExpressionKind.{ExpressionKind}
 use Rattle.psl_names.specs.Firsts.{at_place, first_from, kind_before, first_at, Tells, Keeps, Adds}
 use Rattle.psl_names.specs.declared.firsts.First.{First}
 

@@ -14,9 +14,9 @@ use Rattle.std.specs.List.{ends_with, list_all}
 use Rattle.std.specs.Prelude.{filter, if◌then◌else◌, unwrap_or, ◌&&◌}
 use Rattle.std.specs.Str.{bytes_eq}
 use Rattle.psl_tree.specs.declared.name.Name.{Name}
-use Rattle.psl_layer_meaning.specs.LookUp.{found_among, is_same_range}
-use Rattle.psl_layer_meaning.specs.declared.found.Found.{Found}
-use Rattle.psl_layer_meaning.specs.declared.found.Found.TheVariants.{Nothing, One, Several}
+use Rattle.psl_elaboration.specs.LookUp.{found_among, is_same_range}
+use Rattle.psl_elaboration.specs.declared.found.Found.{Found}
+use Rattle.psl_elaboration.specs.declared.found.Found.TheVariants.{Nothing, One, Several}
 use Rattle.psl_names.specs.Findings.{found_at, Joins, Tells}
 use Rattle.psl_names.specs.Joining.{joined}
 

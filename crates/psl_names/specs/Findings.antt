@@ -5,9 +5,9 @@ use Rattle.std.specs.BTreeMap.{BTreeMap, get_by}
 use Rattle.std.specs.Cmp.Lexicographic.{slice_cmp}
 use Rattle.std.specs.Ordering.{nat_cmp}
 use Rattle.psl_tree.specs.declared.name.Name.{Name}
-use Rattle.psl_layer_meaning.specs.LookUp.{found_among}
-use Rattle.psl_layer_meaning.specs.declared.found.Found.{Found}
-use Rattle.psl_layer_meaning.specs.declared.found.Found.TheVariants.{Nothing}
+use Rattle.psl_elaboration.specs.LookUp.{found_among}
+use Rattle.psl_elaboration.specs.declared.found.Found.{Found}
+use Rattle.psl_elaboration.specs.declared.found.Found.TheVariants.{Nothing}
 use Rattle.psl_names.specs.Joining.{joined}
 
 -- what is found at a text, nothing where the map does not have it

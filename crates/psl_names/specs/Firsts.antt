@@ -7,8 +7,8 @@ use Rattle.std.specs.Option.{option_or}
 use Rattle.std.specs.Ordering.{nat_cmp}
 use Rattle.std.specs.Str.{bytes_eq}
 use Rattle.psl_grammar.specs.declared.tree.Statement as code_statement
-use Rattle.psl_layer_meaning.specs.Kinds.{kind_declared_by}
-use Rattle.psl_layer_meaning.specs.declared.kind.ExpressionKind.{ExpressionKind}
+use Rattle.psl_elaboration.specs.Kinds.{kind_declared_by}
+use Rattle.psl_elaboration.specs.declared.kind.ExpressionKind.{ExpressionKind}
 use Rattle.psl_names.specs.declared.firsts.First.{First}
 
 -- a declaration at a place, if there is one

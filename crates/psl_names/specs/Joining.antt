@@ -1,8 +1,8 @@
 -- What matching entries say together, one entry after another.
 use Rattle.std.specs.Prelude.{◌==◌, ◌&&◌, if◌then◌else◌}
 use Rattle.psl_tree.specs.declared.name.Name.{Name}
-use Rattle.psl_layer_meaning.specs.declared.found.Found.{Found}
-use Rattle.psl_layer_meaning.specs.declared.found.Found.TheVariants.{Nothing, One, Several}
+use Rattle.psl_elaboration.specs.declared.found.Found.{Found}
+use Rattle.psl_elaboration.specs.declared.found.Found.TheVariants.{Nothing, One, Several}
 
 -- what entries say together with one more
 abbrev pub joined : Found → Name → Found

@@ -1,15 +1,15 @@
 // What the statements before a place declare.
 ghost use Rattle.std.specs.Prelude.{◌≡◌, ◌≤◌, length, take, IfOk};
 ghost use Rattle.std.specs.List.{list_any};
-ghost use Rattle.psl_layer_meaning.specs.Kinds as spec;
-ghost use Rattle.psl_layer_meaning.specs.Flaws as flaws;
+ghost use Rattle.psl_elaboration.specs.Kinds as spec;
+ghost use Rattle.psl_elaboration.specs.Flaws as flaws;
 ghost use Rattle.psl_names.specs.Firsts.{kind_before, first_from};
 
 use crate::firsts::{First, first_at, first_declarations};
 use crate::kinds::declares_clock;
 use psl_base::NoMemory;
 use psl_grammar::Statement;
-use psl_layer_meaning::ExpressionKind;
+use psl_elaboration::ExpressionKind;
 use std::alloc::Global;
 use std::collections::BTreeMap;
 use std::marker::Model;

@@ -1,12 +1,12 @@
 // What is found at texts.
 ghost use Rattle.std.specs.Prelude.{◌≡◌, IfOk, OnOk};
 ghost use Rattle.std.specs.Str.{bytes_eq};
-ghost use Rattle.psl_layer_meaning.specs.LookUp.{is_named, ends_named};
+ghost use Rattle.psl_elaboration.specs.LookUp.{is_named, ends_named};
 ghost use Rattle.psl_names.specs.Findings.{found_at, Joins, Tells};
 ghost use Rattle.psl_names.specs.Joining.{joined};
 
 use psl_base::NoMemory;
-use psl_layer_meaning::Found;
+use psl_elaboration::Found;
 use psl_tree::Name;
 use std::alloc::Global;
 use std::collections::BTreeMap;

@@ -6,7 +6,7 @@ use crate::kinds::declared_kind;
 use crate::operators::declaration_word;
 use psl_base::NoMemory;
 use psl_grammar::Statement;
-use psl_layer_meaning::ExpressionKind;
+use psl_elaboration::ExpressionKind;
 use std::alloc::Global;
 use std::collections::BTreeMap;
 

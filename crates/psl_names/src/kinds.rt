@@ -1,11 +1,11 @@
 // What the words of declarations declare.
 ghost use Rattle.std.specs.Prelude.{◌≡◌};
-ghost use Rattle.psl_layer_meaning.specs.Kinds as spec;
-ghost use Rattle.psl_layer_meaning.specs.Flaws as flaws;
+ghost use Rattle.psl_elaboration.specs.Kinds as spec;
+ghost use Rattle.psl_elaboration.specs.Flaws as flaws;
 
 use crate::operators::declaration_word;
 use psl_grammar::Statement;
-use psl_layer_meaning::{DeclarationWord, ExpressionKind};
+use psl_elaboration::{DeclarationWord, ExpressionKind};
 
 /// The kind of what a declaration's word declares.
 pub(crate) fn declared_kind(word: DeclarationWord) -> Option<ExpressionKind>

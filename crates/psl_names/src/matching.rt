@@ -1,10 +1,10 @@
 // Which entries of a list of names a text matches.
 ghost use Rattle.std.specs.Prelude.{◌≡◌, filter, IfOk};
-ghost use Rattle.psl_layer_meaning.specs.LookUp as spec;
+ghost use Rattle.psl_elaboration.specs.LookUp as spec;
 
 use crate::findings::{end_findings, found_at, whole_findings};
 use psl_base::NoMemory;
-use psl_layer_meaning::Found;
+use psl_elaboration::Found;
 use psl_tree::Names;
 use std::alloc::Global;
 use std::collections::BTreeMap;
@@ -22,7 +22,7 @@ pub struct NameIndex<'a> {
 impl<'a> Model for NameIndex<'a> {
     ghost use Rattle.std.specs.Prelude.{List};
     ghost use Rattle.psl_tree.specs.declared.name.Name.{Name};
-    ghost use Rattle.psl_layer_meaning.specs.LookUp.{is_named, ends_named};
+    ghost use Rattle.psl_elaboration.specs.LookUp.{is_named, ends_named};
     ghost use Rattle.psl_names.specs.Findings.{Tells};
 
     ghost Value = { List Name };

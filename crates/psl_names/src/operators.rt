@@ -1,8 +1,8 @@
 // What the words and marks of a tree ask for.
 ghost use Rattle.std.specs.Prelude.{◌≡◌};
-ghost use Rattle.psl_layer_meaning.specs.Operators as spec;
+ghost use Rattle.psl_elaboration.specs.Operators as spec;
 
-use psl_layer_meaning::{DeclarationWord, InfixOperator, PrefixOperator, RepetitionOperator};
+use psl_elaboration::{DeclarationWord, InfixOperator, PrefixOperator, RepetitionOperator};
 use psl_lexer::TokenKind;
 use psl_sugar::{Quantifier, Strength};
 use psl_tree::{Edge, Kind};

@@ -2,7 +2,7 @@
 use crate::{Declarations, NameIndex, declared_as, has_clock, look_up};
 use psl_base::{Items, NoMemory, Place, Text};
 use psl_grammar::{Expression, Statement};
-use psl_layer_meaning::{ExpressionKind, Found};
+use psl_elaboration::{ExpressionKind, Found};
 use psl_lexer::{Token, TokenKind};
 use psl_tree::{Name, Names};
 use std::alloc::Global;

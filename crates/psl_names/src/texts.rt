@@ -1,6 +1,6 @@
 // The texts of paths.
 ghost use Rattle.std.specs.Prelude.{◌≡◌, ◌++◌, IfOk, OnOk, OnErr};
-ghost use Rattle.psl_layer_meaning.specs.Texts as spec;
+ghost use Rattle.psl_elaboration.specs.Texts as spec;
 
 use psl_base::{NoMemory, Text};
 use psl_lexer::Token;

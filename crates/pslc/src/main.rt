@@ -1,22 +1,10 @@
 //! `pslc`: judges assertions of the Property Specification Language (IEEE 1850) on recorded waves.
 #![tactic(auto)]
 
-mod causes;
-mod directives;
-mod finish;
-mod generated;
-mod inputs;
-mod outcome;
-mod report;
-mod sampled;
-mod show;
-mod telling;
-#[cfg(test)]
-mod tests;
-mod top;
-mod unit;
-mod wave;
+ghost use Rattle.std.specs.Prelude.{◌≡◌};
+ghost use Rattle.std.specs.Process.{exit_status};
 
+use commands::{Report, run};
 use psl_base::{DirShelf, NoMemory, StdSink};
 use std::env;
 use std::env::Env;
@@ -40,6 +28,13 @@ fn words(rt: &(impl Env + AllocGlobal)) -> Result<Vec<String>, NoMemory> {
     }
 }
 
+/// What the process ends with: the status of the report.
+fn ended(report: &Report) -> ExitCode
+    ensures { exit_status result ≡ report.now.status }
+{
+    ExitCode::from(report.status)
+}
+
 fn main(rt: HostRuntime) -> ExitCode {
     let Ok(words) = words(&rt) else {
         return ExitCode::from(8);
@@ -47,6 +42,6 @@ fn main(rt: HostRuntime) -> ExitCode {
     let mut files = DirShelf::new(&rt);
     let mut out = StdSink::new(rt.stdout());
     let mut err = StdSink::new(rt.stderr());
-    let report = top::run(rt.alloc(), words.as_slice(), &mut files, &mut out, &mut err);
-    ExitCode::from(report.status)
+    let report = run(rt.alloc(), words.as_slice(), &mut files, &mut out, &mut err);
+    ended(&report)
 }

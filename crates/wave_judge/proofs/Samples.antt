@@ -10,7 +10,7 @@ use Rattle.psl_tree.specs.declared.letter.Letter.{Letter}
 use Rattle.psl_tree.specs.Holds.{holds}
 use Rattle.psl_tree.specs.Trees.{Test}
 use Rattle.vcd_reader.specs.Sampled.{Sampled, atom_at, atoms_of, letter_at, letters_of}
-use Rattle.alternating_meaning.specs.Obligations.{Automaton, value_of, obligation_at}
+use Rattle.alternating_theory.specs.Obligations.{Automaton, value_of, obligation_at}
 use Rattle.alternating.proofs.Stepping.{bits_pack, start_tells}
 use Rattle.alternating.specs.Atoms.{AtomsOfObligations, is_among}
 use Rattle.alternating.specs.Packed.{is_set, PacksLetter}

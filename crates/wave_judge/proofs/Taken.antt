@@ -5,7 +5,7 @@ use Rattle.std.proofs.lemmas.List.{get_or_append_left, get_or_default}
 use Rattle.std.proofs.lemmas.List.Elements.{All-set, All-append}
 use Rattle.std.proofs.lemmas.Option.{slice_get_within, get_or_from_slice_get}
 use Rattle.std.proofs.Math.ListN.{length-set}
-use Rattle.alternating_meaning.specs.Obligations.{Automaton}
+use Rattle.alternating_theory.specs.Obligations.{Automaton}
 use Rattle.psl_tree.specs.declared.atom.Atom.{Atom}
 use Rattle.wave_judge.specs.Stepped.{StepsAll}
 use Rattle.wave_judge.specs.Taken.{IsStep, AreSteps, HasNumber, HasTaken, LeadsBack}

@@ -2,8 +2,8 @@
 use Rattle.std.proofs.Common.{◌≡◌, inl, inr, sym, subst, ◌<◌, ◌≤◌, List, [], ◌∷◌, ◌++◌, None}
 use Rattle.std.specs.Prelude.{◌↔◌}
 use Rattle.std.proofs.lemmas.Bool.{cases_lt}
-use Rattle.alternating_meaning.specs.Laws.{ValuesOf}
-use Rattle.alternating_meaning.specs.Obligations.{Automaton}
+use Rattle.alternating_theory.specs.Laws.{ValuesOf}
+use Rattle.alternating_theory.specs.Obligations.{Automaton}
 use Rattle.alternating.specs.Atoms.{KeepsAtoms as AutomatonKeeps}
 use Rattle.alternating.specs.Limits.{HasLargeSequence}
 use Rattle.clock_rewrite.specs.Clock.{HasSameWords, KeepsAtoms as ClockKeeps}

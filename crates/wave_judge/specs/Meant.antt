@@ -1,7 +1,7 @@
 -- What the automaton of a directive says.
 use Rattle.std.specs.Prelude.{Bool as Truth, IsTrue, ◌↔◌, List, None}
 use Rattle.alternating.specs.Atoms.{AtomsOfObligations}
-use Rattle.alternating_meaning.specs.Obligations.{Automaton, value_on}
+use Rattle.alternating_theory.specs.Obligations.{Automaton, value_on}
 use Rattle.psl_meaning.specs.Followed.{Nothing, Tops, Bottoms}
 use Rattle.psl_meaning.specs.Satisfaction.{Sat}
 use Rattle.psl_meaning.specs.Trace.{trace_of}

@@ -1,7 +1,7 @@
 -- A step back in the three views.
 use Rattle.std.specs.Prelude.{ℕ, List}
 use Rattle.alternating.specs.Stepped.{StepsBack}
-use Rattle.alternating_meaning.specs.Obligations.{Automaton}
+use Rattle.alternating_theory.specs.Obligations.{Automaton}
 use Rattle.psl_tree.specs.declared.atom.Atom.{Atom}
 use Rattle.wave_judge.specs.declared.values.Values.{Values}
 

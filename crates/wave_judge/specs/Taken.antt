@@ -1,6 +1,6 @@
 -- Steps that were taken, and the values between which they lead.
 use Rattle.std.specs.Prelude.{◌≡◌, ◌≤◌, ◌<◌, ◌+◌, ◌⊎◌, ℕ, List, [], ◌∷◌, ◌++◌, length, All, Option, Some, slice_get, slice_index_or, IfSome}
-use Rattle.alternating_meaning.specs.Obligations.{Automaton}
+use Rattle.alternating_theory.specs.Obligations.{Automaton}
 use Rattle.psl_tree.specs.declared.atom.Atom.{Atom}
 use Rattle.wave_judge.specs.Stepped.{StepsAll}
 use Rattle.wave_judge.specs.Valued.{HasLengths}

@@ -3,7 +3,7 @@ use Rattle.std.specs.Prelude.{◌≡◌, ◌≤◌, ℕ, List, length, drop}
 use Rattle.psl_meaning.specs.Followed.{Nothing, Tops, Bottoms}
 use Rattle.psl_tree.specs.declared.letter.Letter.{Letter}
 use Rattle.vcd_reader.specs.Sampled.{Sampled, letters_of}
-use Rattle.alternating_meaning.specs.Obligations.{Automaton, value_on}
+use Rattle.alternating_theory.specs.Obligations.{Automaton, value_on}
 use Rattle.alternating.specs.Stepped.{values_of}
 use Rattle.wave_judge.specs.declared.pass.Answers.{Answers}
 use Rattle.wave_judge.specs.declared.values.Values.{Values}

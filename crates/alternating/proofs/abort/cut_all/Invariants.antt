@@ -1,6 +1,6 @@
 use Rattle.std.proofs.Common.{◌≡◌, ◌+◌, take, map}
 use Rattle.psl_tree.specs.Trees.{boolean_of}
-use Rattle.alternating_meaning.specs.Construction.{cut_obligation}
+use Rattle.alternating_theory.specs.Construction.{cut_obligation}
 use Rattle.alternating.specs.Views.{obligations_of_code}
 use Rattle.alternating.proofs.abort.cut_all.Given as goal
 

@@ -1,8 +1,8 @@
 use Rattle.std.proofs.Common.{sym, subst}
 use Rattle.psl_tree.specs.Trees.{formula_of}
-use Rattle.alternating_meaning.specs.Laws.{ValuesOf, NamesOf, SizeOf}
-use Rattle.alternating_meaning.specs.Obligations.{Automaton}
-use Rattle.alternating_meaning.proofs.LawsHold.{values, names, size}
+use Rattle.alternating_theory.specs.Laws.{ValuesOf, NamesOf, SizeOf}
+use Rattle.alternating_theory.specs.Obligations.{Automaton}
+use Rattle.alternating_theory.proofs.LawsHold.{values, names, size}
 use Rattle.alternating.specs.Atoms.{KeepsAtoms}
 use Rattle.alternating.proofs.Tested.{keeps-atoms}
 use Rattle.alternating.proofs.automaton.of.Goals as goal

@@ -1,5 +1,5 @@
 use Rattle.std.proofs.Common.{◌≡◌, take, map}
-use Rattle.alternating_meaning.specs.Construction.{opposite_obligation}
+use Rattle.alternating_theory.specs.Construction.{opposite_obligation}
 use Rattle.alternating.specs.Views.{obligations_of_code}
 use Rattle.alternating.proofs.part.opposites.Given as goal
 

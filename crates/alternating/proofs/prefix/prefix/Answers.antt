@@ -2,7 +2,7 @@ use Rattle.std.proofs.Common.{rules, ◌∙◌, ap, List, []}
 use Rattle.sere_nfa.specs.Acceptance.{Edge, State}
 use Rattle.sere_nfa.specs.Views.{edges_of}
 use Rattle.sere_nfa.specs.declared.edge.NfaEdge.{NfaEdge}
-use Rattle.alternating_meaning.specs.Construction.{prefix_obligation}
+use Rattle.alternating_theory.specs.Construction.{prefix_obligation}
 use Rattle.alternating.proofs.Edges.{obligation-more}
 use Rattle.alternating.proofs.prefix.prefix.Goals as goal
 

@@ -2,8 +2,8 @@ use Rattle.std.proofs.Common.{rules, ◌∙◌, ◌-◌, ap, sym, List, ◌∷�
 use Rattle.sere_nfa.specs.Acceptance.{Edge}
 use Rattle.sere_nfa.specs.Views.{edge_of, edges_of}
 use Rattle.sere_nfa.specs.declared.edge.NfaEdge.{NfaEdge}
-use Rattle.alternating_meaning.specs.Construction.{taken, taken_edge}
-use Rattle.alternating_meaning.specs.Positive.{Positive}
+use Rattle.alternating_theory.specs.Construction.{taken, taken_edge}
+use Rattle.alternating_theory.specs.Positive.{Positive}
 use Rattle.alternating.proofs.Edges.{edge-before}
 use Rattle.alternating.proofs.prefix.taken.Goals as goal
 

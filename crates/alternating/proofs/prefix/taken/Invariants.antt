@@ -1,6 +1,6 @@
 use Rattle.std.proofs.Common.{◌≡◌, ◌-◌, drop, length}
 use Rattle.sere_nfa.specs.Views.{edges_of}
-use Rattle.alternating_meaning.specs.Construction.{taken}
+use Rattle.alternating_theory.specs.Construction.{taken}
 use Rattle.alternating.specs.Views.{positive_of}
 use Rattle.alternating.proofs.prefix.taken.Given as goal
 

@@ -1,6 +1,6 @@
 use Rattle.std.proofs.Common.{◌≡◌, drop}
 use Rattle.sere_nfa.specs.Views.{edges_of}
-use Rattle.alternating_meaning.specs.Going.{goes_on}
+use Rattle.alternating_theory.specs.Going.{goes_on}
 use Rattle.alternating.proofs.stage.goes_on.Given as goal
 
 abbrev pub invariant-loop-edge : goal.invariant-loop-edge

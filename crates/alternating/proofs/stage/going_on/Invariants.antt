@@ -1,5 +1,5 @@
 use Rattle.std.proofs.Common.{◌≡◌, take, map}
-use Rattle.alternating_meaning.specs.Going.{goes_on}
+use Rattle.alternating_theory.specs.Going.{goes_on}
 use Rattle.alternating.proofs.stage.going_on.Given as goal
 
 abbrev pub invariant-loop-state : goal.invariant-loop-state

@@ -1,6 +1,6 @@
 use Rattle.std.proofs.Common.{false}
 use Rattle.sere_nfa.specs.Acceptance.{State}
-use Rattle.alternating_meaning.specs.Going.{goes_on}
+use Rattle.alternating_theory.specs.Going.{goes_on}
 use Rattle.alternating.proofs.Edges.{mark-at}
 use Rattle.alternating.proofs.stage.leads_on.Goals as goal
 

@@ -1,5 +1,5 @@
 use Rattle.std.proofs.Common.{◌≡◌, length, map, take}
-use Rattle.alternating_meaning.specs.Obligations.{value_past}
+use Rattle.alternating_theory.specs.Obligations.{value_past}
 use Rattle.alternating.specs.Beyonds.{past_of}
 use Rattle.alternating.specs.Views.{obligations_of_code}
 use Rattle.alternating.proofs.step.fill.Given as goal

@@ -1,5 +1,5 @@
 use Rattle.std.proofs.Common.{◌≡◌, length, map, take}
-use Rattle.alternating_meaning.specs.Positive.{met}
+use Rattle.alternating_theory.specs.Positive.{met}
 use Rattle.alternating.specs.Packed.{letter_of}
 use Rattle.alternating.specs.Stepped.{value_at}
 use Rattle.alternating.specs.Views.{obligations_of_code}

@@ -1,6 +1,6 @@
 use Rattle.std.proofs.Common.{◌≡◌, ◌-◌, drop, length}
 use Rattle.sere_nfa.specs.Views.{edges_of}
-use Rattle.alternating_meaning.specs.Construction.{going}
+use Rattle.alternating_theory.specs.Construction.{going}
 use Rattle.alternating.specs.Views.{positive_of}
 use Rattle.alternating.proofs.suffix.going.Given as goal
 

@@ -1,6 +1,6 @@
 use Rattle.std.proofs.Common.{◌≡◌, ◌-◌, drop, length}
 use Rattle.sere_nfa.specs.Views.{edges_of}
-use Rattle.alternating_meaning.specs.Construction.{quiet}
+use Rattle.alternating_theory.specs.Construction.{quiet}
 use Rattle.alternating.specs.Views.{positive_of}
 use Rattle.alternating.proofs.suffix.quiet.Given as goal
 

@@ -2,7 +2,7 @@ use Rattle.std.proofs.Common.{rules, ◌∙◌, ◌+◌, true, ap, List}
 use Rattle.sere_nfa.specs.Acceptance.{Edge, State}
 use Rattle.sere_nfa.specs.Views.{edges_of}
 use Rattle.sere_nfa.specs.declared.edge.NfaEdge.{NfaEdge}
-use Rattle.alternating_meaning.specs.Construction.{suffix_obligation}
+use Rattle.alternating_theory.specs.Construction.{suffix_obligation}
 use Rattle.alternating.specs.Views.{obligation_of, obligations_of_code}
 use Rattle.alternating.proofs.Edges.{obligation-more}
 use Rattle.alternating.proofs.suffix.suffix.Goals as goal

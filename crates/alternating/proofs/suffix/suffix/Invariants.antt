@@ -1,5 +1,5 @@
 use Rattle.std.proofs.Common.{◌≡◌, ◌++◌, true, take, map}
-use Rattle.alternating_meaning.specs.Construction.{suffix_obligation}
+use Rattle.alternating_theory.specs.Construction.{suffix_obligation}
 use Rattle.alternating.specs.Views.{obligation_of, obligations_of_code}
 use Rattle.alternating.proofs.suffix.suffix.Given as goal
 

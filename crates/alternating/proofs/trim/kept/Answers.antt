@@ -1,7 +1,7 @@
 use Rattle.std.proofs.Common.{rules, refl, slice_index}
 use Rattle.sere_nfa.specs.Marking.{is_marked}
-use Rattle.alternating_meaning.specs.Obligations.{Obligation}
-use Rattle.alternating_meaning.specs.Trimmed.{renumbered_obligation}
+use Rattle.alternating_theory.specs.Obligations.{Obligation}
+use Rattle.alternating_theory.specs.Trimmed.{renumbered_obligation}
 use Rattle.alternating.proofs.Trims.{kept-step}
 use Rattle.alternating.proofs.trim.kept.Goals as goal
 

@@ -1,6 +1,6 @@
 use Rattle.std.proofs.Common.{◌≡◌, map, take, slice_index}
 use Rattle.sere_nfa.specs.Marking.{is_marked}
-use Rattle.alternating_meaning.specs.Trimmed.{kept, renumbered_obligation}
+use Rattle.alternating_theory.specs.Trimmed.{kept, renumbered_obligation}
 use Rattle.alternating.specs.Views.{obligations_of_code}
 use Rattle.alternating.proofs.trim.kept.Given as goal
 

@@ -1,6 +1,6 @@
 use Rattle.std.proofs.Common.{◌≡◌, ◌<◌, ℕ, length, slice_index}
 use Rattle.sere_nfa.specs.Marking.{is_marked}
-use Rattle.alternating_meaning.specs.Trimmed.{count_below}
+use Rattle.alternating_theory.specs.Trimmed.{count_below}
 use Rattle.alternating.proofs.trim.names_of.Given as goal
 
 abbrev pub invariant-loop-marked : goal.invariant-loop-marked

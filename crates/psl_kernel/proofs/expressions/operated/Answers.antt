@@ -1,5 +1,5 @@
 use Rattle.std.proofs.Common.{sym, subst, ◌∙◌}
-use Rattle.psl_layer_meaning.specs.Kernel.{Meaning, infix_meaning, operated}
+use Rattle.psl_elaboration.specs.Kernel.{Meaning, infix_meaning, operated}
 use Rattle.psl_kernel.specs.Built.{Gives}
 use Rattle.psl_kernel.specs.declared.meaning.Meaning.TheVariants as meanings
 use Rattle.psl_kernel.proofs.Operated.{as_row, compared_is, not_compared}

@@ -1,6 +1,6 @@
 -- Each operator's row is that of its kind.
 use Rattle.std.proofs.Common.{refl}
-use Rattle.psl_layer_meaning.specs.Kernel.{infix_meaning}
+use Rattle.psl_elaboration.specs.Kernel.{infix_meaning}
 use Rattle.psl_kernel.specs.Rows.{connected, sequenced, suffixed, aborted, lasting}
 use Rattle.psl_kernel.specs.declared.connective.Connective.TheVariants as connectives
 use Rattle.psl_kernel.proofs.Operated.{as_row}

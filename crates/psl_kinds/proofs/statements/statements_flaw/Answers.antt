@@ -1,7 +1,7 @@
 use Rattle.std.proofs.Common.{List, ap, ◌∙◌, take}
 use Rattle.psl_grammar.specs.declared.tree.Statement as code_statement
-use Rattle.psl_layer_meaning.specs.FirstFlaw.{first_of}
-use Rattle.psl_layer_meaning.specs.Flaws.{statement_flaws}
+use Rattle.psl_elaboration.specs.FirstFlaw.{first_of}
+use Rattle.psl_elaboration.specs.Flaws.{statement_flaws}
 use Rattle.psl_kinds.proofs.Steps.{statement_more}
 use Rattle.psl_kinds.proofs.statements.statements_flaw.Goals as goal
 

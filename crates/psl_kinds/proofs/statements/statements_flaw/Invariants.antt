@@ -1,6 +1,6 @@
 use Rattle.std.proofs.Common.{◌≡◌, [], take, drop}
-use Rattle.psl_layer_meaning.specs.FirstFlaw.{first_of, earlier}
-use Rattle.psl_layer_meaning.specs.Flaws.{statements_flaws}
+use Rattle.psl_elaboration.specs.FirstFlaw.{first_of, earlier}
+use Rattle.psl_elaboration.specs.Flaws.{statements_flaws}
 use Rattle.psl_kinds.proofs.statements.statements_flaw.Given as goal
 
 abbrev pub invariant-loop-place : goal.invariant-loop-place

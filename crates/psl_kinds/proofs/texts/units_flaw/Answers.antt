@@ -1,7 +1,7 @@
 use Rattle.std.proofs.Common.{List, [], ap, ◌∙◌}
 use Rattle.psl_grammar.specs.declared.tree.Statement as code_statement
-use Rattle.psl_layer_meaning.specs.FirstFlaw.{first_of}
-use Rattle.psl_layer_meaning.specs.Flaws.{statements_flaws}
+use Rattle.psl_elaboration.specs.FirstFlaw.{first_of}
+use Rattle.psl_elaboration.specs.Flaws.{statements_flaws}
 use Rattle.psl_kinds.proofs.Steps.{unit_more}
 use Rattle.psl_kinds.proofs.texts.units_flaw.Goals as goal
 

@@ -1,6 +1,6 @@
 use Rattle.std.proofs.Common.{◌≡◌, drop}
-use Rattle.psl_layer_meaning.specs.FirstFlaw.{first_of, earlier}
-use Rattle.psl_layer_meaning.specs.Flaws.{units_flaws}
+use Rattle.psl_elaboration.specs.FirstFlaw.{first_of, earlier}
+use Rattle.psl_elaboration.specs.Flaws.{units_flaws}
 use Rattle.psl_kinds.proofs.texts.units_flaw.Given as goal
 
 abbrev pub invariant-loop-unit : goal.invariant-loop-unit

@@ -1,7 +1,7 @@
 use Rattle.std.proofs.Common.{sym, subst, false}
 use Rattle.psl_layer.proofs.Owned.{unowned-asserted}
 use Rattle.psl_layer.proofs.directives.asserted.Goals as goal
-use Rattle.psl_layer_meaning.specs.Kernel.{meaning_of}
+use Rattle.psl_elaboration.specs.Kernel.{meaning_of}
 use Rattle.psl_sugar.specs.Budget.{GivesFormula}
 
 pub returns-in_default : goal.returns-in_default

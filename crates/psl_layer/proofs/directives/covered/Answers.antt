@@ -2,8 +2,8 @@ use Rattle.std.proofs.Common.{sym, subst, false, Some}
 use Rattle.psl_grammar.specs.declared.tree.Expression as code_expression
 use Rattle.psl_layer.proofs.Owned.{unowned-covered}
 use Rattle.psl_layer.proofs.directives.covered.Goals as goal
-use Rattle.psl_layer_meaning.specs.Directives.{cover_formula}
-use Rattle.psl_layer_meaning.specs.Kernel.{boolean_in, meaning_of}
+use Rattle.psl_elaboration.specs.Directives.{cover_formula}
+use Rattle.psl_elaboration.specs.Kernel.{boolean_in, meaning_of}
 use Rattle.psl_sugar.specs.Budget.{GivesFormula}
 
 pub returns-in_ok-part-in-Clocked : goal.returns-in_ok-part-in-Clocked

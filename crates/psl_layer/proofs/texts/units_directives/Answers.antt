@@ -3,7 +3,7 @@ use Rattle.psl_grammar.specs.declared.tree.Statement as code_statement
 use Rattle.psl_layer.proofs.Longer.{units_err}
 use Rattle.psl_layer.proofs.texts.units_directives.Goals as goal
 use Rattle.psl_layer.specs.Asked.{IsLonger}
-use Rattle.psl_layer_meaning.specs.Directives.{asked_in}
+use Rattle.psl_elaboration.specs.Directives.{asked_in}
 
 pub returns-in-Err : goal.returns-in-Err
 returns-in-Err c =

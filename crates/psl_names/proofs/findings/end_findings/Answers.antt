@@ -2,7 +2,7 @@ use Rattle.std.proofs.Common.{ap, sym, ◌∙◌, List, [], ◌∷◌, ◌++◌,
 use Rattle.std.proofs.lemmas.List.{take_more}
 use Rattle.std.specs.Prelude.{filter}
 use Rattle.psl_tree.specs.declared.name.Name.{Name}
-use Rattle.psl_layer_meaning.specs.LookUp.{ends_named, found_among}
+use Rattle.psl_elaboration.specs.LookUp.{ends_named, found_among}
 use Rattle.psl_names.proofs.Telling.{tells-push}
 use Rattle.psl_names.proofs.findings.end_findings.Goals as goal
 

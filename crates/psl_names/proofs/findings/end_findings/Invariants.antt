@@ -1,5 +1,5 @@
 use Rattle.std.proofs.Common.{take}
-use Rattle.psl_layer_meaning.specs.LookUp.{ends_named}
+use Rattle.psl_elaboration.specs.LookUp.{ends_named}
 use Rattle.psl_names.specs.Findings.{Tells}
 use Rattle.psl_names.proofs.findings.end_findings.Given as goal
 

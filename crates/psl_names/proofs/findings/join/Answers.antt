@@ -1,5 +1,5 @@
 use Rattle.std.proofs.Common.{ap, ◌∙◌}
-use Rattle.psl_layer_meaning.specs.declared.found.Found.{Found}
+use Rattle.psl_elaboration.specs.declared.found.Found.{Found}
 use Rattle.psl_names.specs.Joining.{joined}
 use Rattle.psl_names.proofs.Telling.{joins-written}
 use Rattle.psl_names.proofs.findings.join.Goals as goal

@@ -1,5 +1,5 @@
 use Rattle.std.proofs.Common.{take}
-use Rattle.psl_layer_meaning.specs.LookUp.{is_named}
+use Rattle.psl_elaboration.specs.LookUp.{is_named}
 use Rattle.psl_names.specs.Findings.{Tells}
 use Rattle.psl_names.proofs.findings.whole_findings.Given as goal
 

@@ -1,6 +1,6 @@
 use Rattle.std.proofs.Common.{◌≡◌, ◌∙◌, ◌<◌, ap, subst, sym, arith, length}
 use Rattle.std.proofs.lemmas.List.{length-map}
-use Rattle.alternating_meaning.specs.Obligations.{Automaton, Obligation, obligation_at}
+use Rattle.alternating_theory.specs.Obligations.{Automaton, Obligation, obligation_at}
 use Rattle.alternating.specs.Views.{obligation_of, obligations_of_code}
 use Rattle.alternating.specs.declared.obligation.Obligation as code_obligation
 use Rattle.alternating.proofs.Shown.{shown-obligation}

@@ -1,0 +1,21 @@
+ghost use Rattle.psl_tree.specs.Trees.{Formula};
+ghost use Rattle.alternating_theory.specs.Construction.{HasNoClock};
+ghost use Rattle.alternating_theory.specs.Laws.{ValuesOf, NamesOf, SizeOf};
+ghost use Rattle.alternating_theory.specs.Rows.{SizeRows};
+ghost use Rattle.alternating_theory.specs.Trimmed.{built};
+
+/// A law: the automaton that is built of a formula without clocks has on each finite word, in each of
+/// the three views, the value that satisfaction gives (IEEE 1850, Annex B); it is no larger than the
+/// formula counts, and each of its obligations is reached.
+#[tactic(auto, using(crate::proofs::LawsHold::values, crate::proofs::LawsHold::names, crate::proofs::LawsHold::size))]
+pub fn automaton_means_formula()
+    ensures values { (formula : Formula) → HasNoClock formula → ValuesOf (built formula) formula }
+    ensures names { (formula : Formula) → HasNoClock formula → NamesOf (built formula) }
+    ensures size { (formula : Formula) → HasNoClock formula → SizeOf (built formula) formula }
+{}
+
+/// Worked examples of the construction, as a law: how many obligations some formulas have.
+#[tactic(auto, using(crate::proofs::LawsHold::size_rows))]
+pub fn worked_sizes()
+    ensures { SizeRows }
+{}

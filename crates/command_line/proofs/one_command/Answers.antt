@@ -1,0 +1,5 @@
+use Rattle.command_line.proofs.Meanings.{no_command, one_meaning}
+use Rattle.command_line.proofs.one_command.Goals as goal
+
+pub returns : goal.returns
+returns c = record { one = one_meaning; refused = no_command }

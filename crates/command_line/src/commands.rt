@@ -1,0 +1,65 @@
+//! Each command with its words. A command that takes other words has a function here that describes them
+//! to `clap`, and nothing else changes.
+
+ghost use Rattle.std.specs.Prelude.{◌≡◌, ◌⊎◌, ℕ, List, map, codes, IfOk, IfErr, Some, slice_get, string_bytes};
+ghost use Rattle.command_line.specs.Numbers.{IsNumber};
+ghost use Rattle.command_line.specs.Commands.{IsCommand, IsGen, IsUnnumbered, IsUntaken, meaning_of, most_seed};
+
+use crate::number::number;
+use crate::parsing::two_words;
+use crate::{Command, WordsFault};
+use std::alloc::Global;
+
+/// The largest seed.
+const MOST_SEED: u32 = 0x7fff_ffff;
+
+/// `wave UNIT RECORDING`
+pub fn read_wave<'a>(alloc: Global, words: &'a [String]) -> Result<Command<'a>, WordsFault>
+    requires { slice_get (map string_bytes words.now) 0 ≡ Some (codes "wave") }
+    ensures command { IfOk result (λ command. (most : ℕ) → IsCommand most (map string_bytes words.entry.now) (meaning_of command)) }
+    ensures usage { IfErr result (λ fault. fault ≡ WordsFault.Usage → IsUntaken (codes "wave") (codes "unit") (codes "recording") (map string_bytes words.entry.now)) }
+{
+    match two_words(alloc, words, "wave", "unit", "recording") {
+        Ok((unit, recording)) => Ok(Command::Wave { unit, recording }),
+        Err(fault) => Err(fault),
+    }
+}
+
+/// `show UNIT NAMES`
+pub fn read_show<'a>(alloc: Global, words: &'a [String]) -> Result<Command<'a>, WordsFault>
+    requires { slice_get (map string_bytes words.now) 0 ≡ Some (codes "show") }
+    ensures command { IfOk result (λ command. (most : ℕ) → IsCommand most (map string_bytes words.entry.now) (meaning_of command)) }
+    ensures usage { IfErr result (λ fault. fault ≡ WordsFault.Usage → IsUntaken (codes "show") (codes "unit") (codes "names") (map string_bytes words.entry.now)) }
+{
+    match two_words(alloc, words, "show", "unit", "names") {
+        Ok((unit, names)) => Ok(Command::Show { unit, names }),
+        Err(fault) => Err(fault),
+    }
+}
+
+/// `gen SEED SAMPLES`
+pub fn read_gen<'a>(
+    alloc: Global,
+    words: &'a [String],
+    most_samples: u32,
+) -> Result<Command<'a>, WordsFault>
+    requires { slice_get (map string_bytes words.now) 0 ≡ Some (codes "gen") }
+    ensures command { IfOk result (λ command. IsCommand most_samples (map string_bytes words.entry.now) (meaning_of command)) }
+    ensures usage { IfErr result (λ fault. fault ≡ WordsFault.Usage → IsUntaken (codes "gen") (codes "seed") (codes "samples") (map string_bytes words.entry.now) ⊎ IsUnnumbered most_samples (map string_bytes words.entry.now)) }
+{
+    match two_words(alloc, words, "gen", "seed", "samples") {
+        Ok((seed, samples)) => gen_of(seed, samples, most_samples),
+        Err(fault) => Err(fault),
+    }
+}
+
+/// The command `gen` with these two words.
+fn gen_of<'a>(seed: &str, samples: &str, most_samples: u32) -> Result<Command<'a>, WordsFault>
+    ensures command { IfOk result (λ command. IsGen most_samples seed.now samples.now command) }
+    ensures usage { IfErr result (λ _. (first second : ℕ) → IsNumber 0 most_seed seed.now first → IsNumber 1 most_samples samples.now second → ⊥) }
+{
+    match (number(seed, 0, MOST_SEED), number(samples, 1, most_samples)) {
+        (Some(seed), Some(samples)) => Ok(Command::Gen { seed, samples }),
+        _ => Err(WordsFault::Usage),
+    }
+}

@@ -1,0 +1,90 @@
+//! The words after the program's name, read into a command. The first word names the command; `clap`
+//! reads those after it.
+#![tactic(auto)]
+
+ghost use Rattle.std.specs.Prelude.{◌≡◌, ◌∷◌, ◌<◌, ◌≤◌, ◌^◌, [], codes, decimal, ℕ, List, map, IfOk, IfErr, string_bytes};
+ghost use Rattle.command_line.specs.Commands.{IsCommand, IsNoCommand, IsRefused, Meaning, meaning_of, most_seed};
+ghost use Rattle.command_line.specs.Commands.Meaning.{wave as a_wave, gen as a_gen, show as a_show};
+ghost use Rattle.command_line.specs.Plain.{IsPlain};
+
+mod commands;
+mod number;
+mod parsing;
+#[cfg(test)]
+mod tests;
+
+use commands::{read_gen, read_show, read_wave};
+use std::alloc::Global;
+use thiserror::Error;
+
+/// What the program is asked to do. Names of files are as the words give them.
+#[derive(Clone, Copy, Debug, PartialEq, Eq)]
+pub enum Command<'a> {
+    /// Judges the assertions of a text on a recording.
+    Wave { unit: &'a str, recording: &'a str },
+
+    /// Makes a recording of so many samples from a seed below 2^31, and judges it.
+    Gen { seed: u32, samples: u32 },
+
+    /// Prints what each directive of a text means over names.
+    Show { unit: &'a str, names: &'a str },
+}
+
+/// Why words give no command.
+#[derive(Clone, Copy, Debug, PartialEq, Eq, Error)]
+pub enum WordsFault {
+    /// The first word is no command's name, or the words after it are not as the command wants them.
+    #[error("the words are no command")]
+    Usage,
+
+    /// The allocator refused memory.
+    #[error("out of memory")]
+    NoMemory,
+}
+
+/// The command that the words after the program's name say; `most_samples` is the limit on samples.
+///
+/// # Errors
+/// `Usage` where the words are no command: the first is none of `wave`, `gen` and `show`, `clap` refuses
+/// those after it, or a number is not in its decimal form or not in its range.
+pub fn read_words<'a>(
+    alloc: Global,
+    words: &'a [String],
+    most_samples: u32,
+) -> Result<Command<'a>, WordsFault>
+    // What is read is what the words say.
+    ensures command { IfOk result (λ command. IsCommand most_samples (map string_bytes words.entry.now) (meaning_of command)) }
+
+    // Words are refused only for a fault of theirs ..
+    ensures cause { IfErr result (λ fault. fault ≡ WordsFault.Usage → IsRefused most_samples (map string_bytes words.entry.now)) }
+
+    // .. and then they are no command.
+    ensures usage { IfErr result (λ fault. fault ≡ WordsFault.Usage → IsNoCommand most_samples (map string_bytes words.entry.now)) }
+{
+    let Some(first) = words.first() else {
+        return Err(WordsFault::Usage);
+    };
+    match first.as_str() {
+        "wave" => read_wave(alloc, words),
+        "gen" => read_gen(alloc, words, most_samples),
+        "show" => read_show(alloc, words),
+        _ => Err(WordsFault::Usage),
+    }
+}
+
+/// Laws of the definitions, which run nothing: words are one command at most, and none where they are
+/// refused.
+pub fn one_command()
+    ensures one { (most : ℕ) (words : List (List ℕ)) (first second : Meaning) → most < 2 ^ 32 → IsCommand most words first → IsCommand most words second → first ≡ second }
+    ensures refused { (most : ℕ) (words : List (List ℕ)) → IsRefused most words → IsNoCommand most words }
+{}
+
+/// Laws of the definitions, which run nothing. Words that do not begin with a hyphen are read as they stand,
+/// as all are behind `--`, and a number in its range is read from its decimal form.
+pub fn plain_words()
+    ensures wave { (most : ℕ) (unit recording : List ℕ) → IsPlain unit → IsPlain recording → IsCommand most (codes "wave" ∷ unit ∷ recording ∷ []) (a_wave unit recording) }
+    ensures show { (most : ℕ) (unit names : List ℕ) → IsPlain unit → IsPlain names → IsCommand most (codes "show" ∷ unit ∷ names ∷ []) (a_show unit names) }
+    ensures wave_behind { (most : ℕ) (unit recording : List ℕ) → IsCommand most (codes "wave" ∷ codes "--" ∷ unit ∷ recording ∷ []) (a_wave unit recording) }
+    ensures show_behind { (most : ℕ) (unit names : List ℕ) → IsCommand most (codes "show" ∷ codes "--" ∷ unit ∷ names ∷ []) (a_show unit names) }
+    ensures generate { (most seed samples : ℕ) → most < 2 ^ 32 → seed ≤ most_seed → 1 ≤ samples → samples ≤ most → IsCommand most (codes "gen" ∷ decimal seed ∷ decimal samples ∷ []) (a_gen seed samples) }
+{}

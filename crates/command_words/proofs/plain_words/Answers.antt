@@ -1,5 +1,0 @@
-use Rattle.command_words.proofs.Plain.{plain_gen, plain_show, plain_wave, show_behind, wave_behind}
-use Rattle.command_words.proofs.plain_words.Goals as goal
-
-pub returns : goal.returns
-returns c = record { wave = plain_wave; show = plain_show; wave_behind = wave_behind; show_behind = show_behind; generate = plain_gen }

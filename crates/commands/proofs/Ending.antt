@@ -1,0 +1,149 @@
+-- How a run ended, by what was planned and what was written: whose its fault is, what it found out, and its status.
+use Rattle.std.proofs.Common.{◌≡◌, refl, sym, ◌∙◌, ap, subst, ℕ, ◌<◌, List, Option, None, Some, arith, inl, inr}
+use Rattle.std.specs.Prelude.{◌⊎◌, Result, Ok, Err, IfOk, IfErr, IfSome}
+use Rattle.psl_base.specs.Shelf.{ShelfState}
+use Rattle.psl_base.specs.Sink.{SinkState}
+use Rattle.commands.proofs.Staging.{none-unread}
+use Rattle.commands.specs.Commands.{IsNamed, IsOfCommand}
+use Rattle.commands.specs.Endings.{status_of, reason_status, IsUnwritten, Prints, PrintsFault, EndsWith, EndsFaulted, IsDeviceStatus}
+use Rattle.commands.specs.Faults.{of_none}
+use Rattle.commands.specs.Stages.{Cause, OfWords, OfReading, OfWriting, OfText, OfMemory, cause_of, IsUnread, IsCounted}
+use Rattle.commands.specs.declared.finish.Planned.{Planned}
+use Rattle.commands.specs.declared.outcome.Fault.{Fault}
+use Rattle.commands.specs.declared.outcome.Outcome.{Outcome}
+use Rattle.commands.specs.declared.outcome.Outcome.TheVariants.{Nothing}
+use Rattle.commands.specs.declared.outcome.Reason.{Reason}
+use Rattle.commands.specs.declared.outcome.Reason.TheVariants.{Usage, ReadFault, WriteFault, NoMemory}
+
+-- a fault of writing alone has its cause
+of_writing : (reason : Reason) → cause_of reason ≡ OfWriting → reason ≡ WriteFault
+of_writing WriteFault e = refl
+of_writing Usage e = absurd (let wrong : OfWords ≡ OfWriting = e in cc)
+of_writing ReadFault e = absurd (let wrong : OfReading ≡ OfWriting = e in cc)
+of_writing NoMemory e = absurd (let wrong : OfMemory ≡ OfWriting = e in cc)
+of_writing _ e = absurd (let wrong : OfText ≡ OfWriting = e in cc)
+
+-- a line that was told raises no count
+told-still : (cause : Cause) (outcome : Outcome) (fault : Fault) (out later err after : SinkState) → (cause ≡ OfWriting → ⊥)
+    → PrintsFault cause outcome fault out later err after → (later.faults ≡ out.faults) × (after.faults ≡ err.faults)
+told-still OfWriting outcome fault out later err after other h = absurd (other refl)
+told-still OfWords outcome fault out later err after other h = (ap (λ (s : SinkState). s.faults) h.0, h.1.faults)
+told-still OfReading outcome fault out later err after other h = (ap (λ (s : SinkState). s.faults) h.0, h.1.faults)
+told-still OfText outcome fault out later err after other h = (ap (λ (s : SinkState). s.faults) h.0, h.1.faults)
+told-still OfMemory outcome fault out later err after other h = (ap (λ (s : SinkState). s.faults) h.0, h.1.faults)
+
+module _ (A B : Type 0) (outcome : Outcome) (fault : Option Fault) where
+  pub run-named : (words : List (List ℕ)) (planned : Result Planned Fault) → IfErr planned (λ f. IsNamed words f)
+      → IfOk planned (λ made. EndsWith made.outcome outcome fault (of_none WriteFault) A)
+      → IfErr planned (λ f. EndsFaulted f outcome fault (of_none NoMemory) (of_none WriteFault) B)
+      → IfSome fault (IsNamed words)
+  run-named words (Ok made) _ ends _ =
+      elim ends.fault_is [
+        | inl e ↦ subst (λ o. IfSome o (IsNamed words)) (sym e) tt
+        | inr w ↦ subst (λ o. IfSome o (IsNamed words)) (sym w.0) (inr (inl refl))
+      ]
+  run-named words (Err f) named _ ends =
+      elim ends.fault_is [
+        | inl e ↦ subst (λ o. IfSome o (IsNamed words)) (sym e) named
+        | inr other ↦ (elim other [
+          | inl e ↦ subst (λ o. IfSome o (IsNamed words)) (sym e) (inr (inr (inl refl)))
+          | inr w ↦ subst (λ o. IfSome o (IsNamed words)) (sym w.0) (inr (inl refl))
+        ])
+      ]
+
+  no-writing : (WriteFault ≡ ReadFault) → ⊥
+  no-writing e = let wrong : OfWriting ≡ OfReading = ap cause_of e in cc
+
+  no-memory : (NoMemory ≡ ReadFault) → ⊥
+  no-memory e = let wrong : OfMemory ≡ OfReading = ap cause_of e in cc
+
+  pub run-unread : (new : ShelfState) (planned : Result Planned Fault) → IfErr planned (λ f. IsUnread new f)
+      → IfOk planned (λ made. EndsWith made.outcome outcome fault (of_none WriteFault) A)
+      → IfErr planned (λ f. EndsFaulted f outcome fault (of_none NoMemory) (of_none WriteFault) B)
+      → IfSome fault (λ f. IsUnread new f)
+  run-unread new (Ok made) _ ends _ =
+      elim ends.fault_is [
+        | inl e ↦ subst (λ o. IfSome o (IsUnread new)) (sym e) tt
+        | inr w ↦ subst (λ o. IfSome o (IsUnread new)) (sym w.0) (none-unread new WriteFault (of_none WriteFault) no-writing refl)
+      ]
+  run-unread new (Err f) unread _ ends =
+      elim ends.fault_is [
+        | inl e ↦ subst (λ o. IfSome o (IsUnread new)) (sym e) unread
+        | inr other ↦ (elim other [
+          | inl e ↦ subst (λ o. IfSome o (IsUnread new)) (sym e) (none-unread new NoMemory (of_none NoMemory) no-memory refl)
+          | inr w ↦ subst (λ o. IfSome o (IsUnread new)) (sym w.0) (none-unread new WriteFault (of_none WriteFault) no-writing refl)
+        ])
+      ]
+
+  -- what was found out is what was planned, or nothing
+  pub run-command : (words : List (List ℕ)) (planned : Result Planned Fault) → IfOk planned (λ made. IsOfCommand words made.outcome)
+      → IfOk planned (λ made. EndsWith made.outcome outcome fault (of_none WriteFault) A)
+      → IfErr planned (λ f. EndsFaulted f outcome fault (of_none NoMemory) (of_none WriteFault) B)
+      → IsOfCommand words outcome
+  run-command words (Ok made) is ends _ = subst (IsOfCommand words) (sym ends.outcome_kept) is
+  run-command words (Err f) _ _ ends = subst (IsOfCommand words) (sym ends.no_outcome) tt
+
+  -- with a fault nothing was found out, unless it is of writing
+  abbrev FoundNothing : Fault → Type 0
+  FoundNothing f = (f.reason ≡ WriteFault) ⊎ (outcome ≡ Nothing)
+
+  pub run-nothing : (planned : Result Planned Fault)
+      → IfOk planned (λ made. EndsWith made.outcome outcome fault (of_none WriteFault) A)
+      → IfErr planned (λ f. EndsFaulted f outcome fault (of_none NoMemory) (of_none WriteFault) B)
+      → IfSome fault (λ f. (f.reason ≡ WriteFault) ⊎ (outcome ≡ Nothing))
+  run-nothing (Ok made) ends _ =
+      elim ends.fault_is [
+        | inl e ↦ subst (λ o. IfSome o FoundNothing) (sym e) tt
+        | inr w ↦ subst (λ o. IfSome o FoundNothing) (sym w.0) (inl refl)
+      ]
+  run-nothing (Err f) _ ends =
+      elim ends.fault_is [
+        | inl e ↦ subst (λ o. IfSome o FoundNothing) (sym e) (inr ends.no_outcome)
+        | inr other ↦ (elim other [
+          | inl e ↦ subst (λ o. IfSome o FoundNothing) (sym e) (inr ends.no_outcome)
+          | inr w ↦ subst (λ o. IfSome o FoundNothing) (sym w.0) (inl refl)
+        ])
+      ]
+
+module _ (A B : Type 0) (outcome : Outcome) (fault : Option Fault) (status : ℕ) (is : status ≡ status_of outcome fault) where
+  status-of : (f : Fault) (n : ℕ) → fault ≡ Some f → reason_status f.reason ≡ n → status ≡ n
+  status-of f n e is_n = is ∙ ap (status_of outcome) e ∙ is_n
+
+  -- a count that rose: of reading, of the output, of the error
+  abbrev Rises : ShelfState → ShelfState → SinkState → SinkState → SinkState → SinkState → Type 0
+  Rises old new out out' err err' = (old.read_faults < new.read_faults) ⊎ ((out.faults < out'.faults) ⊎ (err.faults < err'.faults))
+
+  no-rise : (old new : ShelfState) (out out' err err' : SinkState) → new.read_faults ≡ old.read_faults → out'.faults ≡ out.faults → err'.faults ≡ err.faults
+      → Rises old new out out' err err' → ⊥
+  no-rise old new out out' err err' a b c (inl lt) = omega arith
+  no-rise old new out out' err err' a b c (inr (inl lt)) = omega arith
+  no-rise old new out out' err err' a b c (inr (inr lt)) = omega arith
+
+  had-counted : (old new : ShelfState) (out out' err err' : SinkState) (f : Fault) → IsUnwritten f → fault ≡ Some f → IsCounted old new f
+      → PrintsFault (cause_of f.reason) outcome f out out' err err' → Rises old new out out' err err' → IsDeviceStatus status
+  had-counted old new out out' err err' f unwritten e (inl still) prints rises =
+      let told = told-still (cause_of f.reason) outcome f out out' err err' (λ w. unwritten (of_writing f.reason w)) prints in
+      absurd (no-rise old new out out' err err' still told.0 told.1 rises)
+  had-counted old new out out' err err' f unwritten e (inr (inl reading)) prints rises = inl (status-of f 3 e (ap reason_status reading))
+  had-counted old new out out' err err' f unwritten e (inr (inr memory)) prints rises = inr (inr (status-of f 8 e (ap reason_status memory)))
+
+  pub run-counted : (old new : ShelfState) (out out' err err' : SinkState) (planned : Result Planned Fault)
+      → IfOk planned (λ _. new.read_faults ≡ old.read_faults) → IfErr planned (λ f. IsCounted old new f) → IfErr planned (λ f. IsUnwritten f)
+      → IfOk planned (λ made. EndsWith made.outcome outcome fault (of_none WriteFault) A)
+      → IfErr planned (λ f. EndsFaulted f outcome fault (of_none NoMemory) (of_none WriteFault) B)
+      → Prints outcome fault out out' err err'
+      → (old.read_faults < new.read_faults) ⊎ ((out.faults < out'.faults) ⊎ (err.faults < err'.faults)) → IsDeviceStatus status
+  run-counted old new out out' err err' (Ok made) quiet _ _ ends _ prints rises =
+      elim ends.fault_is [
+        | inl e ↦ (let p : Prints outcome None out out' err err' = subst (λ o. Prints outcome o out out' err err') e prints in
+            absurd (no-rise old new out out' err err' quiet p.0.faults (ap (λ (s : SinkState). s.faults) p.1) rises))
+        | inr w ↦ inr (inl (status-of (of_none WriteFault) 4 w.0 refl))
+      ]
+  run-counted old new out out' err err' (Err f) _ counted unwritten _ ends prints rises =
+      elim ends.fault_is [
+        | inl e ↦ had-counted old new out out' err err' f unwritten e counted (subst (λ o. Prints outcome o out out' err err') e prints) rises
+        | inr other ↦ (elim other [
+          | inl e ↦ inr (inr (status-of (of_none NoMemory) 8 e refl))
+          | inr w ↦ inr (inl (status-of (of_none WriteFault) 4 w.0 refl))
+        ])
+      ]

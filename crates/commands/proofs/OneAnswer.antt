@@ -1,0 +1,310 @@
+-- Words over contents have one first refusal, or none.
+use Rattle.std.proofs.Common.{◌≡◌, refl, sym, ◌∙◌, ap, subst, ℕ, ◌<◌, ◌^◌, List, [], map, Option, None, Some, Ok, Err, arith, inl, inr}
+use Rattle.std.specs.Prelude.{◌⊎◌, ◌≢◌, Result}
+use Rattle.psl_base.specs.Shelf.{Contents}
+use Rattle.psl_base.specs.declared.place.Place.{Place}
+use Rattle.command_line.proofs.Meanings.{one_meaning}
+use Rattle.command_line.specs.Commands.{Meaning as meaning}
+use Rattle.psl_grammar.specs.declared.tree.UnitTree.{UnitTree}
+use Rattle.psl_grammar.specs.Surface.{tree_node}
+use Rattle.psl_layer_laws.proofs.TreeLaws.{same-tree}
+use Rattle.psl_elaboration.proofs.Resolved.{one_fault as one_layer_fault}
+use Rattle.psl_elaboration.specs.Answers.{IsUnit, IsFlawAt, IsLayerFault, numbered, first_too_large}
+use Rattle.psl_elaboration.specs.Directives.{kernel}
+use Rattle.psl_elaboration.specs.FirstFlaw.{IsFirstFlaw}
+use Rattle.psl_elaboration.specs.Flaws.{tree_flaws}
+use Rattle.psl_elaboration.specs.declared.fault.Cause.{Cause}
+use Rattle.psl_elaboration.specs.declared.fault.Cause.TheVariants as causes
+use Rattle.psl_elaboration.specs.declared.fault.Flaw.{Flaw}
+use Rattle.psl_elaboration.specs.declared.fault.LayerFault.{LayerFault}
+use Rattle.psl_elaboration.specs.declared.fault.LayerFault.TheVariants as layer
+use Rattle.psl_lexer.proofs.LawReads.{one_list, one_fault as one_lex_fault, not_both as lexed_or_not}
+use Rattle.psl_lexer.specs.Faults.{IsFirstFault as IsFirstLexFault}
+use Rattle.psl_lexer.specs.Lexed.{IsLexed}
+use Rattle.psl_lexer.specs.declared.token.Token.{Token}
+use Rattle.psl_parser.proofs.Whole.{one_parsed, one_parse_fault, not_both as parsed_or_not}
+use Rattle.psl_parser.specs.Parsing.{IsParsed, IsParseFault}
+use Rattle.psl_tree.specs.declared.directive.Directive.{Directive}
+use Rattle.psl_tree.specs.declared.name.Name.{Name}
+use Rattle.commands.proofs.Alike.{Alike, Agree, alike-err, alike-ok, agree-faults, agree-told, agree-then, agree-content}
+use Rattle.commands.proofs.SameUnits.{SameUnit, all-judgeable, same-first, same-judge_place}
+use Rattle.commands.specs.Causes.{lex_reason, lex_place, parse_reason, parse_place, layer_reason, layer_place, judge_reason, judge_place, vcd_reason, vcd_place}
+use Rattle.commands.specs.Commands.{CommandStage, FirstRefusal, IsWave, IsShow, IsGen, IsNoCommand, Waved, LinesShown}
+use Rattle.commands.specs.Faults.{of_none}
+use Rattle.commands.specs.Generated.{GeneratedStage}
+use Rattle.commands.specs.Stages.{AndThen, Then}
+use Rattle.commands.specs.Waves.{TokensReading, TreeReading, UnitReading, RecordingReading, DirectivesReading, AreJudged, JudgeReading, VerdictsReading, LinesReading, UnitStage, RecordingStage, InputsStage, WaveStage, ShowStage, line_of}
+use Rattle.commands.specs.declared.inputs.Inputs.{Inputs}
+use Rattle.commands.specs.declared.outcome.Fault.{Fault}
+use Rattle.commands.specs.declared.outcome.Line.{Line}
+use Rattle.commands.specs.declared.outcome.Outcome.{Outcome}
+use Rattle.commands.specs.declared.outcome.Outcome.TheVariants.{Wave, Shown}
+use Rattle.commands.specs.declared.outcome.Reason.TheVariants.{Usage, NoMemory}
+use Rattle.vcd_reader.specs.Meaning.{reading}
+use Rattle.vcd_reader.specs.Rules.{sample_limit}
+use Rattle.vcd_reader.specs.Sampled.{Sampled}
+use Rattle.vcd_reader.specs.declared.fault.VcdFault.{VcdFault}
+use Rattle.wave_judge.proofs.Faults.{one_fault as one_judge_fault, not_both as judged_or_not}
+use Rattle.wave_judge.specs.Faults.{IsFirstFault, IsJudgeFault}
+use Rattle.wave_judge.specs.declared.fault.JudgeFault.{JudgeFault}
+use Rattle.wave_judge.specs.declared.fault.JudgeFault.TheVariants as judge
+use Rattle.wave_judge.specs.declared.verdict.Verdict.{Verdict}
+
+-- any two values
+abbrev Any-two : {A : Type 0} → A → A → Type 0
+Any-two v w = Unit {0}
+
+-- texts
+
+one-tokens : (name bytes : List ℕ) → Agree (λ (t u : List Token). t ≡ u) (TokensReading name bytes) (TokensReading name bytes)
+one-tokens name bytes =
+    agree-told name lex_reason lex_place lex_place (IsLexed bytes) (IsLexed bytes) (IsFirstLexFault bytes) (IsFirstLexFault bytes) (λ (t u : List Token). t ≡ u)
+    (λ t u h k. one_list bytes t u h k)
+    (λ c d n m h k. let same = one_lex_fault bytes c d (λ e. n (ap lex_reason e)) (λ e. m (ap lex_reason e)) h k in (same, ap lex_place same))
+    (λ t d n h k. lexed_or_not bytes t d h (λ e. n (ap lex_reason e)) k)
+    (λ c t n h k. lexed_or_not bytes t c k (λ e. n (ap lex_reason e)) h)
+
+-- two trees of one grammar node
+abbrev SameTree : UnitTree → UnitTree → Type 0
+SameTree t u = tree_node t ≡ tree_node u
+
+one-tree : (name bytes : List ℕ) (tokens : List Token) → Agree SameTree (TreeReading name bytes tokens) (TreeReading name bytes tokens)
+one-tree name bytes tokens =
+    agree-told name parse_reason (parse_place bytes tokens) (parse_place bytes tokens) (IsParsed tokens) (IsParsed tokens) (IsParseFault tokens) (IsParseFault tokens) SameTree
+    (λ t u h k. one_parsed tokens t u h k)
+    (λ c d n m h k. let same = one_parse_fault tokens c d (λ e. n (ap parse_reason e)) (λ e. m (ap parse_reason e)) h k in (same, ap (parse_place bytes tokens) same))
+    (λ t d n h k. parsed_or_not tokens t d (λ e. n (ap parse_reason e)) h k)
+    (λ c t n h k. parsed_or_not tokens t c (λ e. n (ap parse_reason e)) k h)
+
+one-unit : (name bytes : List ℕ) → Agree SameTree (UnitReading name bytes) (UnitReading name bytes)
+one-unit name bytes =
+    agree-then (λ (t u : List Token). t ≡ u) SameTree (TokensReading name bytes) (TokensReading name bytes) (TreeReading name bytes) (TreeReading name bytes)
+    (one-tokens name bytes) (λ t u e. subst (λ (x : List Token). Agree SameTree (TreeReading name bytes t) (TreeReading name bytes x)) e (one-tree name bytes t))
+
+-- recordings
+
+ok-ok : (r s : Sampled) (x : Result Sampled VcdFault) → x ≡ Ok r → x ≡ Ok s → r ≡ s
+ok-ok r s x e f = cc
+
+err-err : (c d : VcdFault) (x : Result Sampled VcdFault) → x ≡ Err c → x ≡ Err d → c ≡ d
+err-err c d x e f = cc
+
+ok-no-err : (r : Sampled) (d : VcdFault) (x : Result Sampled VcdFault) → x ≡ Ok r → x ≡ Err d → ⊥
+ok-no-err r d x e f = cc
+
+one-recording : (name bytes : List ℕ) → Agree (λ (r s : Sampled). r ≡ s) (RecordingReading name bytes) (RecordingReading name bytes)
+one-recording name bytes =
+    agree-told name vcd_reason vcd_place vcd_place (λ sampled. reading bytes ≡ Ok sampled) (λ sampled. reading bytes ≡ Ok sampled)
+    (λ fault. reading bytes ≡ Err fault) (λ fault. reading bytes ≡ Err fault) (λ (r s : Sampled). r ≡ s)
+    (λ r s h k. ok-ok r s (reading bytes) h k)
+    (λ c d _ _ h k. let same = err-err c d (reading bytes) h k in (same, ap vcd_place same))
+    (λ r d _ h k. ok-no-err r d (reading bytes) h k) (λ c r _ h k. ok-no-err r c (reading bytes) k h)
+
+-- what is read
+pub record SameInputs (i j : Inputs) : Type 0 where
+  pub trees : tree_node i.tree ≡ tree_node j.tree
+  pub recordings : i.recording ≡ j.recording
+
+abbrev both : UnitTree → Sampled → Inputs
+both t r = record { tree = t; recording = r }
+
+one-inputs : (unit recording : List ℕ) (files : Contents) → Agree SameInputs (InputsStage unit recording files) (InputsStage unit recording files)
+one-inputs unit recording files =
+    agree-then SameTree SameInputs (UnitStage unit files) (UnitStage unit files) (λ t. after t files) (λ t. after t files)
+    (agree-content SameTree (UnitReading unit) (UnitReading unit) unit (files unit) (one-unit unit))
+    (λ t u e. agree-then (λ (r s : Sampled). r ≡ s) SameInputs (RecordingStage recording files) (RecordingStage recording files)
+    (λ r result. result ≡ Ok (both t r)) (λ r result. result ≡ Ok (both u r))
+    (agree-content (λ (r s : Sampled). r ≡ s) (RecordingReading recording) (RecordingReading recording) recording (files recording) (one-recording recording))
+    (λ r s same a b h k. alike-ok SameInputs (both t r) (both u s) a b h k (record { trees = e; recordings = same })))
+  where
+    after : UnitTree → Contents → Result Inputs Fault → Type 0
+    after t = Then (RecordingStage recording) (λ sampled files result. result ≡ Ok (record { tree = t; recording = sampled }))
+
+-- kinds and names
+
+module _ (names : List Name) (t u : UnitTree) (flaws : tree_flaws names t ≡ tree_flaws names u) (kernels : kernel names t ≡ kernel names u) where
+  moved-unit : (unit : List Directive) → IsUnit t names unit → IsUnit u names unit
+  moved-unit unit is = record {
+    no_flaw = sym flaws ∙ is.no_flaw;
+    none_too_large = ap first_too_large (sym kernels) ∙ is.none_too_large;
+    directives = is.directives ∙ ap (numbered 1) kernels;
+  }
+
+  moved-flaw : (cause : Cause) (place : Place) → IsFlawAt t names cause place → IsFlawAt u names cause place
+  moved-flaw cause place h = subst (λ (all : List Flaw). IsFirstFlaw all (Some (record { place = place; cause = cause }))) flaws h
+
+  moved-fault : (fault : LayerFault) → IsLayerFault t names fault → IsLayerFault u names fault
+  moved-fault (layer.Kind place) h = moved-flaw causes.Kind place h
+  moved-fault (layer.UnknownName place) h = moved-flaw causes.UnknownName place h
+  moved-fault (layer.Ambiguous place) h = moved-flaw causes.Ambiguous place h
+  moved-fault (layer.DeclaredTwice place) h = moved-flaw causes.DeclaredTwice place h
+  moved-fault (layer.EmptyRange place) h = moved-flaw causes.EmptyRange place h
+  moved-fault (layer.ConstantTooWide place) h = moved-flaw causes.ConstantTooWide place h
+  moved-fault (layer.TooLarge place) h = record { no_flaw = sym flaws ∙ h.no_flaw; first = ap first_too_large (sym kernels) ∙ h.first }
+  moved-fault layer.NoMemory h = h
+
+-- no fault is there
+flawless : (all : List Flaw) (flaw : Flaw) → all ≡ [] → IsFirstFlaw all (Some flaw) → ⊥
+flawless all flaw e h = let h' : IsFirstFlaw [] (Some flaw) = subst (λ (x : List Flaw). IsFirstFlaw x (Some flaw)) e h in (let lt = h'.0.2 in omega arith)
+
+none-first : (place : Place) (o : Option Place) → o ≡ None → o ≡ Some place → ⊥
+none-first place o e f = cc
+
+unit-or-fault : (t : UnitTree) (names : List Name) (unit : List Directive) (fault : LayerFault) → (layer_reason fault ≢ NoMemory) → IsUnit t names unit → IsLayerFault t names fault → ⊥
+unit-or-fault t names unit (layer.Kind place) n is h = flawless (tree_flaws names t) (record { place = place; cause = causes.Kind }) is.no_flaw h
+unit-or-fault t names unit (layer.UnknownName place) n is h = flawless (tree_flaws names t) (record { place = place; cause = causes.UnknownName }) is.no_flaw h
+unit-or-fault t names unit (layer.Ambiguous place) n is h = flawless (tree_flaws names t) (record { place = place; cause = causes.Ambiguous }) is.no_flaw h
+unit-or-fault t names unit (layer.DeclaredTwice place) n is h = flawless (tree_flaws names t) (record { place = place; cause = causes.DeclaredTwice }) is.no_flaw h
+unit-or-fault t names unit (layer.EmptyRange place) n is h = flawless (tree_flaws names t) (record { place = place; cause = causes.EmptyRange }) is.no_flaw h
+unit-or-fault t names unit (layer.ConstantTooWide place) n is h = flawless (tree_flaws names t) (record { place = place; cause = causes.ConstantTooWide }) is.no_flaw h
+unit-or-fault t names unit (layer.TooLarge place) n is h = none-first place (first_too_large (kernel names t)) is.none_too_large h.first
+unit-or-fault t names unit layer.NoMemory n is h = absurd (n refl)
+
+one-directives : (name : List ℕ) (names : List Name) (t u : UnitTree) → SameTree t u → Agree SameUnit (DirectivesReading name t names) (DirectivesReading name u names)
+one-directives name names t u same =
+    let laws = same-tree names t u same in
+    agree-told name layer_reason layer_place layer_place (IsUnit t names) (IsUnit u names) (IsLayerFault t names) (IsLayerFault u names) SameUnit
+    (λ v w h k. h.directives ∙ ap (numbered 1) laws.1 ∙ sym k.directives)
+    (λ c d n m h k.
+    let one = one_layer_fault u names c d (λ e. n (ap layer_reason e)) (λ e. m (ap layer_reason e)) (moved-fault names t u laws.0 laws.1 c h) k in (one, ap layer_place one))
+    (λ v d n h k. unit-or-fault u names v d n (moved-unit names t u laws.0 laws.1 v h) k)
+    (λ c w n h k. unit-or-fault u names w c n k (moved-fault names t u laws.0 laws.1 c h))
+
+-- verdicts
+
+first-fault : (u : List Directive) (fault : JudgeFault) → (judge_reason fault ≢ NoMemory) → IsJudgeFault u fault → IsFirstFault u fault
+first-fault u (judge.Sere n) other h = h
+first-fault u (judge.Automaton n) other h = h
+first-fault u judge.NoMemory other h = absurd (other refl)
+
+one-judged : (name : List ℕ) (r : Sampled) (u v : List Directive) → SameUnit u v → Agree (Any-two {A = List Verdict}) (JudgeReading name r u) (JudgeReading name r v)
+one-judged name r u v s =
+    agree-told name judge_reason (judge_place u) (judge_place v) (AreJudged r u) (AreJudged r v) (IsJudgeFault u) (IsJudgeFault v) (Any-two {A = List Verdict})
+    (λ _ _ _ _. tt)
+    (λ c d n m h k.
+    let one = one_judge_fault v c d (same-first u v c s (first-fault u c n h)) (first-fault v d m k) in (one, same-judge_place u v c s ∙ ap (judge_place v) one))
+    (λ w d n h k. judged_or_not v d (all-judgeable u v s h.judgeable) (first-fault v d n k))
+    (λ c w n h k. judged_or_not v c k.judgeable (same-first u v c s (first-fault u c n h)))
+
+one-verdicts : (name : List ℕ) (i j : Inputs) → SameInputs i j → Agree (Any-two {A = List Verdict}) (VerdictsReading name i) (VerdictsReading name j)
+one-verdicts name i j same =
+    subst (λ (r : Sampled). Agree (Any-two {A = List Verdict}) (VerdictsReading name i) (AndThen (DirectivesReading name j.tree r.names) (JudgeReading name r))) same.recordings
+    (agree-then SameUnit (Any-two {A = List Verdict}) (DirectivesReading name i.tree i.recording.names) (DirectivesReading name j.tree i.recording.names)
+    (JudgeReading name i.recording) (JudgeReading name i.recording)
+    (one-directives name i.recording.names i.tree j.tree same.trees) (one-judged name i.recording))
+
+one-lines : (name : List ℕ) (i j : Inputs) → SameInputs i j → Agree (Any-two {A = List Line}) (LinesReading name i) (LinesReading name j)
+one-lines name i j same =
+    subst (λ (r : Sampled). Agree (Any-two {A = List Line}) (LinesReading name i) (AndThen (DirectivesReading name j.tree r.names) (λ directives result. result ≡ Ok (map (line_of r.names) directives)))) same.recordings
+    (agree-then SameUnit (Any-two {A = List Line}) (DirectivesReading name i.tree i.recording.names) (DirectivesReading name j.tree i.recording.names)
+    (λ directives result. result ≡ Ok (map (line_of i.recording.names) directives)) (λ directives result. result ≡ Ok (map (line_of i.recording.names) directives))
+    (one-directives name i.recording.names i.tree j.tree same.trees)
+    (λ u v s a b h k. alike-ok (Any-two {A = List Line}) (map (line_of i.recording.names) u) (map (line_of i.recording.names) v) a b h k tt))
+
+-- commands
+
+one-wave : (unit recording : List ℕ) (files : Contents) → Agree (Any-two {A = Outcome}) (Then (WaveStage unit recording) Waved files) (Then (WaveStage unit recording) Waved files)
+one-wave unit recording files =
+    agree-then (Any-two {A = List Verdict}) (Any-two {A = Outcome}) (WaveStage unit recording files) (WaveStage unit recording files)
+    (λ verdicts. Waved verdicts files) (λ verdicts. Waved verdicts files)
+    (agree-then SameInputs (Any-two {A = List Verdict}) (InputsStage unit recording files) (InputsStage unit recording files) (VerdictsReading unit) (VerdictsReading unit)
+    (one-inputs unit recording files) (one-verdicts unit))
+    (λ v w _ a b h k. alike-ok (Any-two {A = Outcome}) (Wave v) (Wave w) a b h k tt)
+
+one-show : (unit names : List ℕ) (files : Contents) → Agree (Any-two {A = Outcome}) (Then (ShowStage unit names) LinesShown files) (Then (ShowStage unit names) LinesShown files)
+one-show unit names files =
+    agree-then (Any-two {A = List Line}) (Any-two {A = Outcome}) (ShowStage unit names files) (ShowStage unit names files)
+    (λ lines. LinesShown lines files) (λ lines. LinesShown lines files)
+    (agree-then SameInputs (Any-two {A = List Line}) (InputsStage unit names files) (InputsStage unit names files) (LinesReading unit) (LinesReading unit)
+    (one-inputs unit names files) (one-lines unit))
+    (λ v w _ a b h k. alike-ok (Any-two {A = Outcome}) (Shown v) (Shown w) a b h k tt)
+
+-- words are one command at most
+
+limit-small : sample_limit < 2 ^ 32
+limit-small = omega arith
+
+same-wave : (u v r s : List ℕ) → meaning.wave u r ≡ meaning.wave v s → (u ≡ v) × (r ≡ s)
+same-wave u v r s e = (cc, cc)
+
+same-show : (u v r s : List ℕ) → meaning.show u r ≡ meaning.show v s → (u ≡ v) × (r ≡ s)
+same-show u v r s e = (cc, cc)
+
+wave-show : (u r v s : List ℕ) → meaning.wave u r ≡ meaning.show v s → ⊥
+wave-show u r v s e = cc
+
+wave-gen : (u r : List ℕ) (seed samples : ℕ) → meaning.wave u r ≡ meaning.gen seed samples → ⊥
+wave-gen u r seed samples e = cc
+
+show-gen : (u r : List ℕ) (seed samples : ℕ) → meaning.show u r ≡ meaning.gen seed samples → ⊥
+show-gen u r seed samples e = cc
+
+abbrev RunsWave : List (List ℕ) → Contents → Result Outcome Fault → Type 0
+RunsWave words files result = (unit recording : List ℕ) × IsWave words unit recording × Then (WaveStage unit recording) Waved files result
+
+abbrev RunsShow : List (List ℕ) → Contents → Result Outcome Fault → Type 0
+RunsShow words files result = (unit names : List ℕ) × IsShow words unit names × Then (ShowStage unit names) LinesShown files result
+
+abbrev RunsGen : List (List ℕ) → Result Outcome Fault → Type 0
+RunsGen words result = (seed samples : ℕ) × IsGen words seed samples × GeneratedStage seed samples result
+
+abbrev Runs : List (List ℕ) → Contents → Result Outcome Fault → Type 0
+Runs words files result = RunsWave words files result ⊎ (RunsShow words files result ⊎ RunsGen words result)
+
+no-run : (words : List (List ℕ)) (files : Contents) (a : Result Outcome Fault) → IsNoCommand words → Runs words files a → ⊥
+no-run words files a none (inl (u, r, is, _)) = none.no_wave u r is
+no-run words files a none (inr (inl (u, r, is, _))) = none.no_show u r is
+no-run words files a none (inr (inr (seed, samples, is, _))) = none.no_gen seed samples is
+
+module _ (words : List (List ℕ)) (files : Contents) (a b : Result Outcome Fault) where
+  -- both are one command
+  abbrev Same-run : Type 0
+  Same-run = Alike (Any-two {A = Outcome}) a b
+
+  waves : RunsWave words files a → RunsWave words files b → Same-run
+  waves (u, r, is, h) (v, s, is', k) =
+      let same = same-wave u v r s (one_meaning sample_limit words (meaning.wave u r) (meaning.wave v s) limit-small is is') in
+      one-wave v s files a b
+      (subst (λ (q : List ℕ). Then (WaveStage v q) Waved files a) same.1 (subst (λ (q : List ℕ). Then (WaveStage q r) Waved files a) same.0 h)) k
+
+  shows : RunsShow words files a → RunsShow words files b → Same-run
+  shows (u, r, is, h) (v, s, is', k) =
+      let same = same-show u v r s (one_meaning sample_limit words (meaning.show u r) (meaning.show v s) limit-small is is') in
+      one-show v s files a b
+      (subst (λ (q : List ℕ). Then (ShowStage v q) LinesShown files a) same.1 (subst (λ (q : List ℕ). Then (ShowStage q r) LinesShown files a) same.0 h)) k
+
+  gens : RunsGen words a → RunsGen words b → Same-run
+  gens (_, _, _, (v, _, e)) (_, _, _, (w, _, f)) = alike-ok (Any-two {A = Outcome}) _ _ a b e f tt
+
+-- and not two
+not-wave-show : (words : List (List ℕ)) (files : Contents) (a b : Result Outcome Fault) → RunsWave words files a → RunsShow words files b → ⊥
+not-wave-show words files a b (u, r, is, _) (v, s, is', _) = wave-show u r v s (one_meaning sample_limit words (meaning.wave u r) (meaning.show v s) limit-small is is')
+
+not-wave-gen : (words : List (List ℕ)) (files : Contents) (a b : Result Outcome Fault) → RunsWave words files a → RunsGen words b → ⊥
+not-wave-gen words files a b (u, r, is, _) (seed, samples, is', _) =
+    wave-gen u r seed samples (one_meaning sample_limit words (meaning.wave u r) (meaning.gen seed samples) limit-small is is')
+
+not-show-gen : (words : List (List ℕ)) (files : Contents) (a b : Result Outcome Fault) → RunsShow words files a → RunsGen words b → ⊥
+not-show-gen words files a b (u, r, is, _) (seed, samples, is', _) =
+    show-gen u r seed samples (one_meaning sample_limit words (meaning.show u r) (meaning.gen seed samples) limit-small is is')
+
+one-run : (words : List (List ℕ)) (files : Contents) → Agree (Any-two {A = Outcome}) (Runs words files) (Runs words files)
+one-run words files a b (inl h) (inl k) = waves words files a b h k
+one-run words files a b (inl h) (inr (inl k)) = absurd (not-wave-show words files a b h k)
+one-run words files a b (inl h) (inr (inr k)) = absurd (not-wave-gen words files a b h k)
+one-run words files a b (inr (inl h)) (inl k) = absurd (not-wave-show words files b a k h)
+one-run words files a b (inr (inl h)) (inr (inl k)) = shows words files a b h k
+one-run words files a b (inr (inl h)) (inr (inr k)) = absurd (not-show-gen words files a b h k)
+one-run words files a b (inr (inr h)) (inl k) = absurd (not-wave-gen words files b a k h)
+one-run words files a b (inr (inr h)) (inr (inl k)) = absurd (not-show-gen words files b a k h)
+one-run words files a b (inr (inr h)) (inr (inr k)) = gens words files a b h k
+
+one-command : (words : List (List ℕ)) (files : Contents) → Agree (Any-two {A = Outcome}) (CommandStage words files) (CommandStage words files)
+one-command words files a b (inl (_, e)) (inl (_, f)) = alike-err (Any-two {A = Outcome}) (of_none Usage) (of_none Usage) a b e f refl
+one-command words files a b (inl (n, _)) (inr runs) = absurd (no-run words files b n runs)
+one-command words files a b (inr runs) (inl (n, _)) = absurd (no-run words files a n runs)
+one-command words files a b (inr h) (inr k) = one-run words files a b h k
+
+pub one-first : (words : List (List ℕ)) (files : Contents) (a b : Option Fault) → FirstRefusal words files a → FirstRefusal words files b → a ≡ b
+one-first words files a b (r, h, e) (s, k, f) =
+    e ∙ agree-faults (Any-two {A = Outcome}) (CommandStage words files) (CommandStage words files) (one-command words files) r s h k ∙ sym f

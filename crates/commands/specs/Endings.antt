@@ -1,0 +1,103 @@
+-- How a run ends: its status, what it prints, and why a fault came.
+use Rattle.std.specs.Prelude.{◌≡◌, ◌≢◌, ◌⊎◌, Bool, true, false, ◌||◌, ℕ, List, Option, None, Some, if◌then◌else◌}
+use Rattle.std.specs.List.{list_all}
+use Rattle.psl_base.specs.Shelf.{Contents, ShelfState}
+use Rattle.psl_base.specs.Sink.{SinkState, AddsAll, AddsPart}
+use Rattle.psl_tree.specs.declared.directive.Kind.{Kind}
+use Rattle.psl_tree.specs.declared.directive.Kind.TheVariants.{Assert, Assume, Cover}
+use Rattle.commands.specs.Stages.{Cause, OfWriting, cause_of, OfTold, HasCause}
+use Rattle.commands.specs.Text.{text_of, line_of}
+use Rattle.commands.specs.declared.outcome.Fault.{Fault}
+use Rattle.commands.specs.declared.outcome.Outcome.{Outcome}
+use Rattle.commands.specs.declared.outcome.Outcome.TheVariants.{Nothing, Wave, Shown, Made}
+use Rattle.commands.specs.declared.outcome.Reason.{Reason}
+use Rattle.commands.specs.declared.outcome.Reason.TheVariants.{Usage, ReadFault, WriteFault, TooLong, NoMemory, TooLarge, SereTooLarge, AutomatonTooLarge, NestedTooDeep, StatementTooLong, TooManySamples, TooManySignals}
+use Rattle.wave_judge.specs.declared.verdict.Verdict.{Verdict}
+
+-- a cover may be neutral no
+abbrev pub may_be_no : Kind → Bool
+may_be_no Assert = false
+may_be_no Assume = false
+may_be_no Cover = true
+
+-- the neutral verdict is yes, or it need not be
+abbrev pub passes : Verdict → Bool
+passes verdict = verdict.neutral || may_be_no verdict.kind
+
+-- 0 where each assert and assume is neutral yes, else 1
+abbrev pub verdicts_status : List Verdict → ℕ
+verdicts_status verdicts = if list_all passes verdicts then 0 else 1
+
+abbrev pub outcome_status : Outcome → ℕ
+outcome_status Nothing = 0
+outcome_status (Wave verdicts) = verdicts_status verdicts
+outcome_status (Shown lines) = 0
+outcome_status (Made seed samples bytes verdicts) = verdicts_status verdicts
+
+-- 2 for the words, 3 for reading, 4 for writing, 7 for a limit, 8 for memory, and 5 for the other faults of a text
+abbrev pub reason_status : Reason → ℕ
+reason_status Usage = 2
+reason_status ReadFault = 3
+reason_status WriteFault = 4
+reason_status TooLong = 7
+reason_status TooLarge = 7
+reason_status SereTooLarge = 7
+reason_status AutomatonTooLarge = 7
+reason_status NestedTooDeep = 7
+reason_status StatementTooLong = 7
+reason_status TooManySamples = 7
+reason_status TooManySignals = 7
+reason_status NoMemory = 8
+reason_status _ = 5
+
+-- the status of a run, from what it found out or from its fault
+abbrev pub status_of : Outcome → Option Fault → ℕ
+status_of outcome None = outcome_status outcome
+status_of _ (Some fault) = reason_status fault.reason
+
+-- a fault has its cause; where there is none, nothing is refused
+abbrev pub Explained : Type 0 → ShelfState → ShelfState → (Contents → Option Fault → Type 0) → Option Fault → Type 0
+Explained _ old _ Refusal None = OfTold old (λ files. Refusal files None)
+Explained write_cause old new Refusal (Some fault) =
+    HasCause (cause_of fault.reason) write_cause old new (λ files. Refusal files (Some fault))
+
+-- the fault is want of memory
+abbrev pub IsOutOfMemory : Option Fault → Type 0
+IsOutOfMemory None = ⊥
+IsOutOfMemory (Some fault) = fault.reason ≡ NoMemory
+
+-- the fault is none of writing
+abbrev pub IsUnwritten : Fault → Type 0
+IsUnwritten fault = fault.reason ≢ WriteFault
+
+-- a line was added whole, or only its first bytes were before a fault
+abbrev pub AddsSome : List ℕ → SinkState → SinkState → Type 0
+AddsSome line old new = AddsAll line old new ⊎ AddsPart line old new
+
+-- What is added to the two outputs by the end of a run. Without a fault the outcome's text, whole, and
+-- nothing else. With one the fault's line, whole, on the second output and nothing on the first; but
+-- where writing failed, the first bytes of the outcome's text and of the fault's line, or the first
+-- bytes of some fault's line alone.
+abbrev pub PrintsFault : Cause → Outcome → Fault → SinkState → SinkState → SinkState → SinkState → Type 0
+PrintsFault OfWriting outcome fault out out' err err' =
+    (AddsPart (text_of outcome) out out' × AddsSome (line_of fault) err err')
+    ⊎ ((out' ≡ out) × ((other : Fault) × AddsPart (line_of other) err err'))
+PrintsFault _ _ fault out out' err err' = (out' ≡ out) × AddsAll (line_of fault) err err'
+
+abbrev pub Prints : Outcome → Option Fault → SinkState → SinkState → SinkState → SinkState → Type 0
+Prints outcome None out out' err err' = AddsAll (text_of outcome) out out' × (err' ≡ err)
+Prints outcome (Some fault) out out' err err' = PrintsFault (cause_of fault.reason) outcome fault out out' err err'
+
+-- the two outputs after a run that had found this out: its text was printed, or writing failed
+pub record EndsWith (found : Outcome) (outcome : Outcome) (fault : Option Fault) (written : Fault) (write_cause : Type 0) : Type 0 where
+  pub outcome_kept : outcome ≡ found
+  pub fault_is : (fault ≡ None) ⊎ ((fault ≡ Some written) × write_cause)
+
+-- the same after a run that had this fault: it was told, or its line could not be made, or not be written
+pub record EndsFaulted (had : Fault) (outcome : Outcome) (fault : Option Fault) (unmade written : Fault) (write_cause : Type 0) : Type 0 where
+  pub no_outcome : outcome ≡ Nothing
+  pub fault_is : (fault ≡ Some had) ⊎ ((fault ≡ Some unmade) ⊎ ((fault ≡ Some written) × write_cause))
+
+-- the status of a run that a file, an output or memory failed
+abbrev pub IsDeviceStatus : ℕ → Type 0
+IsDeviceStatus status = (status ≡ 3) ⊎ ((status ≡ 4) ⊎ (status ≡ 8))

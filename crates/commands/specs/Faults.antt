@@ -1,0 +1,22 @@
+-- Faults, with the file and the place that they are of, or without.
+use Rattle.std.specs.Prelude.{List, ℕ, Option, Result, Ok, Err, None, Some}
+use Rattle.psl_base.specs.declared.place.Place.{Place}
+use Rattle.commands.specs.declared.outcome.Fault.{Fault}
+use Rattle.commands.specs.declared.outcome.Reason.{Reason}
+
+-- a fault of a file, perhaps at a place of it
+abbrev pub fault_in : List ℕ → Reason → Option Place → Fault
+fault_in name reason place = record { reason = reason; file = Some name; place = place }
+
+-- a fault of a whole file
+abbrev pub of_file : Reason → List ℕ → Fault
+of_file reason name = fault_in name reason None
+
+-- a fault of no file
+abbrev pub of_none : Reason → Fault
+of_none reason = record { reason = reason; file = None; place = None }
+
+-- the fault of a result, where it has one
+abbrev pub fault_of : {A : Type 0} → Result A Fault → Option Fault
+fault_of (Ok _) = None
+fault_of (Err fault) = Some fault

@@ -1,0 +1,94 @@
+-- What the commands over a text and a recording give: the verdicts of the text's directives on the recording, and
+-- what the directives mean over its names.
+use Rattle.std.specs.Prelude.{◌≡◌, ℕ, List, map, None, Result, Ok, Err}
+use Rattle.psl_base.specs.Shelf.{Contents}
+use Rattle.psl_grammar.specs.declared.tree.UnitTree.{UnitTree}
+use Rattle.psl_elaboration.specs.Answers.{IsUnit, IsLayerFault}
+use Rattle.psl_lexer.specs.declared.token.Token.{Token}
+use Rattle.psl_lexer.specs.Faults.{IsFirstFault}
+use Rattle.psl_lexer.specs.Lexed.{IsLexed}
+use Rattle.psl_meaning.specs.Plain.{plain}
+use Rattle.psl_parser.specs.Parsing.{IsParsed, IsParseFault}
+use Rattle.psl_tree.specs.CanonicalText.{formula_text}
+use Rattle.psl_tree.specs.Counts.{obligations_of, shown}
+use Rattle.psl_tree.specs.declared.directive.Directive.{Directive}
+use Rattle.psl_tree.specs.declared.name.Name.{Name}
+use Rattle.psl_tree.specs.Trees.{formula_of}
+use Rattle.commands.specs.Causes.{lex_reason, lex_place, parse_reason, parse_place, layer_reason, layer_place, judge_reason, judge_place, vcd_reason, vcd_place}
+use Rattle.commands.specs.Stages.{AndThen, Then, OfFile, ToldBy}
+use Rattle.commands.specs.declared.inputs.Inputs.{Inputs}
+use Rattle.commands.specs.declared.outcome.Fault.{Fault}
+use Rattle.commands.specs.declared.outcome.Line.{Line}
+use Rattle.vcd_reader.specs.Meaning.{reading}
+use Rattle.vcd_reader.specs.Sampled.{Sampled, letters_of}
+use Rattle.wave_judge.specs.Faults.{IsJudgeable, IsJudgeFault}
+use Rattle.wave_judge.specs.Judged.{AreVerdicts}
+use Rattle.wave_judge.specs.declared.verdict.Verdict.{Verdict}
+use Rattle.std.specs.Prelude.{All}
+
+-- the tokens of a text, or its first fault
+abbrev pub TokensReading : List ℕ → List ℕ → Result (List Token) Fault → Type 0
+TokensReading name content = ToldBy name lex_reason lex_place (IsLexed content) (IsFirstFault content)
+
+-- the tree of tokens, or the first token with a fault
+abbrev pub TreeReading : List ℕ → List ℕ → List Token → Result UnitTree Fault → Type 0
+TreeReading name content tokens = ToldBy name parse_reason (parse_place content tokens) (IsParsed tokens) (IsParseFault tokens)
+
+-- the tree of a text
+abbrev pub UnitReading : List ℕ → List ℕ → Result UnitTree Fault → Type 0
+UnitReading name content = AndThen (TokensReading name content) (TreeReading name content)
+
+abbrev pub UnitStage : List ℕ → Contents → Result UnitTree Fault → Type 0
+UnitStage name = OfFile (UnitReading name) name
+
+-- the values of a recording, or its first fault
+abbrev pub RecordingReading : List ℕ → List ℕ → Result Sampled Fault → Type 0
+RecordingReading name content = ToldBy name vcd_reason vcd_place (λ sampled. reading content ≡ Ok sampled) (λ fault. reading content ≡ Err fault)
+
+abbrev pub RecordingStage : List ℕ → Contents → Result Sampled Fault → Type 0
+RecordingStage name = OfFile (RecordingReading name) name
+
+-- both
+abbrev pub InputsStage : List ℕ → List ℕ → Contents → Result Inputs Fault → Type 0
+InputsStage unit recording =
+    Then (UnitStage unit) (λ tree. Then (RecordingStage recording) (λ sampled files result. result ≡ Ok (record { tree = tree; recording = sampled })))
+
+-- the directives of a text over names, or the first fault of kinds and names
+abbrev pub DirectivesReading : List ℕ → UnitTree → List Name → Result (List Directive) Fault → Type 0
+DirectivesReading name tree names = ToldBy name layer_reason layer_place (IsUnit tree names) (IsLayerFault tree names)
+
+-- the directives can be judged, and these are their verdicts on the recording
+pub record AreJudged (sampled : Sampled) (directives : List Directive) (verdicts : List Verdict) : Type 0 where
+  pub judgeable : All IsJudgeable directives
+  pub verdicts_are : AreVerdicts (letters_of sampled) directives verdicts
+
+-- the verdicts of directives, or the first directive that is too large to be judged
+abbrev pub JudgeReading : List ℕ → Sampled → List Directive → Result (List Verdict) Fault → Type 0
+JudgeReading name sampled directives = ToldBy name judge_reason (judge_place directives) (AreJudged sampled directives) (IsJudgeFault directives)
+
+-- the verdicts of a text on a recording
+abbrev pub VerdictsReading : List ℕ → Inputs → Result (List Verdict) Fault → Type 0
+VerdictsReading name inputs = AndThen (DirectivesReading name inputs.tree inputs.recording.names) (JudgeReading name inputs.recording)
+
+-- what a directive means: its formula's canonical text, and how many obligations that has where its clocks are rewritten away
+abbrev pub line_of : List Name → Directive → Line
+line_of names directive = record {
+  number = directive.number;
+  kind = directive.kind;
+  label = directive.label;
+  text = formula_text names (formula_of directive.formula);
+  obligations = shown (obligations_of (plain (formula_of directive.formula) None));
+}
+
+-- what the directives of a text mean over the names of a recording
+abbrev pub LinesReading : List ℕ → Inputs → Result (List Line) Fault → Type 0
+LinesReading name inputs =
+    AndThen (DirectivesReading name inputs.tree inputs.recording.names) (λ directives result. result ≡ Ok (map (line_of inputs.recording.names) directives))
+
+-- `wave UNIT RECORDING`
+abbrev pub WaveStage : List ℕ → List ℕ → Contents → Result (List Verdict) Fault → Type 0
+WaveStage unit recording = Then (InputsStage unit recording) (λ inputs files. VerdictsReading unit inputs)
+
+-- `show UNIT NAMES`
+abbrev pub ShowStage : List ℕ → List ℕ → Contents → Result (List Line) Fault → Type 0
+ShowStage unit names = Then (InputsStage unit names) (λ inputs files. LinesReading unit inputs)

@@ -1,0 +1,159 @@
+ghost use Rattle.std.specs.Prelude.{◌≡◌, ◌⊎◌, None, Some, IfOk, IfErr};
+ghost use Rattle.std.specs.List.{list_all};
+ghost use Rattle.std.specs.Result.{ForOk, ForErr};
+ghost use Rattle.psl_base.specs.Faults.{Rose};
+ghost use Rattle.psl_base.specs.Sink.{SinkState};
+ghost use Rattle.commands.specs.Endings.{status_of, reason_status, outcome_status, verdicts_status, passes, may_be_no, IsUnwritten, Prints, AddsSome, EndsWith, EndsFaulted};
+ghost use Rattle.commands.specs.Faults.{of_none};
+ghost use Rattle.commands.specs.Text.{text_of, line_of};
+
+use crate::outcome::{Fault, Outcome, Reason, Report};
+use crate::report::fault_line;
+use crate::telling::of_none;
+use psl_base::{Bytes, Sink, put_all};
+use psl_tree::Kind;
+use std::alloc::Global;
+use wave_judge::Verdict;
+
+/// What a run found out, and the text that is to be printed of it.
+#[derive(Debug, Drop)]
+pub struct Planned {
+    pub outcome: Outcome,
+    pub text: Bytes,
+}
+
+/// Prints the text of an outcome, or a fault's line, and tells how the run ended. Once something is
+/// written, no memory is taken.
+pub fn finish<O: Sink, E: Sink>(
+    alloc: Global,
+    planned: Result<Planned, Fault>,
+    out: &mut O,
+    err: &mut E,
+) -> Report
+    requires text { ForOk planned (λ made. made.text ≡ text_of made.outcome) }
+    requires unwritten { ForErr planned (λ fault. IsUnwritten fault) }
+
+    ensures status { result.status ≡ status_of result.outcome result.fault }
+    ensures printed { Prints result.outcome result.fault (O.state out.old) (O.state out.new) (E.state err.old) (E.state err.new) }
+    ensures made { IfOk planned (λ made. EndsWith made.outcome result.outcome result.fault (of_none Reason.WriteFault) (Rose (O.state out.old).faults (O.state out.new).faults)) }
+    ensures faulted { IfErr planned (λ fault. EndsFaulted fault result.outcome result.fault (of_none Reason.NoMemory) (of_none Reason.WriteFault) (Rose (E.state err.old).faults (E.state err.new).faults)) }
+{
+    match planned {
+        Ok(made) => finish_outcome(made, out, err),
+        Err(fault) => finish_fault(alloc, fault, err),
+    }
+}
+
+fn finish_outcome<O: Sink, E: Sink>(made: Planned, out: &mut O, err: &mut E) -> Report
+    requires text { made.text ≡ text_of made.outcome }
+
+    ensures status { result.status ≡ status_of result.outcome result.fault }
+    ensures printed { Prints result.outcome result.fault (O.state out.old) (O.state out.new) (E.state err.old) (E.state err.new) }
+    ensures made { EndsWith made.outcome result.outcome result.fault (of_none Reason.WriteFault) (Rose (O.state out.old).faults (O.state out.new).faults) }
+{
+    let Planned { outcome, text } = made;
+    if let Err(_) = put_all(out, text.as_slice()) {
+        tell_write_fault(err);
+        return Report {
+            status: 4,
+            outcome,
+            fault: Some(of_none(Reason::WriteFault)),
+        };
+    }
+    Report {
+        status: status_of_outcome(&outcome),
+        outcome,
+        fault: None,
+    }
+}
+
+fn tell_write_fault<E: Sink>(err: &mut E)
+    ensures { AddsSome (line_of (of_none Reason.WriteFault)) (E.state err.old) (E.state err.new) }
+{
+    let _ = put_all(err, b"pslc: write fault\n");
+}
+
+fn finish_fault<E: Sink>(alloc: Global, fault: Fault, err: &mut E) -> Report
+    requires unwritten { IsUnwritten fault }
+
+    ensures status { result.status ≡ status_of result.outcome result.fault }
+    ensures printed { (out : SinkState) → Prints result.outcome result.fault out out (E.state err.old) (E.state err.new) }
+    ensures faulted { EndsFaulted fault result.outcome result.fault (of_none Reason.NoMemory) (of_none Reason.WriteFault) (Rose (E.state err.old).faults (E.state err.new).faults) }
+{
+    match fault_line(alloc, &fault) {
+        Ok(line) => tell(fault, line.as_slice(), err),
+        Err(_) => tell(of_none(Reason::NoMemory), b"pslc: no memory\n", err),
+    }
+}
+
+fn tell<E: Sink>(fault: Fault, line: &[u8], err: &mut E) -> Report
+    requires unwritten { IsUnwritten fault }
+    requires line { line.now ≡ line_of fault }
+
+    ensures status { result.status ≡ status_of result.outcome result.fault }
+    ensures printed { (out : SinkState) → Prints result.outcome result.fault out out (E.state err.old) (E.state err.new) }
+    ensures faulted { EndsFaulted fault result.outcome result.fault (of_none Reason.NoMemory) (of_none Reason.WriteFault) (Rose (E.state err.old).faults (E.state err.new).faults) }
+{
+    match put_all(err, line) {
+        Ok(()) => Report {
+            status: status_of_reason(fault.reason),
+            outcome: Outcome::Nothing,
+            fault: Some(fault),
+        },
+        Err(_) => Report {
+            status: 4,
+            outcome: Outcome::Nothing,
+            fault: Some(of_none(Reason::WriteFault)),
+        },
+    }
+}
+
+fn status_of_outcome(outcome: &Outcome) -> u8
+    ensures { result ≡ outcome_status outcome.now }
+{
+    match outcome {
+        Outcome::Nothing | Outcome::Shown(_) => 0,
+        Outcome::Wave(verdicts) | Outcome::Made(_, _, _, verdicts) => {
+            status_of_verdicts(verdicts.as_slice())
+        }
+    }
+}
+
+fn status_of_verdicts(verdicts: &[Verdict]) -> u8
+    ensures { result ≡ verdicts_status verdicts.now }
+{
+    if all_pass(verdicts) { 0 } else { 1 }
+}
+
+fn all_pass(verdicts: &[Verdict]) -> bool
+    ensures { result ≡ list_all passes verdicts.now }
+{
+    verdicts.iter().all(|verdict| passes(verdict))
+}
+
+fn passes(verdict: &Verdict) -> bool
+    ensures { result ≡ passes verdict.now }
+{
+    verdict.neutral || verdict.kind as u8 == Kind::Cover as u8
+}
+
+/// The status of a run that ended with a fault.
+fn status_of_reason(reason: Reason) -> u8
+    ensures { result ≡ reason_status reason }
+{
+    match reason {
+        Reason::Usage => 2,
+        Reason::ReadFault => 3,
+        Reason::WriteFault => 4,
+        Reason::TooLong
+        | Reason::TooLarge
+        | Reason::SereTooLarge
+        | Reason::AutomatonTooLarge
+        | Reason::NestedTooDeep
+        | Reason::StatementTooLong
+        | Reason::TooManySamples
+        | Reason::TooManySignals => 7,
+        Reason::NoMemory => 8,
+        _ => 5,
+    }
+}

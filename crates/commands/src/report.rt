@@ -1,0 +1,227 @@
+ghost use Rattle.std.specs.Prelude.{◌≡◌, ◌++◌, IfOk, OnOk, decimal};
+ghost use Rattle.std.specs.List.{flat_map};
+ghost use Rattle.commands.specs.Text.{text_of, line_of, made_line, meaning_line, verdict_line, head, label_part, kind_word, level_words, answer_word, about, fault_words};
+
+use crate::outcome::{Fault, Line, Outcome, Reason};
+use itoa::Buffer;
+use psl_base::{Bytes, NoMemory, Place, Text};
+use psl_tree::Kind;
+use std::alloc::Global;
+use wave_judge::{Level, Verdict, level};
+
+/// The bytes that are printed of an outcome: a line for each directive.
+pub fn report(alloc: Global, outcome: &Outcome) -> Result<Bytes, NoMemory>
+    ensures { IfOk result (λ text. text ≡ text_of outcome.now) }
+{
+    let mut text = Vec::new(alloc);
+    match outcome {
+        Outcome::Nothing => {}
+        Outcome::Wave(verdicts) => add_verdicts(&mut text, verdicts.as_slice())?,
+        Outcome::Shown(lines) => add_meanings(&mut text, lines.as_slice())?,
+        Outcome::Made(seed, samples, bytes, verdicts) => {
+            add_made(&mut text, *seed, *samples, *bytes)?;
+            add_verdicts(&mut text, verdicts.as_slice())?;
+        }
+    }
+    Ok(Bytes::from_vec(text))
+}
+
+/// The line of a fault.
+pub fn fault_line(alloc: Global, fault: &Fault) -> Result<Bytes, NoMemory>
+    ensures { IfOk result (λ line. line ≡ line_of fault.now) }
+{
+    let mut line = Vec::new(alloc);
+    add(&mut line, b"pslc: ")?;
+    add_about(&mut line, &fault.file, &fault.place, words_of(fault.reason))?;
+    add(&mut line, b"\n")?;
+    Ok(Bytes::from_vec(line))
+}
+
+/// The name of a file, perhaps with a place, and what is said of it.
+fn add_about(
+    line: &mut Vec<u8>,
+    file: &Option<Text>,
+    place: &Option<Place>,
+    words: &[u8],
+) -> Result<(), NoMemory>
+    ensures { OnOk result (line.new.items ≡ line.old.items ++ about file.now place.now words.now) }
+{
+    let Some(file) = file else {
+        return add(line, words);
+    };
+    add(line, file.as_slice())?;
+    if let Some(place) = place {
+        add(line, b":")?;
+        add_number(line, place.line as u64)?;
+        add(line, b":")?;
+        add_number(line, place.column as u64)?;
+    }
+    add(line, b": ")?;
+    add(line, words)
+}
+
+fn add_number(line: &mut Vec<u8>, number: u64) -> Result<(), NoMemory>
+    ensures { OnOk result (line.new.items ≡ line.old.items ++ decimal number) }
+{
+    add(line, Buffer::new().format(number).as_bytes())
+}
+
+/// What is said of a fault.
+pub fn words_of(reason: Reason) -> &'static [u8]
+    ensures { result.now ≡ fault_words reason }
+{
+    match reason {
+        Reason::Usage => b"usage: pslc wave|prove|check|show|gen ARGUMENTS",
+        Reason::ReadFault => b"read fault",
+        Reason::WriteFault => b"write fault",
+        Reason::TooLong => b"TooLong",
+        Reason::NoMemory => b"no memory",
+        Reason::BadByte => b"1 BadByte",
+        Reason::Unended => b"2 Unended",
+        Reason::NumberTooLarge => b"3 NumberTooLarge",
+        Reason::Syntax => b"5 Syntax",
+        Reason::Kind => b"6 Kind",
+        Reason::UnknownName => b"7 UnknownName",
+        Reason::Ambiguous => b"8 Ambiguous",
+        Reason::DeclaredTwice => b"9 DeclaredTwice",
+        Reason::EmptyRange => b"10 EmptyRange",
+        Reason::ConstantTooWide => b"11 ConstantTooWide",
+        Reason::TooLarge => b"12 TooLarge",
+        Reason::SereTooLarge => b"13 SereTooLarge",
+        Reason::AutomatonTooLarge => b"14 AutomatonTooLarge",
+        Reason::NestedTooDeep => b"16 NestedTooDeep",
+        Reason::StatementTooLong => b"17 StatementTooLong",
+        Reason::UnknownKeyword => b"V1 UnknownKeyword",
+        Reason::MissingEnd => b"V2 MissingEnd",
+        Reason::BadVar => b"V3 BadVar",
+        Reason::CodeSizeDiffers => b"V4 CodeSizeDiffers",
+        Reason::ScopeNotOpen => b"V5 ScopeNotOpen",
+        Reason::BadTime => b"V6 BadTime",
+        Reason::TimeFalls => b"V7 TimeFalls",
+        Reason::CodeNotDeclared => b"V8 CodeNotDeclared",
+        Reason::BadValue => b"V9 BadValue",
+        Reason::VectorTooLong => b"V10 VectorTooLong",
+        Reason::ChangeBeforeDefinitionsEnd => b"V11 ChangeBeforeDefinitionsEnd",
+        Reason::EndsInside => b"V12 EndsInside",
+        Reason::TooManySamples => b"V13 TooManySamples",
+        Reason::TooManySignals => b"V14 TooManySignals",
+    }
+}
+
+/// The line that says what was made.
+fn add_made(text: &mut Vec<u8>, seed: u64, samples: u32, bytes: u64) -> Result<(), NoMemory>
+    ensures { OnOk result (text.new.items ≡ text.old.items ++ made_line seed samples bytes) }
+{
+    add(text, b"gen ")?;
+    add_number(text, seed)?;
+    add(text, b" ")?;
+    add_number(text, samples as u64)?;
+    add(text, b" bytes ")?;
+    add_number(text, bytes)?;
+    add(text, b"\n")
+}
+
+fn add_meanings(text: &mut Vec<u8>, lines: &[Line]) -> Result<(), NoMemory>
+    ensures { OnOk result (text.new.items ≡ text.old.items ++ flat_map meaning_line lines.now) }
+{
+    for line in lines {
+        add_meaning(text, line)?;
+    }
+    Ok(())
+}
+
+fn add_meaning(text: &mut Vec<u8>, meaning: &Line) -> Result<(), NoMemory>
+    ensures { OnOk result (text.new.items ≡ text.old.items ++ meaning_line meaning.now) }
+{
+    add_head(text, meaning.kind, meaning.number, &meaning.label)?;
+    add(text, meaning.text.as_slice())?;
+    add(text, b" obligations ")?;
+    add_number(text, meaning.obligations)?;
+    add(text, b"\n")
+}
+
+fn add_verdicts(text: &mut Vec<u8>, verdicts: &[Verdict]) -> Result<(), NoMemory>
+    ensures { OnOk result (text.new.items ≡ text.old.items ++ flat_map verdict_line verdicts.now) }
+{
+    for verdict in verdicts {
+        add_verdict(text, verdict)?;
+    }
+    Ok(())
+}
+
+fn add_verdict(text: &mut Vec<u8>, verdict: &Verdict) -> Result<(), NoMemory>
+    ensures { OnOk result (text.new.items ≡ text.old.items ++ verdict_line verdict.now) }
+{
+    add_head(text, verdict.kind, verdict.number, &verdict.label)?;
+    add(text, level_text(level(verdict)))?;
+    add(text, b" (weak ")?;
+    add(text, answer(verdict.weak))?;
+    add(text, b", neutral ")?;
+    add(text, answer(verdict.neutral))?;
+    add(text, b", strong ")?;
+    add(text, answer(verdict.strong))?;
+    add(text, b")\n")
+}
+
+fn add_head(
+    text: &mut Vec<u8>,
+    kind: Kind,
+    number: u32,
+    label: &Option<Text>,
+) -> Result<(), NoMemory>
+    ensures { OnOk result (text.new.items ≡ text.old.items ++ head kind number label.now) }
+{
+    add(text, kind_text(kind))?;
+    add(text, b" ")?;
+    add_number(text, number as u64)?;
+    add_label(text, label)?;
+    add(text, b": ")
+}
+
+fn add_label(text: &mut Vec<u8>, label: &Option<Text>) -> Result<(), NoMemory>
+    ensures { OnOk result (text.new.items ≡ text.old.items ++ label_part label.now) }
+{
+    match label {
+        None => Ok(()),
+        Some(label) => {
+            add(text, b" ")?;
+            add(text, label.as_slice())
+        }
+    }
+}
+
+fn add(text: &mut Vec<u8>, piece: &[u8]) -> Result<(), NoMemory>
+    ensures { OnOk result (text.new.items ≡ text.old.items ++ piece.now) }
+{
+    match text.extend_from_slice(piece) {
+        Ok(()) => Ok(()),
+        Err(_) => Err(NoMemory),
+    }
+}
+
+fn kind_text(kind: Kind) -> &'static [u8]
+    ensures { result.now ≡ kind_word kind }
+{
+    match kind {
+        Kind::Assert => b"assert",
+        Kind::Assume => b"assume",
+        Kind::Cover => b"cover",
+    }
+}
+
+fn level_text(level: Level) -> &'static [u8]
+    ensures { result.now ≡ level_words level }
+{
+    match level {
+        Level::HoldsStrongly => b"holds strongly",
+        Level::Holds => b"holds",
+        Level::Pending => b"pending",
+        Level::Fails => b"fails",
+    }
+}
+
+fn answer(yes: bool) -> &'static [u8]
+    ensures { result.now ≡ answer_word yes }
+{
+    if yes { b"yes" } else { b"no" }
+}

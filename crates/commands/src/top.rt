@@ -1,0 +1,140 @@
+ghost use Rattle.std.specs.Prelude.{◌≡◌, ◌≢◌, ◌⊎◌, ◌<◌, ℕ, List, Option, map, None, Some, IfOk, IfErr, IfSome, IsNone, IsErrOf, string_bytes};
+ghost use Rattle.psl_base.specs.Faults.{Rose};
+ghost use Rattle.psl_base.specs.Shelf.{Contents, OnlyReads};
+ghost use Rattle.commands.specs.Commands.{FirstRefusal, IsOfCommand, IsOutcomeOf, IsNamed, IsNoCommand};
+ghost use Rattle.commands.specs.Endings.{status_of, Explained, Prints, IsUnwritten, IsOutOfMemory, IsDeviceStatus};
+ghost use Rattle.commands.specs.Faults.{of_none, fault_of};
+ghost use Rattle.commands.specs.Stages.{OfTold, IsUnread, IsCounted};
+ghost use Rattle.commands.specs.Text.{text_of};
+
+use crate::finish::{Planned, finish};
+use crate::generated::generate;
+use crate::outcome::{Fault, Outcome, Reason, Report};
+use crate::report::report;
+use crate::show::show;
+use crate::telling::of_none;
+use crate::wave::wave;
+use command_line::{Command, WordsFault, read_words};
+use psl_base::{Shelf, Sink};
+use std::alloc::Global;
+use vcd_reader::SAMPLE_LIMIT;
+
+/// Runs the command that the words after the program's name give. It reads files, prints what it finds
+/// out on `out` or a fault's line on `err`, and tells how it ended.
+pub fn run<F: Shelf, O: Sink, E: Sink>(
+    alloc: Global,
+    words: &[String],
+    files: &mut F,
+    out: &mut O,
+    err: &mut E,
+) -> Report
+    // The status follows from what was found out and the fault: without one it is 1 exactly where some assert or
+    // assume is neutral no, else 0.
+    ensures status { result.status ≡ status_of result.outcome result.fault }
+
+    // Each fault has its cause; without one, nothing that is told is refused.
+    ensures cause { Explained (Rose (O.state out.old).faults (O.state out.new).faults ⊎ Rose (E.state err.old).faults (E.state err.new).faults) (F.state files.old) (F.state files.new) (FirstRefusal (map string_bytes words.now)) result.fault }
+
+    // Words that are no command are told so, whatever the files tell, unless that cannot be written.
+    ensures no_command { IsNoCommand (map string_bytes words.now) → (result.fault ≡ Some (of_none Reason.Usage)) ⊎ ((result.fault ≡ Some (of_none Reason.WriteFault)) ⊎ (result.fault ≡ Some (of_none Reason.NoMemory))) }
+
+    // A fault of a file names one that the words name, and one of reading is of the last that was asked for, without
+    // a place.
+    ensures named { IfSome result.fault (IsNamed (map string_bytes words.now)) }
+    ensures unread { IfSome result.fault (IsUnread (F.state files.new)) }
+
+    // Whatever the files tell, the outcome is one of the command that the words are, and that of `gen` is exact.
+    ensures command { IsOfCommand (map string_bytes words.now) result.outcome }
+
+    // The verdicts are satisfaction of the sampled word in the three views, the lines what the directives mean.
+    ensures outcome { OfTold (F.state files.old) (λ told. IsOutcomeOf (map string_bytes words.now) told result.outcome) }
+
+    // Without a fault something was found out, and with one nothing, unless it is of writing.
+    ensures found { result.fault ≡ None → result.outcome ≢ Outcome.Nothing }
+    ensures nothing { IfSome result.fault (λ fault. (fault.reason ≡ Reason.WriteFault) ⊎ (result.outcome ≡ Outcome.Nothing)) }
+
+    // What is printed is the outcome's text whole, or the fault's line, or their first bytes.
+    ensures printed { Prints result.outcome result.fault (O.state out.old) (O.state out.new) (E.state err.old) (E.state err.new) }
+
+    // A count that is larger after the run than before it comes with the status of such a fault.
+    ensures counted { ((F.state files.old).read_faults < (F.state files.new).read_faults) ⊎ (((O.state out.old).faults < (O.state out.new).faults) ⊎ ((E.state err.old).faults < (E.state err.new).faults))
+        → IsDeviceStatus result.status }
+
+    // Where all contents are told and nothing fails, the answer is the first refusal, or that there is
+    // none; want of memory alone may come instead.
+    ensures complete { (told : Contents) → (F.state files.old).told ≡ Some told → (Rose (F.state files.old).read_faults (F.state files.new).read_faults → ⊥)
+        → (Rose (O.state out.old).faults (O.state out.new).faults → ⊥) → (Rose (E.state err.old).faults (E.state err.new).faults → ⊥)
+        → FirstRefusal (map string_bytes words.now) told result.fault ⊎ IsOutOfMemory result.fault }
+
+    // Every content is as before.
+    ensures kept { OnlyReads (F.state files.old) (F.state files.new) }
+{
+    let planned = plan(alloc, words, files);
+    finish(alloc, planned, out, err)
+}
+
+/// What the command finds out, with its text. Nothing is written.
+fn plan<F: Shelf>(alloc: Global, words: &[String], files: &mut F) -> Result<Planned, Fault>
+    ensures explained { Explained ⊥ (F.state files.old) (F.state files.new) (FirstRefusal (map string_bytes words.now)) (fault_of result) }
+    ensures no_command { IsNoCommand (map string_bytes words.now) → IsErrOf result (of_none Reason.Usage) ⊎ IsErrOf result (of_none Reason.NoMemory) }
+    ensures named { IfErr result (λ fault. IsNamed (map string_bytes words.now) fault) }
+    ensures unread { IfErr result (λ fault. IsUnread (F.state files.new) fault) }
+    ensures unwritten { IfErr result (λ fault. IsUnwritten fault) }
+    ensures command { IfOk result (λ made. IsOfCommand (map string_bytes words.now) made.outcome) }
+    ensures outcome { IfOk result (λ made. OfTold (F.state files.old) (λ told. IsOutcomeOf (map string_bytes words.now) told made.outcome)) }
+    ensures found { IfOk result (λ made. made.outcome ≢ Outcome.Nothing) }
+    ensures quiet { IfOk result (λ _. (F.state files.new).read_faults ≡ (F.state files.old).read_faults) }
+    ensures counted { IfErr result (λ fault. IsCounted (F.state files.old) (F.state files.new) fault) }
+    ensures text { IfOk result (λ made. made.text ≡ text_of made.outcome) }
+    ensures kept { OnlyReads (F.state files.old) (F.state files.new) }
+{
+    match command(alloc, words, files) {
+        Ok(outcome) => made(alloc, outcome),
+        Err(fault) => Err(fault),
+    }
+}
+
+/// The outcome of the command.
+fn command<F: Shelf>(alloc: Global, words: &[String], files: &mut F) -> Result<Outcome, Fault>
+    ensures explained { Explained ⊥ (F.state files.old) (F.state files.new) (FirstRefusal (map string_bytes words.now)) (fault_of result) }
+    ensures no_command { IsNoCommand (map string_bytes words.now) → IsErrOf result (of_none Reason.Usage) ⊎ IsErrOf result (of_none Reason.NoMemory) }
+    ensures named { IfErr result (λ fault. IsNamed (map string_bytes words.now) fault) }
+    ensures unread { IfErr result (λ fault. IsUnread (F.state files.new) fault) }
+    ensures command { IfOk result (λ outcome. IsOfCommand (map string_bytes words.now) outcome) }
+    ensures outcome { IfOk result (λ outcome. OfTold (F.state files.old) (λ told. IsOutcomeOf (map string_bytes words.now) told outcome)) }
+    ensures found { IfOk result (λ outcome. outcome ≢ Outcome.Nothing) }
+    ensures quiet { IfOk result (λ _. (F.state files.new).read_faults ≡ (F.state files.old).read_faults) }
+    ensures counted { IfErr result (λ fault. IsCounted (F.state files.old) (F.state files.new) fault) }
+    ensures kept { OnlyReads (F.state files.old) (F.state files.new) }
+{
+    match read_words(alloc, words, SAMPLE_LIMIT) {
+        Ok(Command::Wave { unit, recording }) => match wave(alloc, files, unit, recording) {
+            Ok(verdicts) => Ok(Outcome::Wave(verdicts)),
+            Err(fault) => Err(fault),
+        },
+        Ok(Command::Gen { seed, samples }) => generate(alloc, seed, samples),
+        Ok(Command::Show { unit, names }) => match show(alloc, files, unit, names) {
+            Ok(lines) => Ok(Outcome::Shown(lines)),
+            Err(fault) => Err(fault),
+        },
+        Err(WordsFault::Usage) => Err(of_none(Reason::Usage)),
+        Err(WordsFault::NoMemory) => Err(of_none(Reason::NoMemory)),
+    }
+}
+
+/// An outcome with its text.
+fn made(alloc: Global, outcome: Outcome) -> Result<Planned, Fault>
+    ensures outcome { IfOk result (λ made. made.outcome ≡ outcome) }
+    ensures text { IfOk result (λ made. made.text ≡ text_of made.outcome) }
+    ensures memory { IfErr result (λ fault. fault ≡ of_none Reason.NoMemory) }
+{
+    match report(alloc, &outcome) {
+        Ok(text) => Ok(Planned { outcome, text }),
+        Err(_) => Err(of_none(Reason::NoMemory)),
+    }
+}
+
+/// A law of the definitions: words over contents have one first refusal, or none.
+pub fn one_refusal()
+    ensures { (words : List (List ℕ)) (files : Contents) (first second : Option Fault) → FirstRefusal words files first → FirstRefusal words files second → first ≡ second }
+{}

@@ -1,6 +1,0 @@
-use Rattle.std.proofs.Common.{◌≡◌, map, take}
-use Rattle.pslc.proofs.show.lines_of.Given as goal
-use Rattle.pslc.specs.Waves.{line_of}
-
-abbrev pub invariant-loop-directive : goal.invariant-loop-directive
-invariant-loop-directive l = l.lines ≡ map (line_of l.names) (take l.directive-index l.directives)

@@ -1,5 +1,0 @@
-use Rattle.recording_maker.proofs.Accepting.{accepted}
-use Rattle.recording_maker.proofs.accepted.Goals as goal
-
-pub returns : goal.returns
-returns c = accepted

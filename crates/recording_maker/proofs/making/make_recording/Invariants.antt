@@ -1,7 +1,0 @@
-use Rattle.std.proofs.Common.{◌≡◌, ◌++◌}
-use Rattle.recording_maker.proofs.making.make_recording.Given as goal
-use Rattle.recording_maker.specs.Generator.{number_at, answer_at}
-use Rattle.recording_maker.specs.Made.{definitions, samples_from}
-
-abbrev pub invariant-loop-sample : goal.invariant-loop-sample
-invariant-loop-sample l = (l.text.items ≡ definitions ++ samples_from l.seed 0 l.sample) × (l.number ≡ number_at l.seed l.sample) × (l.answer ≡ answer_at l.seed l.sample)

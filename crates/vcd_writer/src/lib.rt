@@ -1,0 +1,21 @@
+//! Makes recordings to try a judge on: of a request, and of an answer that follows each request one sample
+//! later. The requests come from a linear congruential generator, so the same seed gives the same recording.
+#![tactic(auto)]
+
+ghost use Rattle.std.specs.Prelude.{◌≡◌, ◌≤◌, ℕ, Ok};
+ghost use Rattle.vcd_writer.specs.Made.{made_text, made_sampled};
+ghost use Rattle.vcd_reader.specs.Meaning.{reading};
+ghost use Rattle.vcd_reader.specs.Rules.{sample_limit};
+
+mod making;
+#[cfg(test)]
+mod tests;
+
+pub use making::make_recording;
+
+/// A law of the definitions, which runs nothing: up to the limit on samples, a made recording is read without a
+/// fault, and says just the values that it was made of.
+
+pub fn accepted()
+    ensures { (seed samples : ℕ) → samples ≤ sample_limit → reading (made_text seed samples) ≡ Ok (made_sampled seed samples) }
+{}

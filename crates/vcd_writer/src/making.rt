@@ -1,0 +1,78 @@
+ghost use Rattle.std.specs.Prelude.{◌≡◌, ◌∷◌, [], ◌++◌, suc, IfOk, OnOk, decimal};
+ghost use Rattle.vcd_writer.specs.Generator.{number_after, number_at, bit_16, request_at, answer_at};
+ghost use Rattle.vcd_writer.specs.Made.{definitions, digit, line, made_text, sample_lines, samples_from};
+
+use itoa::Buffer;
+use psl_base::{Bytes, NoMemory};
+use std::alloc::Global;
+
+const DEFINITIONS: &[u8] =
+    b"$var wire 1 ! req $end\n$var wire 1 \" ack $end\n$enddefinitions $end\n";
+
+/// The text of a recording (a value change dump, IEEE 1364, clause 18) of the signals `req` and `ack`, with
+/// samples at the times 0, 1 and so on. With `x` the seed, and then each `x` the one before times 1103515245
+/// and 12345 more, modulo 2^31: `req` at sample `i`, counted from 0, is bit 16 of the `x` number `i + 1`, and
+/// `ack` is what `req` was at the sample before, 0 at sample 0.
+///
+/// # Errors
+/// `NoMemory` where the allocator refuses memory.
+pub fn make_recording(alloc: Global, seed: u32, samples: u32) -> Result<Bytes, NoMemory>
+    ensures { IfOk result (λ text. text ≡ made_text seed samples) }
+{
+    let mut text = Vec::new(alloc);
+    add(&mut text, DEFINITIONS)?;
+    let mut number = seed;
+    let mut answer = false;
+    for sample in 0..samples {
+        number = number_after(number);
+        let request = bit_16(number);
+        add_sample(&mut text, sample, request, answer)?;
+        answer = request;
+    }
+    Ok(Bytes::from_vec(text))
+}
+
+/// The next number of the generator.
+fn number_after(number: u32) -> u32
+    ensures { result ≡ number_after number }
+{
+    ((number as u64 * 1_103_515_245 + 12_345) % 0x8000_0000) as u32
+}
+
+/// Bit 16 of a number.
+fn bit_16(number: u32) -> bool
+    ensures { result ≡ bit_16 number }
+{
+    (number / 0x1_0000) % 2 == 1
+}
+
+/// Adds the time of a sample and both values.
+fn add_sample(text: &mut Vec<u8>, sample: u32, request: bool, answer: bool) -> Result<(), NoMemory>
+    ensures { OnOk result (text.new.items ≡ text.old.items ++ (line (35 ∷ decimal sample) ++ line (digit request ∷ 33 ∷ []) ++ line (digit answer ∷ 34 ∷ []))) }
+{
+    add(text, b"#")?;
+    add(text, Buffer::new().format(sample).as_bytes())?;
+    add(text, b"\n")?;
+    add(text, value_lines(request, answer))
+}
+
+/// The lines of a value of `req` and of one of `ack`.
+fn value_lines(request: bool, answer: bool) -> &'static [u8]
+    ensures { result.now ≡ line (digit request ∷ 33 ∷ []) ++ line (digit answer ∷ 34 ∷ []) }
+{
+    match (request, answer) {
+        (false, false) => b"0!\n0\"\n",
+        (false, true) => b"0!\n1\"\n",
+        (true, false) => b"1!\n0\"\n",
+        (true, true) => b"1!\n1\"\n",
+    }
+}
+
+fn add(text: &mut Vec<u8>, piece: &[u8]) -> Result<(), NoMemory>
+    ensures { OnOk result (text.new.items ≡ text.old.items ++ piece.now) }
+{
+    match text.extend_from_slice(piece) {
+        Ok(()) => Ok(()),
+        Err(_) => Err(NoMemory),
+    }
+}
