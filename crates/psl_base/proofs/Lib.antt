@@ -1,6 +1,9 @@
 pub mod Columns
 pub mod Counting
+pub mod Digits
 pub mod Packing
+pub mod Placing
 pub mod Putting
+pub mod Scanning
 pub mod ShelfSteps
 pub mod Taking

@@ -1,3 +1,5 @@
+pub mod Bytes
+pub mod Decimals
 pub mod Faults
 pub mod Files
 pub mod MemShelfFields
@@ -7,3 +9,4 @@ pub mod Packed
 pub mod Places
 pub mod Shelf
 pub mod Sink
+pub mod Tokens

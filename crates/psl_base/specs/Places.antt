@@ -2,10 +2,11 @@
 use Rattle.std.specs.Prelude.{ℕ, suc, List, take, count_by, reverse, not, ◌==◌}
 use Rattle.std.specs.List.{prefix_len}
 use Rattle.psl_base.specs.declared.place.Place.{Place}
+use Rattle.psl_base.specs.declared.place.TheConstants.{FILE_LIMIT}
 
 -- how many bytes a file has at most, and so a text
 abbrev pub file_limit : ℕ
-file_limit = 268_435_456
+file_limit = FILE_LIMIT
 
 -- the place behind these bytes: the line feeds among them, and the bytes after the last of these, give
 -- its line and its column, both counted from 1

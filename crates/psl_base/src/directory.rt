@@ -1,4 +1,4 @@
-ghost use Rattle.std.specs.Prelude.{◌≡◌, ◌≤◌, List, ℕ, length, take, None, IfSome};
+ghost use Rattle.std.specs.Prelude.{◌≡◌, None, IfSome};
 ghost use Rattle.std.specs.Option.{option_map};
 
 use crate::{Failed, Shelf};
@@ -18,11 +18,14 @@ struct HeldName {
 }
 
 impl Model for HeldName {
+    ghost use Rattle.std.specs.Prelude.{◌≤◌, List, ℕ, take};
+    ghost use Rattle.psl_base.specs.declared.directory.TheConstants.{NAME_ROOM};
+
     ghost Value = { List ℕ };
 
     ghost view = { λ name. take name.length name.bytes };
 
-    ghost invariant = { λ name. name.length ≤ 4096 };
+    ghost invariant = { λ name. name.length ≤ NAME_ROOM };
 }
 
 impl HeldName {

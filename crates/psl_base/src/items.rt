@@ -1,11 +1,24 @@
 ghost use Rattle.std.specs.Prelude.{◌≡◌, [], ◌∷◌, ◌++◌, ◌<◌, length, slice_get, slice_set, IfOk, OnOk, OnErr};
 
-use std::alloc::Global;
+use std::alloc::{AllocError, AllocFailed, Global};
 use std::marker::Model;
 
 /// The allocator refused memory. It is the one answer that a call may give at any time.
 #[derive(Clone, Copy, Debug, PartialEq, Eq)]
 pub struct NoMemory;
+
+impl From<AllocError> for NoMemory {
+    fn from(_refused: AllocError) -> NoMemory {
+        NoMemory
+    }
+}
+
+/// What could not be stored is dropped.
+impl<T: Drop> From<AllocFailed<T>> for NoMemory {
+    fn from(_refused: AllocFailed<T>) -> NoMemory {
+        NoMemory
+    }
+}
 
 /// A growing list that contracts see as the list of its members.
 #[derive(Debug, Drop)]
@@ -90,10 +103,8 @@ impl<T: Drop> Items<T> {
         ensures ok { OnOk result (self.new ≡ self.old ++ member ∷ []) }
         ensures err { OnErr result (self.new ≡ self.old) }
     {
-        match self.members.push(member) {
-            Ok(()) => Ok(()),
-            Err(_) => Err(NoMemory),
-        }
+        self.members.push(member)?;
+        Ok(())
     }
 
     /// Writes one member, at a place counted from 0.
@@ -117,10 +128,9 @@ impl<T: Copy> Items<T> {
     pub fn from_slice(alloc: Global, members: &[T]) -> Result<Items<T>, NoMemory>
         ensures { IfOk result (λ new. new ≡ members.now) }
     {
-        match Vec::from_slice(alloc, members) {
-            Ok(members) => Ok(Items { members }),
-            Err(_) => Err(NoMemory),
-        }
+        Ok(Items {
+            members: Vec::from_slice(alloc, members)?,
+        })
     }
 }
 
@@ -128,8 +138,5 @@ impl<T: Copy> Items<T> {
 pub fn boxed<T: Drop>(alloc: Global, value: T) -> Result<Box<T>, NoMemory>
     ensures { IfOk result (λ new. new.value ≡ value) }
 {
-    match Box::new(alloc, value) {
-        Ok(new) => Ok(new),
-        Err(_) => Err(NoMemory),
-    }
+    Ok(Box::new(alloc, value)?)
 }

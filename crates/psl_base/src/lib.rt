@@ -1,7 +1,10 @@
-//! What every layer of the product stands on: lists that contracts see as lists, places in a text,
-//! and the outside world as two traits.
+//! What every layer of the product stands on: lists that contracts see as lists, places in a text, and the
+//! outside world as two traits; and what readers and writers of texts share: tokens between white space,
+//! decimal numbers, and texts that grow.
 #![tactic(auto)]
 
+mod bytes;
+mod decimals;
 mod directory;
 mod items;
 mod mem_shelf;
@@ -13,8 +16,11 @@ mod reading;
 mod streams;
 #[cfg(test)]
 mod tests;
+mod tokens;
 mod writing;
 
+pub use bytes::{is_digit, is_white};
+pub use decimals::{decimal, plain_decimal};
 pub use directory::DirShelf;
 pub use items::{Bits, Bytes, Items, NoMemory, Numbers, Text, boxed};
 pub use mem_shelf::MemShelf;
@@ -24,4 +30,5 @@ pub use packed::{File, Files};
 pub use place::{FILE_LIMIT, Place, advance, place_of};
 pub use reading::{ReadAllFault, read_all};
 pub use streams::StdSink;
-pub use writing::put_all;
+pub use tokens::{Cursor, Token};
+pub use writing::{add_bytes, add_number, put_all};

@@ -37,11 +37,8 @@ impl MemSink {
         ensures { IfOk result (λ sink. sink ≡ record { bytes = []; room = room; calls = 0; faults = 0; fail = fail.now }) }
     {
         let room = room as usize;
-        let Ok(bytes) = Vec::with_capacity(alloc, room) else {
-            return Err(NoMemory);
-        };
         Ok(MemSink {
-            bytes,
+            bytes: Vec::with_capacity(alloc, room)?,
             room,
             calls: 0,
             faults: 0,

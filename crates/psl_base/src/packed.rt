@@ -1,4 +1,4 @@
-ghost use Rattle.std.specs.Prelude.{◌≡◌, ◌+◌, ◌^◌, ◌<◌, ◌≤◌, ◌↔◌, ◌∷◌, [], ◌++◌, length, take, drop, slice_get, Some, None, IsTrue, IsFalse, IfOk, IfSome, IfNone, vec_len, vec_capacity};
+ghost use Rattle.std.specs.Prelude.{◌≡◌, ◌+◌, ◌-◌, ◌^◌, ◌<◌, ◌≤◌, ◌↔◌, ◌∷◌, [], ◌++◌, length, take, drop, min, slice_get, Some, None, IsTrue, IsFalse, IfOk, IfSome, IfNone, vec_len, vec_capacity};
 
 use crate::{Bytes, Items, NoMemory};
 use std::alloc::Global;
@@ -49,17 +49,12 @@ impl PackedFiles {
 
     /// No files, with room for so many and for so many bytes of names and contents.
     fn new(alloc: Global, file_room: usize, byte_room: usize) -> Result<PackedFiles, NoMemory>
-        ensures { IfOk result (λ packed. packed ≡ record { files = []; file_room = file_room; byte_room = byte_room }) }
+        ensures empty { IfOk result (λ packed. packed ≡ record { files = []; file_room = file_room; byte_room = byte_room }) }
+        ensures room { IfOk result (λ _. byte_room < 2 ^ 63) }
     {
-        let (Ok(bytes), Ok(spans)) = (
-            Vec::with_capacity(alloc, byte_room),
-            Vec::with_capacity(alloc, file_room),
-        ) else {
-            return Err(NoMemory);
-        };
         Ok(PackedFiles {
-            bytes,
-            spans,
+            bytes: Vec::with_capacity(alloc, byte_room)?,
+            spans: Vec::with_capacity(alloc, file_room)?,
             byte_room,
             file_room,
         })
@@ -79,9 +74,7 @@ impl PackedFiles {
         }) }
     {
         let files = files.as_slice();
-        let Some(byte_room) = byte_size(files, more_bytes as usize) else {
-            return Err(NoMemory);
-        };
+        let byte_room = byte_size(files, more_bytes as usize);
         let mut packed = PackedFiles::new(alloc, files.len() + more_files as usize, byte_room)?;
         for file in files {
             packed.add(file.name.as_slice());
@@ -218,17 +211,18 @@ ghost use Rattle.std.specs.Bool.{OnTrue, OnFalse};
 ghost use Rattle.psl_base.specs.Packed.{covered as size_of};
 ghost use Rattle.psl_base.specs.Files.{bytes_of as size_of_files};
 
-/// How many bytes the files have together, and so many more, where a number can say it.
-fn byte_size(files: &[File], more: usize) -> Option<usize>
-    ensures { IfSome result (λ size. size ≡ size_of_files files.now + more) }
+/// How many bytes the files have together, and so many more. A sum that no number says becomes the largest one: no
+/// allocator has room for that, so the answer for want of memory is its own.
+fn byte_size(files: &[File], more: usize) -> usize
+    ensures { result ≡ min (size_of_files files.now + more) (2 ^ 64 - 1) }
 {
     let mut size = more;
     for file in files {
         size = size
-            .checked_add(file.name.len())?
-            .checked_add(file.content.len())?;
+            .saturating_add(file.name.len())
+            .saturating_add(file.content.len());
     }
-    Some(size)
+    size
 }
 
 /// How many bytes the spans cover.

@@ -1,8 +1,9 @@
 use crate::{
     Bytes, DirShelf, Failed, File, Files, MemShelf, MemSink, NoMemory, Numbers, ReadAllFault,
-    Shelf, Sink, StdSink, put_all, read_all,
+    Shelf, Sink, StdSink, plain_decimal, put_all, read_all,
 };
 use std::alloc::Global;
+use std::fs;
 use std::test::Fail;
 
 /// A shelf of these files, each a name and a content.
@@ -121,7 +122,9 @@ fn files_of_the_system(rt: HostRuntime) -> Result<(), Fail> {
     let alloc = rt.alloc();
     let mut shelf = DirShelf::new(&rt);
     assert_eq!(rt; save(&mut shelf, "psl_base.test", b"ab", b"c"), Ok(1));
-    assert!(rt; read_all(alloc, &mut shelf, "psl_base.test", 3)?.as_slice() == b"abc".as_slice());
+    let content = read_all(alloc, &mut shelf, "psl_base.test", 3)?;
+    fs::remove_file(&rt, "psl_base.test")?;
+    assert!(rt; content.as_slice() == b"abc".as_slice());
     assert!(rt;
         matches!(
             read_all(alloc, &mut shelf, "psl_base.absent", 3),
@@ -130,4 +133,21 @@ fn files_of_the_system(rt: HostRuntime) -> Result<(), Fail> {
     );
     assert_eq!(rt; put_all(&mut StdSink::new(rt.stdout()), b"put\n"), Ok(()));
     Ok(())
+}
+
+#[test]
+fn numbers_without_leading_zeros(rt: HostRuntime) {
+    let cases: [(&[u8], Option<u64>); 8] = [
+        (b"0", Some(0)),
+        (b"7", Some(7)),
+        (b"100", Some(100)),
+        (b"101", None),
+        (b"07", None),
+        (b"00", None),
+        (b"", None),
+        (b"1x", None),
+    ];
+    for (text, want) in cases {
+        assert_eq!(rt; plain_decimal(100, text), want);
+    }
 }

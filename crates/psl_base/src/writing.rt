@@ -1,7 +1,31 @@
-ghost use Rattle.std.specs.Prelude.{◌≡◌, ◌≤◌, length, drop, OnOk, OnErr};
+ghost use Rattle.std.specs.Prelude.{◌≡◌, ◌≤◌, ◌++◌, length, drop, decimal, OnOk, OnErr};
 ghost use Rattle.psl_base.specs.Sink.{AddsAll, AddsPart};
 
-use crate::{Failed, Sink};
+use crate::{Failed, NoMemory, Sink};
+use itoa::Buffer;
+
+/// Adds bytes at the end of a text.
+///
+/// # Errors
+/// `NoMemory` where the allocator refuses memory. The text is then as it was.
+pub fn add_bytes(text: &mut Vec<u8>, piece: &[u8]) -> Result<(), NoMemory>
+    ensures ok { OnOk result (text.new.items ≡ text.old.items ++ piece.now) }
+    ensures err { OnErr result (text.new.items ≡ text.old.items) }
+{
+    text.extend_from_slice(piece)?;
+    Ok(())
+}
+
+/// Adds a number in decimal digits at the end of a text.
+///
+/// # Errors
+/// `NoMemory` where the allocator refuses memory. The text is then as it was.
+pub fn add_number(text: &mut Vec<u8>, number: u64) -> Result<(), NoMemory>
+    ensures ok { OnOk result (text.new.items ≡ text.old.items ++ decimal number) }
+    ensures err { OnErr result (text.new.items ≡ text.old.items) }
+{
+    add_bytes(text, Buffer::new().format(number).as_bytes())
+}
 
 /// Adds all bytes to a sink, however many it takes at a time. After a failure it has the first of
 /// them and not all. It takes no memory.
