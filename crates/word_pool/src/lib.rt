@@ -9,4 +9,5 @@ mod runs;
 #[cfg(test)]
 mod tests;
 
-pub use region::{Id, MOST_WORDS, NoMemory, Pool};
+pub use psl_base::NoMemory;
+pub use region::{Id, MOST_WORDS, Pool};

@@ -4,17 +4,12 @@ ghost use Rattle.std.specs.FinMap.{empty, insert, remove};
 ghost use Rattle.word_pool.specs.Region.{used_words, live_ids, filled_words, list_of, IsLive, IsBounded, KeepsRoom};
 
 use crate::runs::{Run, close_gaps, has_run, live_run};
+use psl_base::NoMemory;
 use std::alloc::Global;
 use std::marker::Model;
-use thiserror::Error;
 
 /// The most words that the region of a pool has, those of its lists and the free ones together.
 pub const MOST_WORDS: u32 = 1_000_000_000;
-
-/// Memory was refused.
-#[derive(Clone, Copy, Debug, PartialEq, Eq, Error)]
-#[error("out of memory")]
-pub struct NoMemory;
 
 /// The name of a list in a pool, which stays the same until the list is given back.
 ///
@@ -144,10 +139,9 @@ impl Pool {
         let run = live_run(&self.slots, id.index);
         self.slots[id.index as usize] = None;
         self.used -= run.length as usize;
-        match self.vacant.push(id.index) {
-            Ok(()) => {}
-            Err(_) => unreachable!(),
-        }
+        let Ok(()) = self.vacant.push(id.index) else {
+            unreachable!()
+        };
     }
 
     /// Makes room: afterwards so many words and ids can be put with no more memory.
@@ -198,13 +192,9 @@ impl Pool {
         ensures room { KeepsRoom self.old self.new }
         ensures bounded { IsBounded self.new }
     {
-        match self.words.reserve(count) {
-            Ok(()) => {
-                self.room = self.room.max(self.words.len() + count);
-                Ok(())
-            }
-            Err(_) => Err(NoMemory),
-        }
+        self.words.reserve(count)?;
+        self.room = self.room.max(self.words.len() + count);
+        Ok(())
     }
 
     // Makes the spare ids at least so many.
@@ -235,18 +225,12 @@ impl Pool {
     {
         let id = self.slots.len();
         // Room for every id of the table, so that each can be given back with no more memory.
-        match self.vacant.reserve(id + 1 - self.vacant.len()) {
-            Ok(()) => {}
-            Err(_) => return Err(NoMemory),
-        }
-        match self.slots.push(None) {
-            Ok(()) => {}
-            Err(_) => return Err(NoMemory),
-        }
-        match self.vacant.push(id as u32) {
-            Ok(()) => Ok(()),
-            Err(_) => unreachable!(),
-        }
+        self.vacant.reserve(id + 1 - self.vacant.len())?;
+        self.slots.push(None)?;
+        let Ok(()) = self.vacant.push(id as u32) else {
+            unreachable!()
+        };
+        Ok(())
     }
 
     /// Stores a copy of the words under an id that was not live, in room that was reserved.
@@ -270,10 +254,9 @@ impl Pool {
             unreachable!()
         };
         let offset = self.words.len();
-        match self.words.extend_from_slice(words) {
-            Ok(()) => {}
-            Err(_) => unreachable!(),
-        }
+        let Ok(()) = self.words.extend_from_slice(words) else {
+            unreachable!()
+        };
         self.slots[index as usize] = Some(Run {
             offset: offset as u32,
             length: words.len() as u32,

@@ -23,7 +23,7 @@ unreachable-requires c =
     let in_table = rw c.deref.ensures.value at c.live_run-run.ensures.in_table in
     omega (
       arith,
-      c.in-Err.ensures.full,
+      c.in_default.ensures.full,
       c.self.invariant.vacancies.all,
       c.self.invariant.every_id_fits,
       ap live_count run_is,
