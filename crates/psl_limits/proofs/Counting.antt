@@ -4,7 +4,7 @@ use Rattle.std.specs.List.{count_by}
 use Rattle.std.proofs.lemmas.Grind.{common_steps}
 use Rattle.psl_lexer.specs.declared.token.Token.{Token}
 use Rattle.psl_limits.specs.declared.Limit.TheVariants as limits
-use Rattle.psl_limits.specs.declared.spot.Counts.{Counts}
+use Rattle.psl_limits.specs.declared.state.Counts.{Counts}
 use Rattle.psl_limits.specs.Statements.{opens, closes}
 use Rattle.psl_limits.specs.Limits.{Passes, level_limit, length_limit}
 use Rattle.psl_limits.specs.Counted.{counts_of, PassesNone, IsNamed}

@@ -4,11 +4,11 @@ use Rattle.std.proofs.lemmas.List.{append-nil}
 use Rattle.std.specs.List.{list_any}
 use Rattle.psl_lexer.specs.declared.kind.TokenKind.TheVariants as kinds
 use Rattle.psl_lexer.specs.declared.token.Token.{Token}
-use Rattle.psl_limits.specs.Statements.{Spot, Outside, InHead, Inside, is, level, behind_own, behind, behind_all}
+use Rattle.psl_limits.specs.Statements.{State, Outside, InHead, Inside, is, level, behind_own, behind, behind_all}
 use Rattle.psl_limits.specs.Laws.{NoneEnds, StatementsGoOn, StatementsEnd, HeadsGoOn, HeadsEnd, UnitsEnd}
 use Rattle.psl_limits.proofs.Placing.{behind-more, both-true, one-false, behind-outside}
 
-behind-append : (from : Spot) (front back : List Token) → behind_all from (front ++ back) ≡ behind_all (behind_all from front) back
+behind-append : (from : State) (front back : List Token) → behind_all from (front ++ back) ≡ behind_all (behind_all from front) back
 behind-append from [] back = refl
 behind-append from (token ∷ front) back = behind-append (behind from token) front back
 
@@ -36,19 +36,19 @@ stays : (before after : List Token) → NoneEnds (before ++ after) → behind_al
 stays before [] h = ap Inside (sym (append-nil before))
 stays before (token ∷ after) h =
     let again : (before ++ token ∷ []) ++ after ≡ before ++ token ∷ after = append_assoc before (token ∷ []) after in
-    ap (λ (s : Spot). behind_all s after) (goes-on before token (first-stays before token after h)) ∙
+    ap (λ (s : State). behind_all s after) (goes-on before token (first-stays before token after h)) ∙
     (stays (before ++ token ∷ []) after (subst (λ (ts : List Token). NoneEnds ts) (sym again) h) ∙ ap Inside again)
 
 pub statements_go_on : StatementsGoOn
 statements_go_on text first more o b h =
     behind-append Outside text (first ∷ more) ∙
-    (ap (λ (s : Spot). behind_all (behind s first) more) o ∙
-    (ap (λ (s : Spot). behind_all s more) (behind-outside first b.no_head b.no_end ∙ goes-on [] first (first-stays [] first more h)) ∙
+    (ap (λ (s : State). behind_all (behind s first) more) o ∙
+    (ap (λ (s : State). behind_all s more) (behind-outside first b.no_head b.no_end ∙ goes-on [] first (first-stays [] first more h)) ∙
     stays (first ∷ []) more h))
 
 pub statements_end : StatementsEnd
 statements_end text statement last o e l =
-    behind-more Outside text last ∙ (ap (λ (s : Spot). behind s last) o ∙ ends-there statement last e l)
+    behind-more Outside text last ∙ (ap (λ (s : State). behind s last) o ∙ ends-there statement last e l)
 
 or-left : (a b : Bool) → (a || b) ≡ false → a ≡ false
 or-left true b e = e
@@ -70,15 +70,15 @@ head-opens word e = ap (λ (b : Bool). cond b InHead (cond (is kinds.BraceClose 
 pub heads_go_on : HeadsGoOn
 heads_go_on text word name o e h =
     behind-append Outside text (word ∷ name) ∙
-    (ap (λ (s : Spot). behind_all (behind s word) name) o ∙
-    (ap (λ (s : Spot). behind_all s name) (head-opens word e) ∙ head-stays name h))
+    (ap (λ (s : State). behind_all (behind s word) name) o ∙
+    (ap (λ (s : State). behind_all s name) (head-opens word e) ∙ head-stays name h))
 
 pub heads_end : HeadsEnd
 heads_end text brace o e =
-    behind-more Outside text brace ∙ (ap (λ (s : Spot). behind s brace) o ∙ ap (λ (b : Bool). cond b Outside InHead) e)
+    behind-more Outside text brace ∙ (ap (λ (s : State). behind s brace) o ∙ ap (λ (b : Bool). cond b Outside InHead) e)
 
 pub units_end : UnitsEnd
 units_end text brace o v e =
-    behind-more Outside text brace ∙ (ap (λ (s : Spot). behind s brace) o ∙
+    behind-more Outside text brace ∙ (ap (λ (s : State). behind s brace) o ∙
     (ap (λ (b : Bool). cond b InHead (cond (is kinds.BraceClose brace) Outside (behind_own [] brace))) v ∙
     ap (λ (b : Bool). cond b Outside (behind_own [] brace)) e))

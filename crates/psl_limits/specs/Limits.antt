@@ -4,7 +4,7 @@ use Rattle.psl_lexer.specs.declared.token.Token.{Token}
 use Rattle.psl_limits.specs.declared.Limit.{Limit}
 use Rattle.psl_limits.specs.declared.Limit.TheVariants as limits
 use Rattle.psl_limits.specs.declared.Passed.{Passed}
-use Rattle.psl_limits.specs.Statements.{opens, level, own, spot_of}
+use Rattle.psl_limits.specs.Statements.{opens, level, own, state_of}
 
 -- how many brackets may be open at once in a statement
 abbrev pub level_limit : ℕ
@@ -24,7 +24,7 @@ pub record PassesAt (tokens : List Token) (index : ℕ) (limit : Limit) : Type 0
   pub token : Token
   pub before : List Token
   pub stands : slice_get tokens index ≡ Some token
-  pub statement : own (spot_of (take index tokens)) token ≡ Some before
+  pub statement : own (state_of (take index tokens)) token ≡ Some before
   pub passes : Passes limit before token
 
 -- no token before an index passes a limit

@@ -27,37 +27,37 @@ abbrev pub level : List Token → ℕ
 level tokens = count_by opens tokens - count_by closes tokens
 
 -- Where the next token stands.
-pub data Spot : Type 0 where
+pub data State : Type 0 where
   -- outside of statements and heads: here a statement may begin, or a head, or a unit may end
-  Outside : Spot
+  Outside : State
   -- in the head of a verification unit, behind `vunit`
-  InHead : Spot
+  InHead : State
   -- in a statement, behind these of its tokens, of which there are some
-  Inside : List Token → Spot
+  Inside : List Token → State
 
 -- the tokens of its own statement that stand before a token; none where the token belongs to no statement
-abbrev pub own : Spot → Token → Option (List Token)
+abbrev pub own : State → Token → Option (List Token)
 own Outside token = if is kinds.Vunit token || is kinds.BraceClose token then None else Some []
 own InHead token = None
 own (Inside before) token = Some before
 
 -- where the token stands that follows a token of a statement: a `;` at level 0 ends the statement
-abbrev pub behind_own : List Token → Token → Spot
+abbrev pub behind_own : List Token → Token → State
 behind_own before token =
     if is kinds.Semicolon token && (level before == 0) then Outside else Inside (before ++ token ∷ [])
 
 -- where the next token stands behind a token
-abbrev pub behind : Spot → Token → Spot
+abbrev pub behind : State → Token → State
 behind Outside token =
     if is kinds.Vunit token then InHead else (if is kinds.BraceClose token then Outside else behind_own [] token)
 behind InHead token = if is kinds.BraceOpen token then Outside else InHead
 behind (Inside before) token = behind_own before token
 
 -- the same behind some tokens
-abbrev pub behind_all : Spot → List Token → Spot
-behind_all spot [] = spot
-behind_all spot (token ∷ tokens) = behind_all (behind spot token) tokens
+abbrev pub behind_all : State → List Token → State
+behind_all state [] = state
+behind_all state (token ∷ tokens) = behind_all (behind state token) tokens
 
 -- where the token stands before which a text has these
-abbrev pub spot_of : List Token → Spot
-spot_of before = behind_all Outside before
+abbrev pub state_of : List Token → State
+state_of before = behind_all Outside before

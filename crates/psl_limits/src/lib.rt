@@ -4,7 +4,7 @@
 
 mod laws;
 mod scan;
-mod spot;
+mod state;
 #[cfg(test)]
 mod tests;
 

@@ -2,7 +2,7 @@ ghost use Rattle.std.specs.Prelude.{length, MatchOption};
 ghost use Rattle.psl_limits.specs.Limits.{NonePasses, IsFirstPassed};
 
 use crate::Passed;
-use crate::spot::Spot;
+use crate::state::State;
 use psl_lexer::Token;
 
 /// The first token of a text that passes a limit of its statement, if there is one. A bracket that opens a level too
@@ -11,10 +11,10 @@ use psl_lexer::Token;
 pub fn first_passed(tokens: &[Token]) -> Option<Passed>
     ensures { MatchOption result (NonePasses tokens.now (length tokens.now)) (IsFirstPassed tokens.now) }
 {
-    let mut spot = Spot::Outside;
+    let mut state = State::Outside;
     for (index, token) in tokens.iter().enumerate() {
-        match spot.step(token) {
-            Ok(next) => spot = next,
+        match state.step(token) {
+            Ok(next) => state = next,
             Err(limit) => {
                 return Some(Passed {
                     token: index,

@@ -1,12 +1,12 @@
 use Rattle.std.proofs.Common.{◌≡◌, take}
-use Rattle.psl_limits.specs.Statements.{spot_of}
+use Rattle.psl_limits.specs.Statements.{state_of}
 use Rattle.psl_limits.specs.Limits.{NonePasses}
 use Rattle.psl_limits.specs.Counted.{counted, IsSmall}
 use Rattle.psl_limits.proofs.scan.first_passed.Given as goal
 
 abbrev pub invariant-loop-index : goal.invariant-loop-index
 invariant-loop-index l = record {
-  spot : l.spot ≡ counted (spot_of (take l.index l.tokens));
-  small : IsSmall l.spot;
+  state : l.state ≡ counted (state_of (take l.index l.tokens));
+  small : IsSmall l.state;
   none : NonePasses l.tokens l.index;
 }

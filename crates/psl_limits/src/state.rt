@@ -1,7 +1,7 @@
-ghost use Rattle.std.specs.Prelude.{◌≡◌, ◌+◌, ◌-◌, if◌then◌else◌, List, MatchResult, IfOk};
+ghost use Rattle.std.specs.Prelude.{◌≡◌, ◌+◌, ◌-◌, if◌then◌else◌, List, IfOk};
 ghost use Rattle.psl_lexer.specs.declared.token.Token.{Token as TokenOf};
 ghost use Rattle.psl_limits.specs.Statements as text;
-ghost use Rattle.psl_limits.specs.Counted.{counts_of, counted, AreSmall, IsSmall, PassesNone, PassesNoneAt, IsNamed, IsNamedAt};
+ghost use Rattle.psl_limits.specs.Counted.{counts_of, counted, AreSmall, IsSmall, StepsBehind, StepsFrom};
 
 use crate::Limit;
 use psl_lexer::{Token, TokenKind};
@@ -25,7 +25,7 @@ pub struct Counts {
 
 /// Where the next token stands.
 #[derive(Clone, Copy)]
-pub enum Spot {
+pub enum State {
     /// Where a statement may begin, or a verification unit's head, or where a unit may end.
     Outside,
     /// In a unit's head.
@@ -78,11 +78,10 @@ impl Counts {
     }
 
     /// Where the next token stands behind a token of the statement; or the limit that this token passes.
-    fn step(self, token: &Token) -> Result<Spot, Limit>
+    fn step(self, token: &Token) -> Result<State, Limit>
         requires { AreSmall self }
-        ensures small { IfOk result (λ spot. IsSmall spot) }
-        ensures step { (before : List TokenOf) → self ≡ counts_of before →
-            MatchResult result (λ spot. (spot ≡ counted (text.behind_own before token.now)) × PassesNone before token.now) (λ limit. IsNamed limit before token.now) }
+        ensures small { IfOk result (λ state. IsSmall state) }
+        ensures step { (before : List TokenOf) → self ≡ counts_of before → StepsBehind before token.now result }
     {
         let counts = self.with(token);
         if opens(token) && counts.level() > LEVEL_LIMIT {
@@ -90,28 +89,27 @@ impl Counts {
         } else if counts.tokens > LENGTH_LIMIT {
             Err(Limit::Length)
         } else if token.kind == TokenKind::Semicolon && self.level() == 0 {
-            Ok(Spot::Outside)
+            Ok(State::Outside)
         } else {
-            Ok(Spot::Inside(counts))
+            Ok(State::Inside(counts))
         }
     }
 }
 
-impl Spot {
+impl State {
     /// Where the next token stands behind a token; or the limit that this token passes.
-    pub fn step(self, token: &Token) -> Result<Spot, Limit>
+    pub fn step(self, token: &Token) -> Result<State, Limit>
         requires { IsSmall self }
-        ensures small { IfOk result (λ spot. IsSmall spot) }
-        ensures step { (from : text.Spot) → self ≡ counted from →
-            MatchResult result (λ spot. (spot ≡ counted (text.behind from token.now)) × PassesNoneAt from token.now) (λ limit. IsNamedAt limit from token.now) }
+        ensures small { IfOk result (λ state. IsSmall state) }
+        ensures step { (from : text.State) → self ≡ counted from → StepsFrom from token.now result }
     {
         match self {
-            Spot::InHead if token.kind == TokenKind::BraceOpen => Ok(Spot::Outside),
-            Spot::InHead => Ok(Spot::InHead),
-            Spot::Outside if token.kind == TokenKind::Vunit => Ok(Spot::InHead),
-            Spot::Outside if token.kind == TokenKind::BraceClose => Ok(Spot::Outside),
-            Spot::Outside => Counts::NONE.step(token),
-            Spot::Inside(counts) => counts.step(token),
+            State::InHead if token.kind == TokenKind::BraceOpen => Ok(State::Outside),
+            State::InHead => Ok(State::InHead),
+            State::Outside if token.kind == TokenKind::Vunit => Ok(State::InHead),
+            State::Outside if token.kind == TokenKind::BraceClose => Ok(State::Outside),
+            State::Outside => Counts::NONE.step(token),
+            State::Inside(counts) => counts.step(token),
         }
     }
 }
