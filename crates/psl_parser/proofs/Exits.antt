@@ -20,7 +20,7 @@ exit reads part {old = old} {new = new} (Err y) e h s = subst (λ z. Stops (reas
 
 -- the same of a symbol's tree
 pub leave : (s : Symbol) {old new : State} (r : Result Piece Fault) (e : Fault) → IsErrAnd r (λ y. y ≡ e) → Stops (reason e) (Sym s) old new → Parsed s old r new
-leave s {old = old} {new = new} r e h x = exit (λ piece from to. Reads (Sym s) from (Tree (node_of piece.tree) ∷ []) to) (Sym s) {old = old} {new = new} r e h x
+leave s {old = old} {new = new} r e h x = exit (λ piece from to. Reads (Sym s) from (Tree (node_of piece.tree.value) ∷ []) to) (Sym s) {old = old} {new = new} r e h x
 
 -- the exit of a `?` for want of memory
 pub spent : {A : Type 0} (reads : A → State → State → Type 0) (part : Part) (old new : State) (r : Result A Fault) (e : Fault) → IsErrAnd r (λ y. y ≡ e) → e ≡ faults.NoMemory → Parses reads part old r new
@@ -43,8 +43,8 @@ pass reads reads' part part' old mid new (Ok x) h f g = f x h
 pass reads reads' part part' old mid new (Err e) h f g = g e h
 
 -- a piece that a call makes, and that is returned
-pub made : (reads : Piece → State → State → Type 0) (part : Part) {old new : State} (r : Result Piece Fault) (n : Node) → Makes r n → ((x : Piece) → n ≡ node_of x.tree → reads x old new) → Parses reads part old r new
-made reads part {old = old} {new = new} r n h f = finish (λ x. node_of x.tree ≡ n) reads part old new r h (λ x e. f x (sym e))
+pub made : (reads : Piece → State → State → Type 0) (part : Part) {old new : State} (r : Result Piece Fault) (n : Node) → Makes r n → ((x : Piece) → n ≡ node_of x.tree.value → reads x old new) → Parses reads part old r new
+made reads part {old = old} {new = new} r n h f = finish (λ x. node_of x.tree.value ≡ n) reads part old new r h (λ x e. f x (sym e))
 
 -- the same of a repetition, a count, a token, a statement
 
@@ -66,7 +66,7 @@ made-statement reads part {old = old} {new = new} r n h f = finish (λ x. statem
 
 -- a symbol's tree
 abbrev pub tree : Symbol → Piece → State → State → Type 0
-tree s piece from to = Reads (Sym s) from (Tree (node_of piece.tree) ∷ []) to
+tree s piece from to = Reads (Sym s) from (Tree (node_of piece.tree.value) ∷ []) to
 
 abbrev pub tree_by : {A : Type 0} → (A → Node) → Symbol → A → State → State → Type 0
 tree_by node s x from to = Reads (Sym s) from (Tree (node x) ∷ []) to

@@ -93,13 +93,13 @@ pub record GaveBy {A : Type 0} (node : A → Node) (make : List Item → Node) (
 
 -- the same of an expression
 abbrev pub Gave : (List Item → Node) → Part → Piece → State → State → Type 0
-Gave make part piece from to = GaveBy (λ x. node_of x.tree) make part piece from to
+Gave make part piece from to = GaveBy (λ x. node_of x.tree.value) make part piece from to
 
 -- what stands in round brackets
 pub record ReadsGroup (piece : Piece) (from to : State) : Type 0 where
   pub opening : Token
   pub closing : Token
-  pub reads : Reads grouped from (Tok opening ∷ Tree (node_of piece.tree) ∷ Tok closing ∷ []) to
+  pub reads : Reads grouped from (Tok opening ∷ Tree (node_of piece.tree.value) ∷ Tok closing ∷ []) to
 
 -- what stands in braces
 pub record ReadsBraces (piece : Piece) (from to : State) : Type 0 where
@@ -107,20 +107,20 @@ pub record ReadsBraces (piece : Piece) (from to : State) : Type 0 where
   pub closing : Token
   pub inside : Node
   pub kind : opening.kind ≡ kinds.BraceOpen
-  pub same : Braced opening inside ≡ node_of piece.tree
+  pub same : Braced opening inside ≡ node_of piece.tree.value
   pub reads : Reads braces from (Tok opening ∷ Tree inside ∷ Tok closing ∷ []) to
 
 -- an operand, perhaps with `!` behind it
 pub record ReadsStrength (operand piece : Piece) (from to : State) : Type 0 where
   pub items : List Item
-  pub posted : posted (node_of operand.tree) items ≡ node_of piece.tree
-  pub unary : built Una (Tree (node_of operand.tree) ∷ items) ≡ node_of piece.tree
+  pub posted : posted (node_of operand.tree.value) items ≡ node_of piece.tree.value
+  pub unary : built Una (Tree (node_of operand.tree.value) ∷ items) ≡ node_of piece.tree.value
   pub reads : Reads strong from items to
 
 -- one repetition or clock behind an operand
 pub record ReadsPost (operand piece : Piece) (from to : State) : Type 0 where
   pub post : Node
-  pub same : Posted (node_of operand.tree) post ≡ node_of piece.tree
+  pub same : Posted (node_of operand.tree.value) post ≡ node_of piece.tree.value
   pub reads : Reads (Sym Post) from (Tree post ∷ []) to
 
 -- With the items of repetitions and clocks `start` becomes `now`, whatever stands behind them.
@@ -131,18 +131,18 @@ pub record PostsThrough (start now : Node) (items : List Item) : Type 0 where
 -- repetitions and clocks behind an operand
 pub record ReadsPosts (operand piece : Piece) (from to : State) : Type 0 where
   pub items : List Item
-  pub through : PostsThrough (node_of operand.tree) (node_of piece.tree) items
+  pub through : PostsThrough (node_of operand.tree.value) (node_of piece.tree.value) items
   pub reads : Reads (Many (Sym Post)) from items to
 
 -- an operand, and the operators that wait for it
 pub record ReadsTail (s : Symbol) (operand piece : Piece) (from to : State) : Type 0 where
   pub tail : Node
-  pub same : applied (node_of operand.tree) tail ≡ node_of piece.tree
+  pub same : applied (node_of operand.tree.value) tail ≡ node_of piece.tree.value
   pub reads : Reads (Sym s) from (Tree tail ∷ []) to
 
 -- an operand, its repetitions and clocks, and the operators that wait for it
 abbrev pub ReadsTails : Piece → Piece → State → State → Type 0
-ReadsTails operand piece from to = Gave (conjoined (node_of operand.tree)) tailed piece from to
+ReadsTails operand piece from to = Gave (conjoined (node_of operand.tree.value)) tailed piece from to
 
 -- a repetition that one of two forms makes
 pub record ReadsRepetition (kind : TokenKind) (repetition : Repetition) (from to : State) : Type 0 where

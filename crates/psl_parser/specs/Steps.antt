@@ -59,7 +59,7 @@ ParsedBy node s old result new = Parses (λ x from to. Reads (Sym s) from (Tree 
 
 -- the same of a symbol whose tree is an expression
 abbrev pub Parsed : Symbol → State → Result Piece Fault → State → Type 0
-Parsed s old result new = ParsedBy (λ piece. node_of piece.tree) s old result new
+Parsed s old result new = ParsedBy (λ piece. node_of piece.tree.value) s old result new
 
 -- what a function that makes something gives: it, or a lack of memory
 abbrev pub MakesBy : {A : Type 0} → (A → Type 0) → Result A Fault → Type 0
@@ -68,4 +68,4 @@ MakesBy makes (Err fault) = fault ≡ faults.NoMemory
 
 -- the same of an expression
 abbrev pub Makes : Result Piece Fault → Node → Type 0
-Makes result node = MakesBy (λ piece. node_of piece.tree ≡ node) result
+Makes result node = MakesBy (λ piece. node_of piece.tree.value ≡ node) result

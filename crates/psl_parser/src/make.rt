@@ -9,9 +9,10 @@ use psl_grammar::{Count, Expression, Path, Statement};
 use psl_lexer::Token;
 use std::alloc::Global;
 
-/// A piece of a tree.
+/// A piece of a tree. It is boxed as soon as it is made, so that the methods that call each other for what stands
+/// inside of another piece keep a pointer to it on the stack and no node.
 pub struct Piece {
-    pub tree: Expression,
+    pub tree: Box<Expression>,
 }
 
 // Written out, so that a caller's proof sees one call where a piece is dropped.
@@ -23,7 +24,7 @@ impl Drop for Piece {
 
 impl Piece {
     /// The tree, moved.
-    pub fn into_tree(self) -> Expression
+    pub fn into_tree(self) -> Box<Expression>
         ensures { result ≡ self.tree }
     {
         let Piece { tree } = self;
@@ -60,103 +61,88 @@ impl Repetition {
 
 /// An operator before its operand.
 pub fn prefix(alloc: Global, operator: &Token, operand: Piece) -> Result<Piece, Fault>
-    ensures { Makes result (Prefix operator.now (node_of operand.tree)) }
+    ensures { Makes result (Prefix operator.now (node_of operand.tree.value)) }
 {
     let operator = operator.copy(alloc)?;
-    let tree = operand.into_tree();
-    Ok(Piece {
-        tree: Expression::Prefix(operator, boxed(alloc, tree)?),
-    })
+    let tree = boxed(alloc, Expression::Prefix(operator, operand.into_tree()))?;
+    Ok(Piece { tree })
 }
 
 /// An operator between its operands.
 pub fn infix(alloc: Global, left: Piece, operator: &Token, right: Piece) -> Result<Piece, Fault>
-    ensures { Makes result (Infix (node_of left.tree) operator.now (node_of right.tree)) }
+    ensures { Makes result (Infix (node_of left.tree.value) operator.now (node_of right.tree.value)) }
 {
     let operator = operator.copy(alloc)?;
     let left = left.into_tree();
     let right = right.into_tree();
-    let left = boxed(alloc, left)?;
-    Ok(Piece {
-        tree: Expression::Infix(left, operator, boxed(alloc, right)?),
-    })
+    let tree = boxed(alloc, Expression::Infix(left, operator, right))?;
+    Ok(Piece { tree })
 }
 
 /// An operator behind its operand.
 pub fn postfix(alloc: Global, operand: Piece, operator: &Token) -> Result<Piece, Fault>
-    ensures { Makes result (Postfix (node_of operand.tree) operator.now) }
+    ensures { Makes result (Postfix (node_of operand.tree.value) operator.now) }
 {
     let operator = operator.copy(alloc)?;
-    let tree = operand.into_tree();
-    Ok(Piece {
-        tree: Expression::Postfix(boxed(alloc, tree)?, operator),
-    })
+    let tree = boxed(alloc, Expression::Postfix(operand.into_tree(), operator))?;
+    Ok(Piece { tree })
 }
 
 /// What stands before a repetition, and the repetition.
 pub fn repeated(alloc: Global, operand: Piece, repetition: Repetition) -> Result<Piece, Fault>
-    ensures { Makes result (Posted (node_of operand.tree) (Repeat repetition.opening (count_node repetition.count))) }
+    ensures { Makes result (Posted (node_of operand.tree.value) (Repeat repetition.opening (count_node repetition.count))) }
 {
     let (opening, count) = repetition.into_parts();
-    let tree = operand.into_tree();
-    Ok(Piece {
-        tree: Expression::Repeated(boxed(alloc, tree)?, opening, count),
-    })
+    let operand = operand.into_tree();
+    let tree = boxed(alloc, Expression::Repeated(operand, opening, count))?;
+    Ok(Piece { tree })
 }
 
 /// What stands before a clock, and the clock.
 pub fn clocked(alloc: Global, operand: Piece, at: &Token, clock: Piece) -> Result<Piece, Fault>
-    ensures { Makes result (Posted (node_of operand.tree) (Clocked at.now (node_of clock.tree))) }
+    ensures { Makes result (Posted (node_of operand.tree.value) (Clocked at.now (node_of clock.tree.value))) }
 {
     let at = at.copy(alloc)?;
-    let tree = operand.into_tree();
+    let operand = operand.into_tree();
     let clock = clock.into_tree();
-    let tree = boxed(alloc, tree)?;
-    Ok(Piece {
-        tree: Expression::Clocked(tree, at, boxed(alloc, clock)?),
-    })
+    let tree = boxed(alloc, Expression::Clocked(operand, at, clock))?;
+    Ok(Piece { tree })
 }
 
 /// What stands in round brackets.
 pub fn grouped(alloc: Global, opening: &Token, inside: Piece) -> Result<Piece, Fault>
-    ensures { Makes result (Grouped opening.now (node_of inside.tree)) }
+    ensures { Makes result (Grouped opening.now (node_of inside.tree.value)) }
 {
     let opening = opening.copy(alloc)?;
-    let tree = inside.into_tree();
-    Ok(Piece {
-        tree: Expression::Grouped(opening, boxed(alloc, tree)?),
-    })
+    let tree = boxed(alloc, Expression::Grouped(opening, inside.into_tree()))?;
+    Ok(Piece { tree })
 }
 
 /// What stands in braces.
 pub fn braced(alloc: Global, opening: &Token, inside: Piece) -> Result<Piece, Fault>
-    ensures { Makes result (Braced opening.now (node_of inside.tree)) }
+    ensures { Makes result (Braced opening.now (node_of inside.tree.value)) }
 {
     let opening = opening.copy(alloc)?;
-    let tree = inside.into_tree();
-    Ok(Piece {
-        tree: Expression::Braced(opening, boxed(alloc, tree)?),
-    })
+    let tree = boxed(alloc, Expression::Braced(opening, inside.into_tree()))?;
+    Ok(Piece { tree })
 }
 
 /// A number, a constant, `true` or `false`.
 pub fn literal(alloc: Global, token: &Token) -> Result<Piece, Fault>
     ensures { Makes result (Leaf token.now) }
 {
-    Ok(Piece {
-        tree: Expression::Literal(token.copy(alloc)?),
-    })
+    let tree = boxed(alloc, Expression::Literal(token.copy(alloc)?))?;
+    Ok(Piece { tree })
 }
 
 /// A next form with its count.
 pub fn next_times(alloc: Global, word: &Token, count: Count, operand: Piece) -> Result<Piece, Fault>
-    ensures { Makes result (NextForm word.now Absent (count_node (Some count)) (node_of operand.tree)) }
+    ensures { Makes result (NextForm word.now Absent (count_node (Some count)) (node_of operand.tree.value)) }
 {
     let word = word.copy(alloc)?;
-    let tree = operand.into_tree();
-    Ok(Piece {
-        tree: Expression::NextTimes(word, count, boxed(alloc, tree)?),
-    })
+    let operand = operand.into_tree();
+    let tree = boxed(alloc, Expression::NextTimes(word, count, operand))?;
+    Ok(Piece { tree })
 }
 
 /// A next form with its condition, and perhaps a count.
@@ -167,34 +153,42 @@ pub fn next_event(
     count: Option<Count>,
     operand: Piece,
 ) -> Result<Piece, Fault>
-    ensures { Makes result (NextForm word.now (node_of condition.tree) (count_node count) (node_of operand.tree)) }
+    ensures { Makes result (NextForm word.now (node_of condition.tree.value) (count_node count) (node_of operand.tree.value)) }
 {
     let word = word.copy(alloc)?;
     let condition = condition.into_tree();
-    let tree = operand.into_tree();
-    let condition = boxed(alloc, condition)?;
-    Ok(Piece {
-        tree: Expression::NextEvent(word, condition, count, boxed(alloc, tree)?),
-    })
+    let operand = operand.into_tree();
+    let tree = boxed(
+        alloc,
+        Expression::NextEvent(word, condition, count, operand),
+    )?;
+    Ok(Piece { tree })
+}
+
+/// A path, perhaps with the number of an index.
+pub fn signal(alloc: Global, path: Path, number: Option<Token>) -> Result<Piece, Fault>
+    ensures { Makes result (signal_node path number) }
+{
+    let tree = boxed(alloc, Expression::Signal(path, number))?;
+    Ok(Piece { tree })
 }
 
 /// An edge of a path, perhaps with the number of an index.
 pub fn edge(alloc: Global, word: &Token, path: Path, number: Option<Token>) -> Result<Piece, Fault>
     ensures { Makes result (Edge word.now (signal_node path number)) }
 {
-    Ok(Piece {
-        tree: Expression::Edge(word.copy(alloc)?, path, number),
-    })
+    let word = word.copy(alloc)?;
+    let tree = boxed(alloc, Expression::Edge(word, path, number))?;
+    Ok(Piece { tree })
 }
 
 /// A repetition that stands alone.
-pub fn alone(repetition: Repetition) -> Piece
-    ensures { node_of result.tree ≡ Repeat repetition.opening (count_node repetition.count) }
+pub fn alone(alloc: Global, repetition: Repetition) -> Result<Piece, Fault>
+    ensures { Makes result (Repeat repetition.opening (count_node repetition.count)) }
 {
     let (opening, count) = repetition.into_parts();
-    Piece {
-        tree: Expression::Repetition(opening, count),
-    }
+    let tree = boxed(alloc, Expression::Repetition(opening, count))?;
+    Ok(Piece { tree })
 }
 
 /// A repetition.
@@ -247,10 +241,10 @@ pub fn directive(
     property: Piece,
     report: Option<Token>,
 ) -> Result<Statement, Fault>
-    ensures { MakesBy (λ made. statement_node made ≡ labelled_node label (Directed word.now (node_of property.tree) (report_node report))) result }
+    ensures { MakesBy (λ made. statement_node made ≡ labelled_node label (Directed word.now (node_of property.tree.value) (report_node report))) result }
 {
     let word = word.copy(alloc)?;
-    let property = property.into_tree();
+    let property = Box::into_inner(property.into_tree());
     Ok(Statement::Directive {
         label,
         word,
@@ -266,10 +260,10 @@ pub fn declaration(
     name: &Token,
     body: Piece,
 ) -> Result<Statement, Fault>
-    ensures { MakesBy (λ made. statement_node made ≡ Declared word.now name.now (node_of body.tree)) result }
+    ensures { MakesBy (λ made. statement_node made ≡ Declared word.now name.now (node_of body.tree.value)) result }
 {
     let word = word.copy(alloc)?;
     let name = name.copy(alloc)?;
-    let body = body.into_tree();
+    let body = Box::into_inner(body.into_tree());
     Ok(Statement::Declaration { word, name, body })
 }

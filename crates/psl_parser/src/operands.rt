@@ -8,7 +8,6 @@ ghost use Rattle.psl_parser.specs.Steps.{state, Parsed, Parses};
 use crate::fault::Fault;
 use crate::make::{self, Piece, infix, prefix};
 use crate::parser::Parser;
-use psl_grammar::Expression;
 use psl_lexer::TokenKind;
 use std::alloc::Global;
 
@@ -192,9 +191,7 @@ impl Parser<'_> {
     {
         let path = self.path(alloc)?;
         let number = self.optional_index(alloc)?;
-        Ok(Piece {
-            tree: Expression::Signal(path, number),
-        })
+        make::signal(alloc, path, number)
     }
 
     /// `( "posedge" | "negedge" ) path [ "[" NUMBER "]" ]`

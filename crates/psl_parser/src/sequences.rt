@@ -142,9 +142,9 @@ impl Parser<'_> {
         }
         if self.at(TokenKind::StarOpen) {
             let repetition = self.counted_repetition(alloc, TokenKind::StarOpen)?;
-            return Ok(make::alone(repetition));
+            return make::alone(alloc, repetition);
         }
         let repetition = self.plain_repetition(alloc)?;
-        Ok(make::alone(repetition))
+        make::alone(alloc, repetition)
     }
 }

@@ -340,7 +340,7 @@ pub braced-returns-in_err-take-clause-parsed : goal.braced-returns-in_err-take-c
 braced-returns-in_err-take-clause-parsed t c = exit ReadsBraces braces _ _ c.from_residual-in_err-take.ensures.1 (s.next _ (taken c.in_ok-opening.ensures.took) (s.next _ c.in_ok-inside.ensures.parsed (stopped c.in_err-take.ensures.took)))
 
 pub braced-returns-clause-parsed : goal.braced-returns-clause-parsed
-braced-returns-clause-parsed t c = made ReadsBraces braces _ _ c.braced.ensures (λ x h. record { opening = c.in_ok-opening.opening.now; closing = c.in_ok-take.field-0.now; inside = node_of c.in_ok-inside.inside.tree; kind = kind-of_one _ _ c.in_ok-opening.ensures.took.kind; same = h; reads = (r.both (taken c.in_ok-opening.ensures.took) (r.both c.in_ok-inside.ensures.parsed (taken c.in_ok-take.ensures.took) refl) refl) })
+braced-returns-clause-parsed t c = made ReadsBraces braces _ _ c.braced.ensures (λ x h. record { opening = c.in_ok-opening.opening.now; closing = c.in_ok-take.field-0.now; inside = node_of c.in_ok-inside.inside.tree.value; kind = kind-of_one _ _ c.in_ok-opening.ensures.took.kind; same = h; reads = (r.both (taken c.in_ok-opening.ensures.took) (r.both c.in_ok-inside.ensures.parsed (taken c.in_ok-take.ensures.took) refl) refl) })
 
 pub grouped-returns-in_err-opening-clause-parsed : goal.grouped-returns-in_err-opening-clause-parsed
 grouped-returns-in_err-opening-clause-parsed t c = exit (Gave atom grouped) grouped _ _ c.from_residual.ensures.1 (s.first (stopped c.in_err-opening.ensures.took))
@@ -352,7 +352,7 @@ pub grouped-returns-in_err-take-clause-parsed : goal.grouped-returns-in_err-take
 grouped-returns-in_err-take-clause-parsed t c = exit (Gave atom grouped) grouped _ _ c.from_residual-in_err-take.ensures.1 (s.next _ (taken c.in_ok-opening.ensures.took) (s.next _ c.in_ok-inside.ensures.parsed (stopped c.in_err-take.ensures.took)))
 
 pub grouped-returns-clause-parsed : goal.grouped-returns-clause-parsed
-grouped-returns-clause-parsed t c = made (Gave atom grouped) grouped _ _ c.grouped.ensures (λ x h. record { items = Tok c.in_ok-opening.opening.now ∷ Tree (node_of c.in_ok-inside.inside.tree) ∷ Tok c.in_ok-take.field-0.now ∷ []; same = h; reads = (r.both (taken c.in_ok-opening.ensures.took) (r.both c.in_ok-inside.ensures.parsed (taken c.in_ok-take.ensures.took) refl) refl) })
+grouped-returns-clause-parsed t c = made (Gave atom grouped) grouped _ _ c.grouped.ensures (λ x h. record { items = Tok c.in_ok-opening.opening.now ∷ Tree (node_of c.in_ok-inside.inside.tree.value) ∷ Tok c.in_ok-take.field-0.now ∷ []; same = h; reads = (r.both (taken c.in_ok-opening.ensures.took) (r.both c.in_ok-inside.ensures.parsed (taken c.in_ok-take.ensures.took) refl) refl) })
 
 pub group-returns-in_err-take-clause-parsed : goal.group-returns-in_err-take-clause-parsed
 group-returns-in_err-take-clause-parsed t c = exit ReadsGroup grouped _ _ c.from_residual.ensures.1 (s.first (stopped c.in_err-take.ensures.took))
@@ -418,7 +418,7 @@ pub next_times-returns-in_err-operand-clause-parsed : goal.next_times-returns-in
 next_times-returns-in_err-operand-clause-parsed t c = exit (Gave (built P.Counted) next_times) next_times _ _ c.from_residual-in_err-operand.ensures.1 (s.next _ (taken c.in_ok-word.ensures.took) (s.next _ c.in_ok-number.ensures.parsed.reads c.in_err-operand.ensures.parsed))
 
 pub next_times-returns-clause-parsed : goal.next_times-returns-clause-parsed
-next_times-returns-clause-parsed t c = made (Gave (built P.Counted) next_times) next_times _ _ c.next_times.ensures (λ x h. record { items = Tok c.in_ok-word.word.now ∷ Tok c.in_ok-number.ensures.parsed.opening ∷ Tok c.in_ok-number.number ∷ Tok c.in_ok-number.ensures.parsed.closing ∷ Tok c.in_ok-operand.ensures.parsed.opening ∷ Tree (node_of c.in_ok-operand.operand.tree) ∷ Tok c.in_ok-operand.ensures.parsed.closing ∷ []; same = h; reads = (r.both (taken c.in_ok-word.ensures.took) (r.both c.in_ok-number.ensures.parsed.reads c.in_ok-operand.ensures.parsed.reads refl) refl) })
+next_times-returns-clause-parsed t c = made (Gave (built P.Counted) next_times) next_times _ _ c.next_times.ensures (λ x h. record { items = Tok c.in_ok-word.word.now ∷ Tok c.in_ok-number.ensures.parsed.opening ∷ Tok c.in_ok-number.number ∷ Tok c.in_ok-number.ensures.parsed.closing ∷ Tok c.in_ok-operand.ensures.parsed.opening ∷ Tree (node_of c.in_ok-operand.operand.tree.value) ∷ Tok c.in_ok-operand.ensures.parsed.closing ∷ []; same = h; reads = (r.both (taken c.in_ok-word.ensures.took) (r.both c.in_ok-number.ensures.parsed.reads c.in_ok-operand.ensures.parsed.reads refl) refl) })
 
 pub next_range-returns-in_err-word-clause-parsed : goal.next_range-returns-in_err-word-clause-parsed
 next_range-returns-in_err-word-clause-parsed t c = exit (Gave (built P.Counted) next_ranged) next_ranged _ _ c.from_residual.ensures.1 (s.first (stopped c.in_err-word.ensures.took))
@@ -430,7 +430,7 @@ pub next_range-returns-in_err-operand-clause-parsed : goal.next_range-returns-in
 next_range-returns-in_err-operand-clause-parsed t c = exit (Gave (built P.Counted) next_ranged) next_ranged _ _ c.from_residual-in_err-operand.ensures.1 (s.next _ (taken c.in_ok-word.ensures.took) (s.next _ c.in_ok-count.ensures.parsed.reads c.in_err-operand.ensures.parsed))
 
 pub next_range-returns-clause-parsed : goal.next_range-returns-clause-parsed
-next_range-returns-clause-parsed t c = made (Gave (built P.Counted) next_ranged) next_ranged _ _ c.next_times.ensures (λ x h. record { items = Tok c.in_ok-word.word.now ∷ Tok c.in_ok-count.ensures.parsed.opening ∷ Tok c.in_ok-count.ensures.parsed.low ∷ Tok c.in_ok-count.ensures.parsed.colon ∷ Tok c.in_ok-count.ensures.parsed.high ∷ Tok c.in_ok-count.ensures.parsed.closing ∷ Tok c.in_ok-operand.ensures.parsed.opening ∷ Tree (node_of c.in_ok-operand.operand.tree) ∷ Tok c.in_ok-operand.ensures.parsed.closing ∷ []; same = ap (λ z. NextForm c.in_ok-word.word.now Absent z (node_of c.in_ok-operand.operand.tree)) (sym c.in_ok-count.ensures.parsed.same) ∙ h; reads = (r.both (taken c.in_ok-word.ensures.took) (r.both c.in_ok-count.ensures.parsed.reads c.in_ok-operand.ensures.parsed.reads refl) refl) })
+next_range-returns-clause-parsed t c = made (Gave (built P.Counted) next_ranged) next_ranged _ _ c.next_times.ensures (λ x h. record { items = Tok c.in_ok-word.word.now ∷ Tok c.in_ok-count.ensures.parsed.opening ∷ Tok c.in_ok-count.ensures.parsed.low ∷ Tok c.in_ok-count.ensures.parsed.colon ∷ Tok c.in_ok-count.ensures.parsed.high ∷ Tok c.in_ok-count.ensures.parsed.closing ∷ Tok c.in_ok-operand.ensures.parsed.opening ∷ Tree (node_of c.in_ok-operand.operand.tree.value) ∷ Tok c.in_ok-operand.ensures.parsed.closing ∷ []; same = ap (λ z. NextForm c.in_ok-word.word.now Absent z (node_of c.in_ok-operand.operand.tree.value)) (sym c.in_ok-count.ensures.parsed.same) ∙ h; reads = (r.both (taken c.in_ok-word.ensures.took) (r.both c.in_ok-count.ensures.parsed.reads c.in_ok-operand.ensures.parsed.reads refl) refl) })
 
 pub next_event-returns-in_err-word-clause-parsed : goal.next_event-returns-in_err-word-clause-parsed
 next_event-returns-in_err-word-clause-parsed t c = exit (Gave (built P.Counted) next_event) next_event _ _ c.from_residual.ensures.1 (s.first (stopped c.in_err-word.ensures.took))
@@ -442,7 +442,7 @@ pub next_event-returns-in_err-operand-clause-parsed : goal.next_event-returns-in
 next_event-returns-in_err-operand-clause-parsed t c = exit (Gave (built P.Counted) next_event) next_event _ _ c.from_residual-in_err-operand.ensures.1 (s.next _ (taken c.in_ok-word.ensures.took) (s.next _ c.in_ok-condition.ensures.parsed.reads (s.next _ (r.without (record { holds = (no c.at.ensures c.if-not-at.true) })) c.in_err-operand.ensures.parsed)))
 
 pub next_event-returns-then-not-at-clause-parsed : goal.next_event-returns-then-not-at-clause-parsed
-next_event-returns-then-not-at-clause-parsed t c = made (Gave (built P.Counted) next_event) next_event _ _ c.next_event.ensures (λ x h. record { items = Tok c.in_ok-word.word.now ∷ Tok c.in_ok-condition.ensures.parsed.opening ∷ Tree (node_of c.in_ok-condition.condition.tree) ∷ Tok c.in_ok-condition.ensures.parsed.closing ∷ Tok c.in_ok-operand.ensures.parsed.opening ∷ Tree (node_of c.in_ok-operand.operand.tree) ∷ Tok c.in_ok-operand.ensures.parsed.closing ∷ []; same = h; reads = (r.both (taken c.in_ok-word.ensures.took) (r.both c.in_ok-condition.ensures.parsed.reads (r.both (r.without (record { holds = (no c.at.ensures c.if-not-at.true) })) c.in_ok-operand.ensures.parsed.reads refl) refl) refl) })
+next_event-returns-then-not-at-clause-parsed t c = made (Gave (built P.Counted) next_event) next_event _ _ c.next_event.ensures (λ x h. record { items = Tok c.in_ok-word.word.now ∷ Tok c.in_ok-condition.ensures.parsed.opening ∷ Tree (node_of c.in_ok-condition.condition.tree.value) ∷ Tok c.in_ok-condition.ensures.parsed.closing ∷ Tok c.in_ok-operand.ensures.parsed.opening ∷ Tree (node_of c.in_ok-operand.operand.tree.value) ∷ Tok c.in_ok-operand.ensures.parsed.closing ∷ []; same = h; reads = (r.both (taken c.in_ok-word.ensures.took) (r.both c.in_ok-condition.ensures.parsed.reads (r.both (r.without (record { holds = (no c.at.ensures c.if-not-at.true) })) c.in_ok-operand.ensures.parsed.reads refl) refl) refl) })
 
 pub next_event-returns-in_err-number-clause-parsed : goal.next_event-returns-in_err-number-clause-parsed
 next_event-returns-in_err-number-clause-parsed t c = exit (Gave (built P.Counted) next_event) next_event _ _ c.from_residual-in_err-number.ensures.1 (s.next _ (taken c.in_ok-word.ensures.took) (s.next _ c.in_ok-condition.ensures.parsed.reads (s.first (s.maybe (record { holds = (yes c.at.ensures c.if-not-at.false) }) c.in_err-number.ensures.parsed))))
@@ -451,7 +451,7 @@ pub next_event-returns-in_err-operand-2-clause-parsed : goal.next_event-returns-
 next_event-returns-in_err-operand-2-clause-parsed t c = exit (Gave (built P.Counted) next_event) next_event _ _ c.from_residual-in_err-operand-2.ensures.1 (s.next _ (taken c.in_ok-word.ensures.took) (s.next _ c.in_ok-condition.ensures.parsed.reads (s.next _ (r.with (record { holds = (yes c.at.ensures c.if-not-at.false) }) c.in_ok-number.ensures.parsed.reads) c.in_err-operand-2.ensures.parsed)))
 
 pub next_event-returns-clause-parsed : goal.next_event-returns-clause-parsed
-next_event-returns-clause-parsed t c = made (Gave (built P.Counted) next_event) next_event _ _ c.next_event-2.ensures (λ x h. record { items = Tok c.in_ok-word.word.now ∷ Tok c.in_ok-condition.ensures.parsed.opening ∷ Tree (node_of c.in_ok-condition.condition.tree) ∷ Tok c.in_ok-condition.ensures.parsed.closing ∷ Tok c.in_ok-number.ensures.parsed.opening ∷ Tok c.in_ok-number.number ∷ Tok c.in_ok-number.ensures.parsed.closing ∷ Tok c.in_ok-operand-2.ensures.parsed.opening ∷ Tree (node_of c.in_ok-operand-2.operand.tree) ∷ Tok c.in_ok-operand-2.ensures.parsed.closing ∷ []; same = h; reads = (r.both (taken c.in_ok-word.ensures.took) (r.both c.in_ok-condition.ensures.parsed.reads (r.both (r.with (record { holds = (yes c.at.ensures c.if-not-at.false) }) c.in_ok-number.ensures.parsed.reads) c.in_ok-operand-2.ensures.parsed.reads refl) refl) refl) })
+next_event-returns-clause-parsed t c = made (Gave (built P.Counted) next_event) next_event _ _ c.next_event-2.ensures (λ x h. record { items = Tok c.in_ok-word.word.now ∷ Tok c.in_ok-condition.ensures.parsed.opening ∷ Tree (node_of c.in_ok-condition.condition.tree.value) ∷ Tok c.in_ok-condition.ensures.parsed.closing ∷ Tok c.in_ok-number.ensures.parsed.opening ∷ Tok c.in_ok-number.number ∷ Tok c.in_ok-number.ensures.parsed.closing ∷ Tok c.in_ok-operand-2.ensures.parsed.opening ∷ Tree (node_of c.in_ok-operand-2.operand.tree.value) ∷ Tok c.in_ok-operand-2.ensures.parsed.closing ∷ []; same = h; reads = (r.both (taken c.in_ok-word.ensures.took) (r.both c.in_ok-condition.ensures.parsed.reads (r.both (r.with (record { holds = (yes c.at.ensures c.if-not-at.false) }) c.in_ok-number.ensures.parsed.reads) c.in_ok-operand-2.ensures.parsed.reads refl) refl) refl) })
 
 pub event_range-returns-in_err-word-clause-parsed : goal.event_range-returns-in_err-word-clause-parsed
 event_range-returns-in_err-word-clause-parsed t c = exit (Gave (built P.Counted) event_ranged) event_ranged _ _ c.from_residual.ensures.1 (s.first (stopped c.in_err-word.ensures.took))
@@ -466,7 +466,7 @@ pub event_range-returns-in_err-operand-clause-parsed : goal.event_range-returns-
 event_range-returns-in_err-operand-clause-parsed t c = exit (Gave (built P.Counted) event_ranged) event_ranged _ _ c.from_residual-in_err-operand.ensures.1 (s.next _ (taken c.in_ok-word.ensures.took) (s.next _ c.in_ok-condition.ensures.parsed.reads (s.next _ c.in_ok-count.ensures.parsed.reads c.in_err-operand.ensures.parsed)))
 
 pub event_range-returns-clause-parsed : goal.event_range-returns-clause-parsed
-event_range-returns-clause-parsed t c = made (Gave (built P.Counted) event_ranged) event_ranged _ _ c.next_event.ensures (λ x h. record { items = Tok c.in_ok-word.word.now ∷ Tok c.in_ok-condition.ensures.parsed.opening ∷ Tree (node_of c.in_ok-condition.condition.tree) ∷ Tok c.in_ok-condition.ensures.parsed.closing ∷ Tok c.in_ok-count.ensures.parsed.opening ∷ Tok c.in_ok-count.ensures.parsed.low ∷ Tok c.in_ok-count.ensures.parsed.colon ∷ Tok c.in_ok-count.ensures.parsed.high ∷ Tok c.in_ok-count.ensures.parsed.closing ∷ Tok c.in_ok-operand.ensures.parsed.opening ∷ Tree (node_of c.in_ok-operand.operand.tree) ∷ Tok c.in_ok-operand.ensures.parsed.closing ∷ []; same = ap (λ z. NextForm c.in_ok-word.word.now (node_of c.in_ok-condition.condition.tree) z (node_of c.in_ok-operand.operand.tree)) (sym c.in_ok-count.ensures.parsed.same) ∙ h; reads = (r.both (taken c.in_ok-word.ensures.took) (r.both c.in_ok-condition.ensures.parsed.reads (r.both c.in_ok-count.ensures.parsed.reads c.in_ok-operand.ensures.parsed.reads refl) refl) refl) })
+event_range-returns-clause-parsed t c = made (Gave (built P.Counted) event_ranged) event_ranged _ _ c.next_event.ensures (λ x h. record { items = Tok c.in_ok-word.word.now ∷ Tok c.in_ok-condition.ensures.parsed.opening ∷ Tree (node_of c.in_ok-condition.condition.tree.value) ∷ Tok c.in_ok-condition.ensures.parsed.closing ∷ Tok c.in_ok-count.ensures.parsed.opening ∷ Tok c.in_ok-count.ensures.parsed.low ∷ Tok c.in_ok-count.ensures.parsed.colon ∷ Tok c.in_ok-count.ensures.parsed.high ∷ Tok c.in_ok-count.ensures.parsed.closing ∷ Tok c.in_ok-operand.ensures.parsed.opening ∷ Tree (node_of c.in_ok-operand.operand.tree.value) ∷ Tok c.in_ok-operand.ensures.parsed.closing ∷ []; same = ap (λ z. NextForm c.in_ok-word.word.now (node_of c.in_ok-condition.condition.tree.value) z (node_of c.in_ok-operand.operand.tree.value)) (sym c.in_ok-count.ensures.parsed.same) ∙ h; reads = (r.both (taken c.in_ok-word.ensures.took) (r.both c.in_ok-condition.ensures.parsed.reads (r.both c.in_ok-count.ensures.parsed.reads c.in_ok-operand.ensures.parsed.reads refl) refl) refl) })
 
 pub conjunct-returns-in_err-operand-clause-parsed : goal.conjunct-returns-in_err-operand-clause-parsed
 conjunct-returns-in_err-operand-clause-parsed t c = exit (tree P.Conj) (Sym P.Conj) _ _ c.from_residual.ensures.1 (s.symbol (s.right (other (no c.at_boolean.ensures c.if-not-at_boolean.true)) (s.first c.in_err-operand.ensures.parsed)))
@@ -553,13 +553,13 @@ pub start-returns-in_err-repetition-clause-parsed : goal.start-returns-in_err-re
 start-returns-in_err-repetition-clause-parsed t c = exit (tree P.Start) (Sym P.Start) _ _ c.from_residual.ensures.1 (s.symbol (s.right (other (no c.at.ensures c.if-at.false)) (s.left (chosen refl (yes c.at-2.ensures c.if-at-2.true)) c.in_err-repetition.ensures.parsed)))
 
 pub start-returns-then-at-2-clause-parsed : goal.start-returns-then-at-2-clause-parsed
-start-returns-then-at-2-clause-parsed t c = r.symbol (r.right (other (no c.at.ensures c.if-at.false)) (r.left (chosen refl (yes c.at-2.ensures c.if-at-2.true)) c.in_ok-repetition.ensures.parsed.reads)) (node (c.alone.ensures ∙ sym (c.in_ok-repetition.ensures.parsed.start refl)))
+start-returns-then-at-2-clause-parsed t c = made (tree P.Start) (Sym P.Start) _ _ c.alone.ensures (λ x h. r.symbol (r.right (other (no c.at.ensures c.if-at.false)) (r.left (chosen refl (yes c.at-2.ensures c.if-at-2.true)) c.in_ok-repetition.ensures.parsed.reads)) (node (sym (c.in_ok-repetition.ensures.parsed.start refl ∙ h))))
 
 pub start-returns-in_err-repetition-2-clause-parsed : goal.start-returns-in_err-repetition-2-clause-parsed
 start-returns-in_err-repetition-2-clause-parsed t c = exit (tree P.Start) (Sym P.Start) _ _ c.from_residual-in_err-repetition-2.ensures.1 (s.symbol (s.right (other (no c.at.ensures c.if-at.false)) (s.right (other (no c.at-2.ensures c.if-at-2.false)) c.in_err-repetition-2.ensures.parsed)))
 
 pub start-returns-clause-parsed : goal.start-returns-clause-parsed
-start-returns-clause-parsed t c = r.symbol (r.right (other (no c.at.ensures c.if-at.false)) (r.right (other (no c.at-2.ensures c.if-at-2.false)) c.in_ok-repetition-2.ensures.parsed.reads)) (node (c.alone-2.ensures ∙ ap (λ n. Repeat c.in_ok-repetition-2.repetition.opening (count_node n)) c.in_ok-repetition-2.ensures.parsed.none))
+start-returns-clause-parsed t c = made (tree P.Start) (Sym P.Start) _ _ c.alone-2.ensures (λ x h. r.symbol (r.right (other (no c.at.ensures c.if-at.false)) (r.right (other (no c.at-2.ensures c.if-at-2.false)) c.in_ok-repetition-2.ensures.parsed.reads)) (node (sym h ∙ ap (λ n. Repeat c.in_ok-repetition-2.repetition.opening (count_node n)) c.in_ok-repetition-2.ensures.parsed.none)))
 
 pub posts-loop-alloc-init : goal.posts-loop-alloc-init
 posts-loop-alloc-init t c = record { fewer = omega arith; rounds = behind-start _ _ }
@@ -604,4 +604,4 @@ pub post-returns-in_err-clock-clause-parsed : goal.post-returns-in_err-clock-cla
 post-returns-in_err-clock-clause-parsed t c = exit (ReadsPost c.args.operand) (Sym P.Post) _ _ c.from_residual-in_err-clock.ensures.1 (s.symbol (s.right (other (no c.at.ensures c.if-at.false)) (s.right (other (no c.at-2.ensures c.if-at-2.false)) (s.right (other (no c.at-3.ensures c.if-at-3.false)) (s.right (other (no c.at-4.ensures c.if-at-4.false)) (s.next _ (taken c.in_ok-at.ensures.took) c.in_err-clock.ensures.parsed))))))
 
 pub post-returns-clause-parsed : goal.post-returns-clause-parsed
-post-returns-clause-parsed t c = made (ReadsPost c.args.operand) (Sym P.Post) _ _ c.clocked.ensures (λ x h. record { post = Clocked c.in_ok-at.at.now (node_of c.in_ok-clock.clock.tree); same = h; reads = (r.symbol (r.right (other (no c.at.ensures c.if-at.false)) (r.right (other (no c.at-2.ensures c.if-at-2.false)) (r.right (other (no c.at-3.ensures c.if-at-3.false)) (r.right (other (no c.at-4.ensures c.if-at-4.false)) (r.both (taken c.in_ok-at.ensures.took) c.in_ok-clock.ensures.parsed refl))))) refl) })
+post-returns-clause-parsed t c = made (ReadsPost c.args.operand) (Sym P.Post) _ _ c.clocked.ensures (λ x h. record { post = Clocked c.in_ok-at.at.now (node_of c.in_ok-clock.clock.tree.value); same = h; reads = (r.symbol (r.right (other (no c.at.ensures c.if-at.false)) (r.right (other (no c.at-2.ensures c.if-at-2.false)) (r.right (other (no c.at-3.ensures c.if-at-3.false)) (r.right (other (no c.at-4.ensures c.if-at-4.false)) (r.both (taken c.in_ok-at.ensures.took) c.in_ok-clock.ensures.parsed refl))))) refl) })

@@ -122,7 +122,7 @@ decreases-grouped l = 64 * length l.self.now.rest.now + 6
 abbrev pub invariant-termination-loop-alloc : goal.invariant-termination-loop-alloc
 invariant-termination-loop-alloc l = record {
   fewer : length l.self.rest.now ≤ length l.initial.self.rest.now;
-  rounds : Joined (aborts ~ Sym Or) (state l.initial.self) (state l.self) (node_of l.initial.left.tree) (node_of l.left.tree);
+  rounds : Joined (aborts ~ Sym Or) (state l.initial.self) (state l.self) (node_of l.initial.left.tree.value) (node_of l.left.tree.value);
 }
 
 abbrev pub decreases-termination-loop-alloc : goal.decreases-termination-loop-alloc
@@ -131,7 +131,7 @@ decreases-termination-loop-alloc l = length l.self.rest.now
 abbrev pub invariant-disjunction-loop-alloc : goal.invariant-disjunction-loop-alloc
 invariant-disjunction-loop-alloc l = record {
   fewer : length l.self.rest.now ≤ length l.initial.self.rest.now;
-  rounds : Joined (Quoted kinds.OrOr ~ Sym And) (state l.initial.self) (state l.self) (node_of l.initial.left.tree) (node_of l.left.tree);
+  rounds : Joined (Quoted kinds.OrOr ~ Sym And) (state l.initial.self) (state l.self) (node_of l.initial.left.tree.value) (node_of l.left.tree.value);
 }
 
 abbrev pub decreases-disjunction-loop-alloc : goal.decreases-disjunction-loop-alloc
@@ -140,7 +140,7 @@ decreases-disjunction-loop-alloc l = length l.self.rest.now
 abbrev pub invariant-conjunction-loop-alloc : goal.invariant-conjunction-loop-alloc
 invariant-conjunction-loop-alloc l = record {
   fewer : length l.self.rest.now ≤ length l.initial.self.rest.now;
-  rounds : Joined (Quoted kinds.AndAnd ~ Sym Cmp) (state l.initial.self) (state l.self) (node_of l.initial.left.tree) (node_of l.left.tree);
+  rounds : Joined (Quoted kinds.AndAnd ~ Sym Cmp) (state l.initial.self) (state l.self) (node_of l.initial.left.tree.value) (node_of l.left.tree.value);
 }
 
 abbrev pub decreases-conjunction-loop-alloc : goal.decreases-conjunction-loop-alloc
@@ -149,7 +149,7 @@ decreases-conjunction-loop-alloc l = length l.self.rest.now
 abbrev pub invariant-sequence-loop-alloc : goal.invariant-sequence-loop-alloc
 invariant-sequence-loop-alloc l = record {
   fewer : length l.self.rest.now ≤ length l.initial.self.rest.now;
-  rounds : Joined (Quoted kinds.Semicolon ~ Sym Fus) (state l.initial.self) (state l.self) (node_of l.initial.left.tree) (node_of l.left.tree);
+  rounds : Joined (Quoted kinds.Semicolon ~ Sym Fus) (state l.initial.self) (state l.self) (node_of l.initial.left.tree.value) (node_of l.left.tree.value);
 }
 
 abbrev pub decreases-sequence-loop-alloc : goal.decreases-sequence-loop-alloc
@@ -158,7 +158,7 @@ decreases-sequence-loop-alloc l = length l.self.rest.now
 abbrev pub invariant-fusion-loop-alloc : goal.invariant-fusion-loop-alloc
 invariant-fusion-loop-alloc l = record {
   fewer : length l.self.rest.now ≤ length l.initial.self.rest.now;
-  rounds : Joined (Quoted kinds.Colon ~ Sym Alt) (state l.initial.self) (state l.self) (node_of l.initial.left.tree) (node_of l.left.tree);
+  rounds : Joined (Quoted kinds.Colon ~ Sym Alt) (state l.initial.self) (state l.self) (node_of l.initial.left.tree.value) (node_of l.left.tree.value);
 }
 
 abbrev pub decreases-fusion-loop-alloc : goal.decreases-fusion-loop-alloc
@@ -167,7 +167,7 @@ decreases-fusion-loop-alloc l = length l.self.rest.now
 abbrev pub invariant-alternation-loop-alloc : goal.invariant-alternation-loop-alloc
 invariant-alternation-loop-alloc l = record {
   fewer : length l.self.rest.now ≤ length l.initial.self.rest.now;
-  rounds : Joined (Quoted kinds.Bar ~ Sym Conj) (state l.initial.self) (state l.self) (node_of l.initial.left.tree) (node_of l.left.tree);
+  rounds : Joined (Quoted kinds.Bar ~ Sym Conj) (state l.initial.self) (state l.self) (node_of l.initial.left.tree.value) (node_of l.left.tree.value);
 }
 
 abbrev pub decreases-alternation-loop-alloc : goal.decreases-alternation-loop-alloc
@@ -176,7 +176,7 @@ decreases-alternation-loop-alloc l = length l.self.rest.now
 abbrev pub invariant-bool_or-loop-alloc : goal.invariant-bool_or-loop-alloc
 invariant-bool_or-loop-alloc l = record {
   fewer : length l.self.rest.now ≤ length l.initial.self.rest.now;
-  rounds : Joined (Quoted kinds.OrOr ~ Sym Band) (state l.initial.self) (state l.self) (node_of l.initial.left.tree) (node_of l.left.tree);
+  rounds : Joined (Quoted kinds.OrOr ~ Sym Band) (state l.initial.self) (state l.self) (node_of l.initial.left.tree.value) (node_of l.left.tree.value);
 }
 
 abbrev pub decreases-bool_or-loop-alloc : goal.decreases-bool_or-loop-alloc
@@ -185,7 +185,7 @@ decreases-bool_or-loop-alloc l = length l.self.rest.now
 abbrev pub invariant-bool_and-loop-alloc : goal.invariant-bool_and-loop-alloc
 invariant-bool_and-loop-alloc l = record {
   fewer : length l.self.rest.now ≤ length l.initial.self.rest.now;
-  rounds : Joined (Quoted kinds.AndAnd ~ Sym Bcmp) (state l.initial.self) (state l.self) (node_of l.initial.left.tree) (node_of l.left.tree);
+  rounds : Joined (Quoted kinds.AndAnd ~ Sym Bcmp) (state l.initial.self) (state l.self) (node_of l.initial.left.tree.value) (node_of l.left.tree.value);
 }
 
 abbrev pub decreases-bool_and-loop-alloc : goal.decreases-bool_and-loop-alloc
@@ -194,7 +194,7 @@ decreases-bool_and-loop-alloc l = length l.self.rest.now
 abbrev pub invariant-posts-loop-alloc : goal.invariant-posts-loop-alloc
 invariant-posts-loop-alloc l = record {
   fewer : length l.self.rest.now ≤ length l.initial.self.rest.now;
-  rounds : Behind (state l.initial.self) (state l.self) (node_of l.initial.operand.tree) (node_of l.operand.tree);
+  rounds : Behind (state l.initial.self) (state l.self) (node_of l.initial.operand.tree.value) (node_of l.operand.tree.value);
 }
 
 abbrev pub decreases-posts-loop-alloc : goal.decreases-posts-loop-alloc
@@ -203,7 +203,7 @@ decreases-posts-loop-alloc l = length l.self.rest.now
 abbrev pub invariant-within_tail-loop-alloc : goal.invariant-within_tail-loop-alloc
 invariant-within_tail-loop-alloc l = record {
   fewer : length l.self.rest.now ≤ length l.initial.self.rest.now;
-  rounds : Waiting tails (Quoted kinds.Within ~ Sym Side) (state l.initial.self) (state l.self) (node_of l.initial.left.tree) (node_of l.left.tree);
+  rounds : Waiting tails (Quoted kinds.Within ~ Sym Side) (state l.initial.self) (state l.self) (node_of l.initial.left.tree.value) (node_of l.left.tree.value);
 }
 
 abbrev pub decreases-within_tail-loop-alloc : goal.decreases-within_tail-loop-alloc
@@ -212,7 +212,7 @@ decreases-within_tail-loop-alloc l = length l.self.rest.now
 abbrev pub invariant-and_tail-loop-alloc : goal.invariant-and_tail-loop-alloc
 invariant-and_tail-loop-alloc l = record {
   fewer : length l.self.rest.now ≤ length l.initial.self.rest.now;
-  rounds : Waiting wide_tails ((Quoted kinds.Ampersand // Quoted kinds.AndAnd) ~ Sym Side ~ Sym Wtail) (state l.initial.self) (state l.self) (node_of l.initial.left.tree) (node_of l.left.tree);
+  rounds : Waiting wide_tails ((Quoted kinds.Ampersand // Quoted kinds.AndAnd) ~ Sym Side ~ Sym Wtail) (state l.initial.self) (state l.self) (node_of l.initial.left.tree.value) (node_of l.left.tree.value);
 }
 
 abbrev pub decreases-and_tail-loop-alloc : goal.decreases-and_tail-loop-alloc

@@ -24,4 +24,4 @@ pub returns-in_err-take-2-clause-parsed : goal.returns-in_err-take-2-clause-pars
 returns-in_err-take-2-clause-parsed c = exit (GaveBy statement_node (built P.Declaration) (declares c.args.word c.args.name)) (declares c.args.word c.args.name) _ _ c.from_residual-in_err-take-2.ensures.1 (s.next _ (taken c.in_ok-word.ensures.took) (s.next _ (taken c.in_ok-name.ensures.took) (s.next _ (taken c.in_ok-take.ensures.took) (s.next _ c.in_ok-body.ensures.parsed (stopped c.in_err-take-2.ensures.took)))))
 
 pub returns-clause-parsed : goal.returns-clause-parsed
-returns-clause-parsed c = made-statement (GaveBy statement_node (built P.Declaration) (declares c.args.word c.args.name)) (declares c.args.word c.args.name) _ _ c.declaration.ensures (λ x h. record { items = Tok c.in_ok-word.word.now ∷ Tok c.in_ok-name.name.now ∷ Tok c.in_ok-take.field-0.now ∷ Tree (node_of c.in_ok-body.body.tree) ∷ Tok c.in_ok-take-2.field-0.now ∷ []; same = h; reads = (r.both (taken c.in_ok-word.ensures.took) (r.both (taken c.in_ok-name.ensures.took) (r.both (taken c.in_ok-take.ensures.took) (r.both c.in_ok-body.ensures.parsed (taken c.in_ok-take-2.ensures.took) refl) refl) refl) refl) })
+returns-clause-parsed c = made-statement (GaveBy statement_node (built P.Declaration) (declares c.args.word c.args.name)) (declares c.args.word c.args.name) _ _ c.declaration.ensures (λ x h. record { items = Tok c.in_ok-word.word.now ∷ Tok c.in_ok-name.name.now ∷ Tok c.in_ok-take.field-0.now ∷ Tree (node_of c.in_ok-body.body.tree.value) ∷ Tok c.in_ok-take-2.field-0.now ∷ []; same = h; reads = (r.both (taken c.in_ok-word.ensures.took) (r.both (taken c.in_ok-name.ensures.took) (r.both (taken c.in_ok-take.ensures.took) (r.both c.in_ok-body.ensures.parsed (taken c.in_ok-take-2.ensures.took) refl) refl) refl) refl) })

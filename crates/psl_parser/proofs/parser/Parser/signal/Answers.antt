@@ -1,6 +1,7 @@
+use Rattle.std.proofs.Common.{◌∙◌}
 use Rattle.psl_parser.specs.Pieces.{signal, Gave}
 use Rattle.psl_grammar.specs.Trees.{atom}
-use Rattle.psl_parser.proofs.Exits.{exit}
+use Rattle.psl_parser.proofs.Exits.{exit, made}
 use Rattle.psl_parser.proofs.Making.{signal-made}
 use Rattle.psl_grammar.specs.Reading.{Stops as s}
 use Rattle.psl_parser.proofs.parser.Parser.signal.Goals as goal
@@ -12,4 +13,4 @@ pub returns-in_err-number-clause-parsed : goal.returns-in_err-number-clause-pars
 returns-in_err-number-clause-parsed c = exit (Gave atom signal) signal _ _ c.from_residual-in_err-number.ensures.1 (s.next _ c.in_ok-path.ensures.parsed c.in_err-number.ensures.parsed)
 
 pub returns-clause-parsed : goal.returns-clause-parsed
-returns-clause-parsed c = let made = signal-made c.in_ok-number.number c.in_ok-path.ensures.parsed c.in_ok-number.ensures.parsed in record { items = made.0; same = made.1; reads = made.2 }
+returns-clause-parsed c = made (Gave atom signal) signal _ _ c.signal.ensures (λ x h. let read = signal-made c.in_ok-number.number c.in_ok-path.ensures.parsed c.in_ok-number.ensures.parsed in record { items = read.0; same = read.1 ∙ h; reads = read.2 })
