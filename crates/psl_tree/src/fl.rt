@@ -1,10 +1,11 @@
-ghost use Rattle.std.specs.Prelude.{◌≡◌, IfOk};
-ghost use Rattle.psl_tree.specs.Trees.{boolean_of, sequence_of, formula_of};
-ghost use Rattle.psl_tree.specs.Counts.{boolean_size, sequence_size, formula_size, obligations_of, shown};
+ghost use Rattle.std.specs.Prelude.{◌≡◌, ◌<◌, IfOk, IfSome};
+ghost use Rattle.psl_tree.specs.Dropped.{FirstOf, LeftFirst, weight};
+ghost use Rattle.psl_tree.specs.Trees.{formula_of};
 
-use crate::{Bool, Sere, states};
+use crate::{Bool, Sere};
 use psl_base::{NoMemory, boxed};
 use std::alloc::Global;
+use std::mem;
 
 /// A formula of the Foundation Language, reduced to its kernel (IEEE 1850, clause 6.2 and Annex B).
 #[derive(Debug)]
@@ -23,21 +24,54 @@ pub enum Fl {
     Clocked(Box<Fl>, Bool),
 }
 
-// A loop along the right parts, since a derived drop takes stack for each level, and a formula that
-// was rewritten may have some 20,000 of them.
+// A loop, since a derived drop takes stack for each level, and a formula that was rewritten may have
+// some 20,000 of them. It goes down the left parts; the right parts that it meets wait in one chain.
 impl Drop for Fl {
     fn drop(mut self) {
-        loop {
-            match self {
-                Fl::Now(_test) | Fl::NowStrong(_test) => return,
-                Fl::Weak(_sequence) | Fl::Strong(_sequence) => return,
-                Fl::Not(part) | Fl::Next(part) => self = Box::into_inner(part),
-                Fl::And(_left, right) | Fl::Until(_left, right) => self = Box::into_inner(right),
-                Fl::Suffix(_sequence, part) => self = Box::into_inner(part),
-                Fl::Abort(part, _test) | Fl::SyncAbort(part, _test) | Fl::Clocked(part, _test) => {
-                    self = Box::into_inner(part)
-                }
+        let mut waiting = None;
+        while let Some((part, others)) = self.opened(waiting) {
+            self = part;
+            waiting = others;
+        }
+    }
+}
+
+// A formula to drop, and one that waits until that is done.
+type Dropping = (Fl, Option<Box<Fl>>);
+
+impl Fl {
+    // What is to drop once the formula itself is gone.
+    fn opened(self, waiting: Option<Box<Fl>>) -> Option<Dropping>
+        ensures { IfSome result (λ left. weight left < weight (self, waiting)) }
+    {
+        match self {
+            Fl::Now(_test) | Fl::NowStrong(_test) => first_of(waiting),
+            Fl::Weak(_sequence) | Fl::Strong(_sequence) => first_of(waiting),
+            Fl::Not(part) | Fl::Next(part) => Some((Box::into_inner(part), waiting)),
+            Fl::And(left, right) | Fl::Until(left, right) => Some(left_first(left, right, waiting)),
+            Fl::Suffix(_sequence, part) => Some((Box::into_inner(part), waiting)),
+            Fl::Abort(part, _test) | Fl::SyncAbort(part, _test) | Fl::Clocked(part, _test) => {
+                Some((Box::into_inner(part), waiting))
             }
+        }
+    }
+}
+
+fn first_of(waiting: Option<Box<Fl>>) -> Option<Dropping>
+    ensures { FirstOf waiting result }
+{
+    waiting.map(|tree| (Box::into_inner(tree), None))
+}
+
+// The left part; the right part waits, in the box of the left one where another waits already.
+fn left_first(mut left: Box<Fl>, right: Box<Fl>, waiting: Option<Box<Fl>>) -> Dropping
+    ensures { LeftFirst left right waiting result }
+{
+    match waiting {
+        None => (Box::into_inner(left), Some(right)),
+        Some(later) => {
+            let tree = mem::replace(&mut *left, Fl::And(right, later));
+            (tree, Some(left))
         }
     }
 }
@@ -78,97 +112,6 @@ impl Fl {
                 let part = boxed(alloc, part.copy(alloc)?)?;
                 Ok(Fl::Clocked(part, clock.copy(alloc)?))
             }
-        }
-    }
-}
-
-/// How many constructors of formulas, sequences and Booleans a formula has. It stays at 2^64 - 1
-/// once it is there.
-pub fn measure(formula: &Fl) -> u64
-    ensures { result ≡ shown (formula_size (formula_of formula.now)) }
-{
-    match formula {
-        Fl::Now(test) | Fl::NowStrong(test) => measure_bool(test).saturating_add(1),
-        Fl::Weak(sequence) | Fl::Strong(sequence) => measure_sere(sequence).saturating_add(1),
-        Fl::Not(part) | Fl::Next(part) => measure(part).saturating_add(1),
-        Fl::And(left, right) | Fl::Until(left, right) => {
-            measure(left)
-                .saturating_add(measure(right))
-                .saturating_add(1)
-        }
-        Fl::Suffix(sequence, part) => {
-            measure_sere(sequence)
-                .saturating_add(measure(part))
-                .saturating_add(1)
-        }
-        Fl::Abort(part, test) | Fl::SyncAbort(part, test) | Fl::Clocked(part, test) => {
-            measure(part)
-                .saturating_add(measure_bool(test))
-                .saturating_add(1)
-        }
-    }
-}
-
-fn measure_sere(sequence: &Sere) -> u64
-    ensures { result ≡ shown (sequence_size (sequence_of sequence.now)) }
-{
-    match sequence {
-        Sere::Empty => 1,
-        Sere::One(test) => measure_bool(test).saturating_add(1),
-        Sere::Concat(left, right)
-        | Sere::Fuse(left, right)
-        | Sere::Either(left, right)
-        | Sere::Both(left, right) => {
-            measure_sere(left)
-                .saturating_add(measure_sere(right))
-                .saturating_add(1)
-        }
-        Sere::Star(part) => measure_sere(part).saturating_add(1),
-        Sere::Clocked(part, clock) => {
-            measure_sere(part)
-                .saturating_add(measure_bool(clock))
-                .saturating_add(1)
-        }
-    }
-}
-
-fn measure_bool(test: &Bool) -> u64
-    ensures { result ≡ shown (boolean_size (boolean_of test.now)) }
-{
-    match test {
-        Bool::Const(_) | Bool::Test(_) => 1,
-        Bool::Not(part) => measure_bool(part).saturating_add(1),
-        Bool::And(left, right) | Bool::Or(left, right) => {
-            measure_bool(left)
-                .saturating_add(measure_bool(right))
-                .saturating_add(1)
-        }
-    }
-}
-
-/// At most how many obligations the alternating automaton of a formula has. It stays at 2^64 - 1
-/// once it is there.
-pub fn obligations(formula: &Fl) -> u64
-    ensures { result ≡ shown (obligations_of (formula_of formula.now)) }
-{
-    match formula {
-        Fl::Now(_) | Fl::NowStrong(_) => 1,
-        Fl::Weak(sequence) | Fl::Strong(sequence) => states(sequence).saturating_add(1),
-        Fl::Not(part) | Fl::Next(part) | Fl::Clocked(part, _) => {
-            obligations(part).saturating_add(1)
-        }
-        Fl::And(left, right) | Fl::Until(left, right) => {
-            obligations(left)
-                .saturating_add(obligations(right))
-                .saturating_add(1)
-        }
-        Fl::Suffix(sequence, part) => {
-            states(sequence)
-                .saturating_add(obligations(part))
-                .saturating_add(1)
-        }
-        Fl::Abort(part, _) | Fl::SyncAbort(part, _) => {
-            obligations(part).saturating_mul(2).saturating_add(1)
         }
     }
 }

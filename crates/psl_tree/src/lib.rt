@@ -4,6 +4,7 @@
 
 mod atom;
 mod boolean;
+mod counts;
 mod directive;
 mod fl;
 mod letter;
@@ -12,15 +13,18 @@ mod naming;
 mod printing;
 #[cfg(test)]
 mod printing_tests;
+mod range;
 mod sere;
 #[cfg(test)]
 mod tests;
 
 pub use atom::{Atom, Atoms, Edge, same_atom};
 pub use boolean::Bool;
+pub use counts::{MOST_CONSTRUCTORS, MOST_OBLIGATIONS, MOST_STATES, measure, obligations, states};
 pub use directive::{Directive, Kind, Unit};
-pub use fl::{Fl, measure, obligations};
+pub use fl::Fl;
 pub use letter::{Letter, Letters, Word, holds};
 pub use name::{Name, Names};
 pub use printing::print_fl;
-pub use sere::{Sere, states};
+pub use range::{are_in_range, is_in_range};
+pub use sere::Sere;

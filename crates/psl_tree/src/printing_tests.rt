@@ -1,82 +1,10 @@
-ghost use Rattle.std.specs.Prelude.{IsTrue, ◌≡◌, ◌<◌, ◌+◌, ◌^◌};
-ghost use Rattle.psl_tree.specs.Atoms.{AtomsOfBoolean, AtomsOfSequence, AtomsOfFormula};
-ghost use Rattle.psl_tree.specs.Names.{AtomInRange, indices};
-ghost use Rattle.psl_tree.specs.Trees.{boolean_of, sequence_of, formula_of};
-
-use crate::{Atom, Bool, Edge, Fl, Name, Names, Sere, print_fl};
+use crate::{Atom, Bool, Edge, Fl, Name, Names, Sere, are_in_range, print_fl};
 use psl_base::{Items, NoMemory, Text, boxed};
 use std::alloc::Global;
 use std::test::Fail;
 
-// Whether the atoms of a tree are in range of names, as `print_fl` asks.
-
-fn is_within(name: &Name, atom: &Atom) -> bool
-    ensures { IsTrue result → name.now.signal ≡ atom.now.signal → atom.now.bit < indices name.now }
-{
-    let wide = name.left.abs_diff(name.right);
-    name.signal != atom.signal || atom.bit <= wide
-}
-
-fn is_atom_in_range(names: &[Name], atom: &Atom) -> bool
-    ensures { IsTrue result → AtomInRange names.now atom.now }
-{
-    names.iter().any(|name| name.signal == atom.signal)
-        && names.iter().all(|name| is_within(name, atom))
-}
-
-fn is_boolean_in_range(names: &[Name], test: &Bool) -> bool
-    ensures { IsTrue result → AtomsOfBoolean (AtomInRange names.now) (boolean_of test.now) }
-{
-    match test {
-        Bool::Const(_) => true,
-        Bool::Test(atom) => is_atom_in_range(names, atom),
-        Bool::Not(part) => is_boolean_in_range(names, part),
-        Bool::And(left, right) | Bool::Or(left, right) => {
-            is_boolean_in_range(names, left) && is_boolean_in_range(names, right)
-        }
-    }
-}
-
-fn is_sequence_in_range(names: &[Name], sequence: &Sere) -> bool
-    ensures { IsTrue result → AtomsOfSequence (AtomInRange names.now) (sequence_of sequence.now) }
-{
-    match sequence {
-        Sere::Empty => true,
-        Sere::One(test) => is_boolean_in_range(names, test),
-        Sere::Star(part) => is_sequence_in_range(names, part),
-        Sere::Clocked(part, clock) => {
-            is_sequence_in_range(names, part) && is_boolean_in_range(names, clock)
-        }
-        Sere::Concat(left, right)
-        | Sere::Fuse(left, right)
-        | Sere::Either(left, right)
-        | Sere::Both(left, right) => {
-            is_sequence_in_range(names, left) && is_sequence_in_range(names, right)
-        }
-    }
-}
-
-fn is_in_range(names: &[Name], f: &Fl) -> bool
-    ensures { IsTrue result → AtomsOfFormula (AtomInRange names.now) (formula_of f.now) }
-{
-    match f {
-        Fl::Now(test) | Fl::NowStrong(test) => is_boolean_in_range(names, test),
-        Fl::Weak(sequence) | Fl::Strong(sequence) => is_sequence_in_range(names, sequence),
-        Fl::Not(part) | Fl::Next(part) => is_in_range(names, part),
-        Fl::And(left, right) | Fl::Until(left, right) => {
-            is_in_range(names, left) && is_in_range(names, right)
-        }
-        Fl::Suffix(sequence, part) => {
-            is_sequence_in_range(names, sequence) && is_in_range(names, part)
-        }
-        Fl::Abort(part, test) | Fl::SyncAbort(part, test) | Fl::Clocked(part, test) => {
-            is_in_range(names, part) && is_boolean_in_range(names, test)
-        }
-    }
-}
-
 fn prints(alloc: Global, names: &Names, f: &Fl, wanted: &[u8]) -> Result<bool, NoMemory> {
-    if !is_in_range(names.as_slice(), f) {
+    if !are_in_range(names, f) {
         return Ok(false);
     }
     let text = print_fl(alloc, f, names)?;

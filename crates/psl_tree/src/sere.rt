@@ -1,6 +1,5 @@
 ghost use Rattle.std.specs.Prelude.{◌≡◌, IfOk};
 ghost use Rattle.psl_tree.specs.Trees.{sequence_of};
-ghost use Rattle.psl_tree.specs.Counts.{states_of, shown};
 
 use crate::Bool;
 use psl_base::{NoMemory, boxed};
@@ -49,21 +48,5 @@ impl Sere {
                 Ok(Sere::Clocked(part, clock.copy(alloc)?))
             }
         }
-    }
-}
-
-/// At most how many states the automaton of a sequence has. It stays at 2^64 - 1 once it is there.
-pub fn states(sequence: &Sere) -> u64
-    ensures { result ≡ shown (states_of (sequence_of sequence.now)) }
-{
-    match sequence {
-        Sere::Empty => 1,
-        Sere::One(_) => 2,
-        Sere::Concat(left, right) | Sere::Fuse(left, right) | Sere::Either(left, right) => {
-            states(left).saturating_add(states(right))
-        }
-        Sere::Both(left, right) => states(left).saturating_mul(states(right)),
-        Sere::Star(part) => states(part).saturating_add(1),
-        Sere::Clocked(part, _) => states(part),
     }
 }

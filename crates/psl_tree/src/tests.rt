@@ -1,7 +1,8 @@
 use crate::{
-    Atom, Atoms, Bool, Edge, Fl, Letter, Sere, holds, measure, obligations, same_atom, states,
+    Atom, Atoms, Bool, Edge, Fl, Letter, Name, Names, Sere, are_in_range, holds, is_in_range,
+    measure, obligations, same_atom, states,
 };
-use psl_base::{Items, NoMemory, boxed};
+use psl_base::{Items, NoMemory, Text, boxed};
 use std::alloc::Global;
 use std::test::Fail;
 
@@ -82,5 +83,55 @@ fn counts_and_copies(rt: HostRuntime) -> Result<(), Fail> {
     let until = Fl::Until(boxed(alloc, next)?, boxed(alloc, strong)?);
     let copy = until.copy(alloc)?;
     assert_eq!(rt; (measure(&copy), obligations(&copy)), (30, 28));
+    Ok(())
+}
+
+#[test]
+fn atoms_in_range_of_names(rt: HostRuntime) -> Result<(), Fail> {
+    let alloc = rt.alloc();
+    let mut names: Names = Items::new(alloc);
+    for (signal, left, right) in [(0, 0, 0), (1, 7, 4), (1, 3, 0)] {
+        let text = Text::from_slice(alloc, b"a")?;
+        names.push(Name {
+            text,
+            signal,
+            left,
+            right,
+        })?;
+    }
+    for (signal, bit, wanted) in [
+        (0, 0, true),
+        (0, 1, false),
+        (1, 3, true),
+        (1, 4, false),
+        (2, 0, false),
+    ] {
+        let atom = Atom {
+            signal,
+            bit,
+            edge: Edge::Rise,
+        };
+        assert_eq!(rt; is_in_range(&names, &atom), wanted);
+        let sequence = sequence_of(alloc, atom)?;
+        let now = boxed(alloc, Fl::NowStrong(Bool::Const(true)))?;
+        assert_eq!(rt; are_in_range(&names, &Fl::Suffix(sequence, now)), wanted);
+    }
+    Ok(())
+}
+
+// So many levels that a drop which calls itself for each of them runs out of stack.
+const DEEP: u32 = 200_000;
+
+#[test]
+fn a_deep_formula_is_dropped(rt: HostRuntime) -> Result<(), Fail> {
+    let alloc = rt.alloc();
+    let mut leans_left = Fl::Now(Bool::Const(true));
+    let mut leans_right = Fl::Now(Bool::Const(true));
+    for _i in 0..DEEP {
+        let last = boxed(alloc, Fl::Now(Bool::Const(false)))?;
+        leans_left = Fl::Until(boxed(alloc, leans_left)?, last);
+        let first = boxed(alloc, Fl::Now(Bool::Const(false)))?;
+        leans_right = Fl::And(first, boxed(alloc, leans_right)?);
+    }
     Ok(())
 }
