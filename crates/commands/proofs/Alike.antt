@@ -1,12 +1,11 @@
 -- Readings whose results are alike: one fault, or values that are alike.
 use Rattle.std.proofs.Common.{◌≡◌, refl, sym, ◌∙◌, ap, subst, ℕ, List, Option, None, Some, Ok, Err, arith, inl, inr}
 use Rattle.std.specs.Prelude.{◌≢◌, Result}
-use Rattle.psl_base.specs.declared.place.Place.{Place}
 use Rattle.commands.specs.Faults.{fault_in, of_file, fault_of}
 use Rattle.commands.specs.Stages.{AndThen, ToldBy, OfContent}
 use Rattle.commands.specs.declared.outcome.Fault.{Fault}
-use Rattle.commands.specs.declared.outcome.Reason.{Reason}
-use Rattle.commands.specs.declared.outcome.Reason.TheVariants.{ReadFault, TooLong, NoMemory}
+use Rattle.commands.specs.declared.reason.Diagnostic.{Diagnostic}
+use Rattle.commands.specs.declared.reason.Reason.TheVariants.{ReadFault, TooLong, NoMemory}
 
 -- the same fault, or values that are alike
 abbrev pub Alike : {A : Type 0} → (A → A → Type 0) → Result A Fault → Result A Fault → Type 0
@@ -34,18 +33,16 @@ agree-faults Same R S agree a b h k = by a b (agree a b h k)
     by (Ok v) (Err g) s = absurd s
     by (Err f) (Ok w) s = absurd s
 
-module _ {A F : Type 0} (name : List ℕ) (reason : F → Reason) (place place' : F → Option Place) (IsValue IsValue' : A → Type 0) (IsFault IsFault' : F → Type 0) (Same : A → A → Type 0) where
+module _ {A F : Type 0} (name : List ℕ) (said said' : F → Diagnostic) (IsValue IsValue' : A → Type 0) (IsFault IsFault' : F → Type 0) (Same : A → A → Type 0) where
   pub agree-told : ((a b : A) → IsValue a → IsValue' b → Same a b)
-      → ((c d : F) → (reason c ≢ NoMemory) → (reason d ≢ NoMemory) → IsFault c → IsFault' d → (c ≡ d) × (place c ≡ place' d))
-      → ((a : A) (d : F) → (reason d ≢ NoMemory) → IsValue a → IsFault' d → ⊥)
-      → ((c : F) (b : A) → (reason c ≢ NoMemory) → IsFault c → IsValue' b → ⊥)
-      → Agree Same (ToldBy name reason place IsValue IsFault) (ToldBy name reason place' IsValue' IsFault')
+      → ((c d : F) → ((said c).reason ≢ NoMemory) → ((said' d).reason ≢ NoMemory) → IsFault c → IsFault' d → said c ≡ said' d)
+      → ((a : A) (d : F) → ((said' d).reason ≢ NoMemory) → IsValue a → IsFault' d → ⊥)
+      → ((c : F) (b : A) → ((said c).reason ≢ NoMemory) → IsFault c → IsValue' b → ⊥)
+      → Agree Same (ToldBy name said IsValue IsFault) (ToldBy name said' IsValue' IsFault')
   agree-told values faults apart apart' (Ok a) (Ok b) h k = values a b h k
   agree-told values faults apart apart' (Ok a) (Err g) h (d, is, n, _) = absurd (apart a d n h is)
   agree-told values faults apart apart' (Err f) (Ok b) (c, is, n, _) k = absurd (apart' c b n is k)
-  agree-told values faults apart apart' (Err f) (Err g) (c, is, n, e) (d, is', n', e') =
-      let same = faults c d n n' is is' in
-      e ∙ ap (λ (x : F). fault_in name (reason x) (place c)) same.0 ∙ ap (λ (y : Option Place). fault_in name (reason d) y) same.1 ∙ sym e'
+  agree-told values faults apart apart' (Err f) (Err g) (c, is, n, e) (d, is', n', e') = e ∙ ap (fault_in name) (faults c d n n' is is') ∙ sym e'
 
 module _ {A B : Type 0} (Same : A → A → Type 0) (Same' : B → B → Type 0) (First First' : Result A Fault → Type 0) (Next Next' : A → Result B Fault → Type 0) where
   pub agree-then : Agree Same First First' → ((v w : A) → Same v w → Agree Same' (Next v) (Next' w)) → Agree Same' (AndThen First Next) (AndThen First' Next')

@@ -4,16 +4,17 @@ use Rattle.std.specs.Prelude.{◌⊎◌, Result, Ok, Err, IfOk, IfErr, IfSome}
 use Rattle.psl_base.specs.Shelf.{ShelfState}
 use Rattle.psl_base.specs.Sink.{SinkState}
 use Rattle.commands.proofs.Staging.{none-unread}
-use Rattle.commands.specs.Commands.{IsNamed, IsOfCommand}
-use Rattle.commands.specs.Endings.{status_of, reason_status, IsUnwritten, Prints, PrintsFault, EndsWith, EndsFaulted, IsDeviceStatus}
-use Rattle.commands.specs.Faults.{of_none}
-use Rattle.commands.specs.Stages.{Cause, OfWords, OfReading, OfWriting, OfText, OfMemory, cause_of, IsUnread, IsCounted}
+use Rattle.commands.specs.Commands.{FirstRefusal, HadToTell, IsNamed, IsOfCommand, IsOutcomeOf}
+use Rattle.commands.specs.Endings.{status_of, Explained, IsToTell, IsUnwritten, Prints, PrintsFault, EndsWith, EndsFaulted, IsDeviceStatus}
+use Rattle.commands.specs.Faults.{of_none, fault_of}
+use Rattle.commands.specs.Rows.{Cause, OfWords, OfReading, OfWriting, OfText, OfMemory, cause_of, reason_status}
+use Rattle.commands.specs.Stages.{OfTold, IsUnread, IsCounted}
 use Rattle.commands.specs.declared.finish.Planned.{Planned}
 use Rattle.commands.specs.declared.outcome.Fault.{Fault}
 use Rattle.commands.specs.declared.outcome.Outcome.{Outcome}
 use Rattle.commands.specs.declared.outcome.Outcome.TheVariants.{Nothing}
-use Rattle.commands.specs.declared.outcome.Reason.{Reason}
-use Rattle.commands.specs.declared.outcome.Reason.TheVariants.{Usage, ReadFault, WriteFault, NoMemory}
+use Rattle.commands.specs.declared.reason.Reason.{Reason}
+use Rattle.commands.specs.declared.reason.Reason.TheVariants.{Usage, ReadFault, WriteFault, NoMemory}
 
 -- a fault of writing alone has its cause
 of_writing : (reason : Reason) → cause_of reason ≡ OfWriting → reason ≡ WriteFault
@@ -24,13 +25,34 @@ of_writing NoMemory e = absurd (let wrong : OfMemory ≡ OfWriting = e in cc)
 of_writing _ e = absurd (let wrong : OfText ≡ OfWriting = e in cc)
 
 -- a line that was told raises no count
-told-still : (cause : Cause) (outcome : Outcome) (fault : Fault) (out later err after : SinkState) → (cause ≡ OfWriting → ⊥)
-    → PrintsFault cause outcome fault out later err after → (later.faults ≡ out.faults) × (after.faults ≡ err.faults)
-told-still OfWriting outcome fault out later err after other h = absurd (other refl)
-told-still OfWords outcome fault out later err after other h = (ap (λ (s : SinkState). s.faults) h.0, h.1.faults)
-told-still OfReading outcome fault out later err after other h = (ap (λ (s : SinkState). s.faults) h.0, h.1.faults)
-told-still OfText outcome fault out later err after other h = (ap (λ (s : SinkState). s.faults) h.0, h.1.faults)
-told-still OfMemory outcome fault out later err after other h = (ap (λ (s : SinkState). s.faults) h.0, h.1.faults)
+told-still : (P : Fault → Type 0) (cause : Cause) (outcome : Outcome) (fault : Fault) (out later err after : SinkState) → (cause ≡ OfWriting → ⊥)
+    → PrintsFault cause P outcome fault out later err after → (later.faults ≡ out.faults) × (after.faults ≡ err.faults)
+told-still P OfWriting outcome fault out later err after other h = absurd (other refl)
+told-still P OfWords outcome fault out later err after other h = (ap (λ (s : SinkState). s.faults) h.0, h.1.faults)
+told-still P OfReading outcome fault out later err after other h = (ap (λ (s : SinkState). s.faults) h.0, h.1.faults)
+told-still P OfText outcome fault out later err after other h = (ap (λ (s : SinkState). s.faults) h.0, h.1.faults)
+told-still P OfMemory outcome fault out later err after other h = (ap (λ (s : SinkState). s.faults) h.0, h.1.faults)
+
+-- what is known of the fault whose line was to be printed may be known less well
+fault-weaker : (P Q : Fault → Type 0) → ((f : Fault) → P f → Q f) → (cause : Cause) (outcome : Outcome) (fault : Fault) (out later err after : SinkState)
+    → PrintsFault cause P outcome fault out later err after → PrintsFault cause Q outcome fault out later err after
+fault-weaker P Q w OfWriting outcome fault out later err after (inl h) = inl h
+fault-weaker P Q w OfWriting outcome fault out later err after (inr (still, told)) = inr (still, (told.0, w told.0 told.1, told.2))
+fault-weaker P Q w OfWords outcome fault out later err after h = h
+fault-weaker P Q w OfReading outcome fault out later err after h = h
+fault-weaker P Q w OfText outcome fault out later err after h = h
+fault-weaker P Q w OfMemory outcome fault out later err after h = h
+
+pub prints-weaker : (P Q : Fault → Type 0) → ((f : Fault) → P f → Q f) → (outcome : Outcome) (fault : Option Fault) (out later err after : SinkState)
+    → Prints P outcome fault out later err after → Prints Q outcome fault out later err after
+prints-weaker P Q w outcome None out later err after h = h
+prints-weaker P Q w outcome (Some fault) out later err after h = fault-weaker P Q w (cause_of fault.reason) outcome fault out later err after h
+
+-- a fault that was to be told after planning is one that the run had to tell
+pub had-to-tell : (words : List (List ℕ)) (old new : ShelfState) (planned : Result Planned Fault) → Explained ⊥ old new (FirstRefusal words) (fault_of planned)
+    → (fault : Fault) → IsToTell (fault_of planned) fault → HadToTell words old new fault
+had-to-tell words old new planned explained fault (inl e) = subst (Explained ⊥ old new (FirstRefusal words)) e explained
+had-to-tell words old new planned explained fault (inr e) = subst (λ (f : Fault). Explained ⊥ old new (FirstRefusal words) (Some f)) (sym e) tt
 
 module _ (A B : Type 0) (outcome : Outcome) (fault : Option Fault) where
   pub run-named : (words : List (List ℕ)) (planned : Result Planned Fault) → IfErr planned (λ f. IsNamed words f)
@@ -81,7 +103,14 @@ module _ (A B : Type 0) (outcome : Outcome) (fault : Option Fault) where
       → IfErr planned (λ f. EndsFaulted f outcome fault (of_none NoMemory) (of_none WriteFault) B)
       → IsOfCommand words outcome
   run-command words (Ok made) is ends _ = subst (IsOfCommand words) (sym ends.outcome_kept) is
-  run-command words (Err f) _ _ ends = subst (IsOfCommand words) (sym ends.no_outcome) tt
+  run-command words (Err f) _ _ ends = inl ends.no_outcome
+
+  pub run-outcome : (words : List (List ℕ)) (old : ShelfState) (planned : Result Planned Fault) → IfOk planned (λ made. OfTold old (λ told. IsOutcomeOf words told made.outcome))
+      → IfOk planned (λ made. EndsWith made.outcome outcome fault (of_none WriteFault) A)
+      → IfErr planned (λ f. EndsFaulted f outcome fault (of_none NoMemory) (of_none WriteFault) B)
+      → OfTold old (λ told. IsOutcomeOf words told outcome)
+  run-outcome words old (Ok made) is ends _ = subst (λ (o : Outcome). OfTold old (λ told. IsOutcomeOf words told o)) (sym ends.outcome_kept) is
+  run-outcome words old (Err f) _ _ ends = λ files told. inl ends.no_outcome
 
   -- with a fault nothing was found out, unless it is of writing
   abbrev FoundNothing : Fault → Type 0
@@ -105,7 +134,7 @@ module _ (A B : Type 0) (outcome : Outcome) (fault : Option Fault) where
         ])
       ]
 
-module _ (A B : Type 0) (outcome : Outcome) (fault : Option Fault) (status : ℕ) (is : status ≡ status_of outcome fault) where
+module _ (A B : Type 0) (P : Fault → Type 0) (outcome : Outcome) (fault : Option Fault) (status : ℕ) (is : status ≡ status_of outcome fault) where
   status-of : (f : Fault) (n : ℕ) → fault ≡ Some f → reason_status f.reason ≡ n → status ≡ n
   status-of f n e is_n = is ∙ ap (status_of outcome) e ∙ is_n
 
@@ -120,9 +149,9 @@ module _ (A B : Type 0) (outcome : Outcome) (fault : Option Fault) (status : ℕ
   no-rise old new out out' err err' a b c (inr (inr lt)) = omega arith
 
   had-counted : (old new : ShelfState) (out out' err err' : SinkState) (f : Fault) → IsUnwritten f → fault ≡ Some f → IsCounted old new f
-      → PrintsFault (cause_of f.reason) outcome f out out' err err' → Rises old new out out' err err' → IsDeviceStatus status
+      → PrintsFault (cause_of f.reason) P outcome f out out' err err' → Rises old new out out' err err' → IsDeviceStatus status
   had-counted old new out out' err err' f unwritten e (inl still) prints rises =
-      let told = told-still (cause_of f.reason) outcome f out out' err err' (λ w. unwritten (of_writing f.reason w)) prints in
+      let told = told-still P (cause_of f.reason) outcome f out out' err err' (λ w. unwritten (of_writing f.reason w)) prints in
       absurd (no-rise old new out out' err err' still told.0 told.1 rises)
   had-counted old new out out' err err' f unwritten e (inr (inl reading)) prints rises = inl (status-of f 3 e (ap reason_status reading))
   had-counted old new out out' err err' f unwritten e (inr (inr memory)) prints rises = inr (inr (status-of f 8 e (ap reason_status memory)))
@@ -131,17 +160,17 @@ module _ (A B : Type 0) (outcome : Outcome) (fault : Option Fault) (status : ℕ
       → IfOk planned (λ _. new.read_faults ≡ old.read_faults) → IfErr planned (λ f. IsCounted old new f) → IfErr planned (λ f. IsUnwritten f)
       → IfOk planned (λ made. EndsWith made.outcome outcome fault (of_none WriteFault) A)
       → IfErr planned (λ f. EndsFaulted f outcome fault (of_none NoMemory) (of_none WriteFault) B)
-      → Prints outcome fault out out' err err'
+      → Prints P outcome fault out out' err err'
       → (old.read_faults < new.read_faults) ⊎ ((out.faults < out'.faults) ⊎ (err.faults < err'.faults)) → IsDeviceStatus status
   run-counted old new out out' err err' (Ok made) quiet _ _ ends _ prints rises =
       elim ends.fault_is [
-        | inl e ↦ (let p : Prints outcome None out out' err err' = subst (λ o. Prints outcome o out out' err err') e prints in
+        | inl e ↦ (let p : Prints P outcome None out out' err err' = subst (λ o. Prints P outcome o out out' err err') e prints in
             absurd (no-rise old new out out' err err' quiet p.0.faults (ap (λ (s : SinkState). s.faults) p.1) rises))
         | inr w ↦ inr (inl (status-of (of_none WriteFault) 4 w.0 refl))
       ]
   run-counted old new out out' err err' (Err f) _ counted unwritten _ ends prints rises =
       elim ends.fault_is [
-        | inl e ↦ had-counted old new out out' err err' f unwritten e counted (subst (λ o. Prints outcome o out out' err err') e prints) rises
+        | inl e ↦ had-counted old new out out' err err' f unwritten e counted (subst (λ o. Prints P outcome o out out' err err') e prints) rises
         | inr other ↦ (elim other [
           | inl e ↦ inr (inr (status-of (of_none NoMemory) 8 e refl))
           | inr w ↦ inr (inl (status-of (of_none WriteFault) 4 w.0 refl))

@@ -1,5 +1,7 @@
 pub mod Alike
+pub mod Answering
 pub mod Completing
+pub mod Composing
 pub mod Ending
 pub mod Generating
 pub mod OneAnswer
@@ -7,4 +9,3 @@ pub mod Reasons
 pub mod Recordings
 pub mod SameUnits
 pub mod Staging
-pub mod Waving

@@ -1,10 +1,11 @@
 -- Words over contents have one first refusal, or none.
 use Rattle.std.proofs.Common.{◌≡◌, refl, sym, ◌∙◌, ap, subst, ℕ, ◌<◌, ◌^◌, List, [], map, Option, None, Some, Ok, Err, arith, inl, inr}
-use Rattle.std.specs.Prelude.{◌⊎◌, ◌≢◌, Result}
+use Rattle.std.specs.Prelude.{◌≢◌, Result}
 use Rattle.psl_base.specs.Shelf.{Contents}
 use Rattle.psl_base.specs.declared.place.Place.{Place}
 use Rattle.command_line.proofs.Meanings.{one_meaning}
-use Rattle.command_line.specs.Commands.{Meaning as meaning}
+use Rattle.command_line.specs.Commands.{Meaning}
+use Rattle.command_line.specs.Commands.Meaning.{wave, show, gen}
 use Rattle.psl_grammar.specs.declared.tree.UnitTree.{UnitTree}
 use Rattle.psl_grammar.specs.Surface.{tree_node}
 use Rattle.psl_layer_laws.proofs.TreeLaws.{same-tree}
@@ -21,15 +22,17 @@ use Rattle.psl_elaboration.specs.declared.fault.LayerFault.TheVariants as layer
 use Rattle.psl_lexer.proofs.LawReads.{one_list, one_fault as one_lex_fault, not_both as lexed_or_not}
 use Rattle.psl_lexer.specs.Faults.{IsFirstFault as IsFirstLexFault}
 use Rattle.psl_lexer.specs.Lexed.{IsLexed}
+use Rattle.psl_lexer.specs.declared.fault.LexFault.{LexFault}
 use Rattle.psl_lexer.specs.declared.token.Token.{Token}
 use Rattle.psl_parser.proofs.Whole.{one_parsed, one_parse_fault, not_both as parsed_or_not}
 use Rattle.psl_parser.specs.Parsing.{IsParsed, IsParseFault}
+use Rattle.psl_parser.specs.declared.fault.ParseFault.{ParseFault}
 use Rattle.psl_tree.specs.declared.directive.Directive.{Directive}
 use Rattle.psl_tree.specs.declared.name.Name.{Name}
-use Rattle.commands.proofs.Alike.{Alike, Agree, alike-err, alike-ok, agree-faults, agree-told, agree-then, agree-content}
-use Rattle.commands.proofs.SameUnits.{SameUnit, all-judgeable, same-first, same-judge_place}
-use Rattle.commands.specs.Causes.{lex_reason, lex_place, parse_reason, parse_place, layer_reason, layer_place, judge_reason, judge_place, vcd_reason, vcd_place}
-use Rattle.commands.specs.Commands.{CommandStage, FirstRefusal, IsWave, IsShow, IsGen, IsNoCommand, Waved, LinesShown}
+use Rattle.commands.proofs.Alike.{Agree, alike-err, alike-ok, agree-faults, agree-told, agree-then, agree-content}
+use Rattle.commands.proofs.SameUnits.{SameUnit, all-judgeable, same-first, same-said}
+use Rattle.commands.specs.Diagnostics.{lex_diagnostic, parse_diagnostic, layer_diagnostic, judge_diagnostic, vcd_diagnostic}
+use Rattle.commands.specs.Commands.{CommandStage, FirstRefusal, MeaningStage}
 use Rattle.commands.specs.Faults.{of_none}
 use Rattle.commands.specs.Generated.{GeneratedStage}
 use Rattle.commands.specs.Stages.{AndThen, Then}
@@ -39,7 +42,8 @@ use Rattle.commands.specs.declared.outcome.Fault.{Fault}
 use Rattle.commands.specs.declared.outcome.Line.{Line}
 use Rattle.commands.specs.declared.outcome.Outcome.{Outcome}
 use Rattle.commands.specs.declared.outcome.Outcome.TheVariants.{Wave, Shown}
-use Rattle.commands.specs.declared.outcome.Reason.TheVariants.{Usage, NoMemory}
+use Rattle.commands.specs.declared.reason.Reason.{Reason}
+use Rattle.commands.specs.declared.reason.Reason.TheVariants.{Usage, NoMemory}
 use Rattle.vcd_reader.specs.Meaning.{reading}
 use Rattle.vcd_reader.specs.Rules.{sample_limit}
 use Rattle.vcd_reader.specs.Sampled.{Sampled}
@@ -56,25 +60,31 @@ Any-two v w = Unit {0}
 
 -- texts
 
+abbrev lex_why : LexFault → Reason
+lex_why fault = (lex_diagnostic fault).reason
+
 one-tokens : (name bytes : List ℕ) → Agree (λ (t u : List Token). t ≡ u) (TokensReading name bytes) (TokensReading name bytes)
 one-tokens name bytes =
-    agree-told name lex_reason lex_place lex_place (IsLexed bytes) (IsLexed bytes) (IsFirstLexFault bytes) (IsFirstLexFault bytes) (λ (t u : List Token). t ≡ u)
+    agree-told name lex_diagnostic lex_diagnostic (IsLexed bytes) (IsLexed bytes) (IsFirstLexFault bytes) (IsFirstLexFault bytes) (λ (t u : List Token). t ≡ u)
     (λ t u h k. one_list bytes t u h k)
-    (λ c d n m h k. let same = one_lex_fault bytes c d (λ e. n (ap lex_reason e)) (λ e. m (ap lex_reason e)) h k in (same, ap lex_place same))
-    (λ t d n h k. lexed_or_not bytes t d h (λ e. n (ap lex_reason e)) k)
-    (λ c t n h k. lexed_or_not bytes t c k (λ e. n (ap lex_reason e)) h)
+    (λ c d n m h k. ap lex_diagnostic (one_lex_fault bytes c d (λ e. n (ap lex_why e)) (λ e. m (ap lex_why e)) h k))
+    (λ t d n h k. lexed_or_not bytes t d h (λ e. n (ap lex_why e)) k)
+    (λ c t n h k. lexed_or_not bytes t c k (λ e. n (ap lex_why e)) h)
 
 -- two trees of one grammar node
 abbrev SameTree : UnitTree → UnitTree → Type 0
 SameTree t u = tree_node t ≡ tree_node u
 
+abbrev parse_why : List ℕ → List Token → ParseFault → Reason
+parse_why bytes tokens fault = (parse_diagnostic bytes tokens fault).reason
+
 one-tree : (name bytes : List ℕ) (tokens : List Token) → Agree SameTree (TreeReading name bytes tokens) (TreeReading name bytes tokens)
 one-tree name bytes tokens =
-    agree-told name parse_reason (parse_place bytes tokens) (parse_place bytes tokens) (IsParsed tokens) (IsParsed tokens) (IsParseFault tokens) (IsParseFault tokens) SameTree
+    agree-told name (parse_diagnostic bytes tokens) (parse_diagnostic bytes tokens) (IsParsed tokens) (IsParsed tokens) (IsParseFault tokens) (IsParseFault tokens) SameTree
     (λ t u h k. one_parsed tokens t u h k)
-    (λ c d n m h k. let same = one_parse_fault tokens c d (λ e. n (ap parse_reason e)) (λ e. m (ap parse_reason e)) h k in (same, ap (parse_place bytes tokens) same))
-    (λ t d n h k. parsed_or_not tokens t d (λ e. n (ap parse_reason e)) h k)
-    (λ c t n h k. parsed_or_not tokens t c (λ e. n (ap parse_reason e)) k h)
+    (λ c d n m h k. ap (parse_diagnostic bytes tokens) (one_parse_fault tokens c d (λ e. n (ap (parse_why bytes tokens) e)) (λ e. m (ap (parse_why bytes tokens) e)) h k))
+    (λ t d n h k. parsed_or_not tokens t d (λ e. n (ap (parse_why bytes tokens) e)) h k)
+    (λ c t n h k. parsed_or_not tokens t c (λ e. n (ap (parse_why bytes tokens) e)) k h)
 
 one-unit : (name bytes : List ℕ) → Agree SameTree (UnitReading name bytes) (UnitReading name bytes)
 one-unit name bytes =
@@ -94,10 +104,10 @@ ok-no-err r d x e f = cc
 
 one-recording : (name bytes : List ℕ) → Agree (λ (r s : Sampled). r ≡ s) (RecordingReading name bytes) (RecordingReading name bytes)
 one-recording name bytes =
-    agree-told name vcd_reason vcd_place vcd_place (λ sampled. reading bytes ≡ Ok sampled) (λ sampled. reading bytes ≡ Ok sampled)
+    agree-told name vcd_diagnostic vcd_diagnostic (λ sampled. reading bytes ≡ Ok sampled) (λ sampled. reading bytes ≡ Ok sampled)
     (λ fault. reading bytes ≡ Err fault) (λ fault. reading bytes ≡ Err fault) (λ (r s : Sampled). r ≡ s)
     (λ r s h k. ok-ok r s (reading bytes) h k)
-    (λ c d _ _ h k. let same = err-err c d (reading bytes) h k in (same, ap vcd_place same))
+    (λ c d _ _ h k. ap vcd_diagnostic (err-err c d (reading bytes) h k))
     (λ r d _ h k. ok-no-err r d (reading bytes) h k) (λ c r _ h k. ok-no-err r c (reading bytes) k h)
 
 -- what is read
@@ -150,7 +160,7 @@ flawless all flaw e h = let h' : IsFirstFlaw [] (Some flaw) = subst (λ (x : Lis
 none-first : (place : Place) (o : Option Place) → o ≡ None → o ≡ Some place → ⊥
 none-first place o e f = cc
 
-unit-or-fault : (t : UnitTree) (names : List Name) (unit : List Directive) (fault : LayerFault) → (layer_reason fault ≢ NoMemory) → IsUnit t names unit → IsLayerFault t names fault → ⊥
+unit-or-fault : (t : UnitTree) (names : List Name) (unit : List Directive) (fault : LayerFault) → ((layer_diagnostic fault).reason ≢ NoMemory) → IsUnit t names unit → IsLayerFault t names fault → ⊥
 unit-or-fault t names unit (layer.Kind place) n is h = flawless (tree_flaws names t) (record { place = place; cause = causes.Kind }) is.no_flaw h
 unit-or-fault t names unit (layer.UnknownName place) n is h = flawless (tree_flaws names t) (record { place = place; cause = causes.UnknownName }) is.no_flaw h
 unit-or-fault t names unit (layer.Ambiguous place) n is h = flawless (tree_flaws names t) (record { place = place; cause = causes.Ambiguous }) is.no_flaw h
@@ -160,29 +170,30 @@ unit-or-fault t names unit (layer.ConstantTooWide place) n is h = flawless (tree
 unit-or-fault t names unit (layer.TooLarge place) n is h = none-first place (first_too_large (kernel names t)) is.none_too_large h.first
 unit-or-fault t names unit layer.NoMemory n is h = absurd (n refl)
 
+abbrev layer_why : LayerFault → Reason
+layer_why fault = (layer_diagnostic fault).reason
+
 one-directives : (name : List ℕ) (names : List Name) (t u : UnitTree) → SameTree t u → Agree SameUnit (DirectivesReading name t names) (DirectivesReading name u names)
 one-directives name names t u same =
     let laws = same-tree names t u same in
-    agree-told name layer_reason layer_place layer_place (IsUnit t names) (IsUnit u names) (IsLayerFault t names) (IsLayerFault u names) SameUnit
+    agree-told name layer_diagnostic layer_diagnostic (IsUnit t names) (IsUnit u names) (IsLayerFault t names) (IsLayerFault u names) SameUnit
     (λ v w h k. h.directives ∙ ap (numbered 1) laws.1 ∙ sym k.directives)
-    (λ c d n m h k.
-    let one = one_layer_fault u names c d (λ e. n (ap layer_reason e)) (λ e. m (ap layer_reason e)) (moved-fault names t u laws.0 laws.1 c h) k in (one, ap layer_place one))
+    (λ c d n m h k. ap layer_diagnostic (one_layer_fault u names c d (λ e. n (ap layer_why e)) (λ e. m (ap layer_why e)) (moved-fault names t u laws.0 laws.1 c h) k))
     (λ v d n h k. unit-or-fault u names v d n (moved-unit names t u laws.0 laws.1 v h) k)
     (λ c w n h k. unit-or-fault u names w c n k (moved-fault names t u laws.0 laws.1 c h))
 
 -- verdicts
 
-first-fault : (u : List Directive) (fault : JudgeFault) → (judge_reason fault ≢ NoMemory) → IsJudgeFault u fault → IsFirstFault u fault
+first-fault : (u : List Directive) (fault : JudgeFault) → ((judge_diagnostic u fault).reason ≢ NoMemory) → IsJudgeFault u fault → IsFirstFault u fault
 first-fault u (judge.Sere n) other h = h
 first-fault u (judge.Automaton n) other h = h
 first-fault u judge.NoMemory other h = absurd (other refl)
 
 one-judged : (name : List ℕ) (r : Sampled) (u v : List Directive) → SameUnit u v → Agree (Any-two {A = List Verdict}) (JudgeReading name r u) (JudgeReading name r v)
 one-judged name r u v s =
-    agree-told name judge_reason (judge_place u) (judge_place v) (AreJudged r u) (AreJudged r v) (IsJudgeFault u) (IsJudgeFault v) (Any-two {A = List Verdict})
+    agree-told name (judge_diagnostic u) (judge_diagnostic v) (AreJudged r u) (AreJudged r v) (IsJudgeFault u) (IsJudgeFault v) (Any-two {A = List Verdict})
     (λ _ _ _ _. tt)
-    (λ c d n m h k.
-    let one = one_judge_fault v c d (same-first u v c s (first-fault u c n h)) (first-fault v d m k) in (one, same-judge_place u v c s ∙ ap (judge_place v) one))
+    (λ c d n m h k. same-said u v c s ∙ ap (judge_diagnostic v) (one_judge_fault v c d (same-first u v c s (first-fault u c n h)) (first-fault v d m k)))
     (λ w d n h k. judged_or_not v d (all-judgeable u v s h.judgeable) (first-fault v d n k))
     (λ c w n h k. judged_or_not v c k.judgeable (same-first u v c s (first-fault u c n h)))
 
@@ -193,117 +204,52 @@ one-verdicts name i j same =
     (JudgeReading name i.recording) (JudgeReading name i.recording)
     (one-directives name i.recording.names i.tree j.tree same.trees) (one-judged name i.recording))
 
-one-lines : (name : List ℕ) (i j : Inputs) → SameInputs i j → Agree (Any-two {A = List Line}) (LinesReading name i) (LinesReading name j)
+one-lines : (name : List ℕ) (i j : Inputs) → SameInputs i j → Agree (Any-two {A = List Line}) (LinesReading name i.tree i.recording.names) (LinesReading name j.tree j.recording.names)
 one-lines name i j same =
-    subst (λ (r : Sampled). Agree (Any-two {A = List Line}) (LinesReading name i) (AndThen (DirectivesReading name j.tree r.names) (λ directives result. result ≡ Ok (map (line_of r.names) directives)))) same.recordings
+    subst (λ (r : Sampled). Agree (Any-two {A = List Line}) (LinesReading name i.tree i.recording.names) (LinesReading name j.tree r.names)) same.recordings
     (agree-then SameUnit (Any-two {A = List Line}) (DirectivesReading name i.tree i.recording.names) (DirectivesReading name j.tree i.recording.names)
     (λ directives result. result ≡ Ok (map (line_of i.recording.names) directives)) (λ directives result. result ≡ Ok (map (line_of i.recording.names) directives))
     (one-directives name i.recording.names i.tree j.tree same.trees)
     (λ u v s a b h k. alike-ok (Any-two {A = List Line}) (map (line_of i.recording.names) u) (map (line_of i.recording.names) v) a b h k tt))
 
--- commands
+-- commands: the stage of one gives one fault, or outcomes
 
-one-wave : (unit recording : List ℕ) (files : Contents) → Agree (Any-two {A = Outcome}) (Then (WaveStage unit recording) Waved files) (Then (WaveStage unit recording) Waved files)
-one-wave unit recording files =
-    agree-then (Any-two {A = List Verdict}) (Any-two {A = Outcome}) (WaveStage unit recording files) (WaveStage unit recording files)
-    (λ verdicts. Waved verdicts files) (λ verdicts. Waved verdicts files)
-    (agree-then SameInputs (Any-two {A = List Verdict}) (InputsStage unit recording files) (InputsStage unit recording files) (VerdictsReading unit) (VerdictsReading unit)
-    (one-inputs unit recording files) (one-verdicts unit))
-    (λ v w _ a b h k. alike-ok (Any-two {A = Outcome}) (Wave v) (Wave w) a b h k tt)
+one-outcome : {A : Type 0} (Same : A → A → Type 0) (Stage : Contents → Result A Fault → Type 0) (outcome : A → Outcome) (files : Contents) → Agree Same (Stage files) (Stage files)
+    → Agree (Any-two {A = Outcome}) (Then Stage (λ value _ r. r ≡ Ok (outcome value)) files) (Then Stage (λ value _ r. r ≡ Ok (outcome value)) files)
+one-outcome Same Stage outcome files one =
+    agree-then Same (Any-two {A = Outcome}) (Stage files) (Stage files) (λ value r. r ≡ Ok (outcome value)) (λ value r. r ≡ Ok (outcome value)) one
+    (λ v w _ a b h k. alike-ok (Any-two {A = Outcome}) (outcome v) (outcome w) a b h k tt)
 
-one-show : (unit names : List ℕ) (files : Contents) → Agree (Any-two {A = Outcome}) (Then (ShowStage unit names) LinesShown files) (Then (ShowStage unit names) LinesShown files)
-one-show unit names files =
-    agree-then (Any-two {A = List Line}) (Any-two {A = Outcome}) (ShowStage unit names files) (ShowStage unit names files)
-    (λ lines. LinesShown lines files) (λ lines. LinesShown lines files)
-    (agree-then SameInputs (Any-two {A = List Line}) (InputsStage unit names files) (InputsStage unit names files) (LinesReading unit) (LinesReading unit)
-    (one-inputs unit names files) (one-lines unit))
-    (λ v w _ a b h k. alike-ok (Any-two {A = Outcome}) (Shown v) (Shown w) a b h k tt)
+-- of a reading over what is loaded
+one-loaded : {B : Type 0} (unit recording : List ℕ) (Reading : Inputs → Result B Fault → Type 0) (files : Contents)
+    → ((i j : Inputs) → SameInputs i j → Agree (Any-two {A = B}) (Reading i) (Reading j))
+    → Agree (Any-two {A = B}) (Then (InputsStage unit recording) (λ inputs _. Reading inputs) files) (Then (InputsStage unit recording) (λ inputs _. Reading inputs) files)
+one-loaded {B} unit recording Reading files one =
+    agree-then SameInputs (Any-two {A = B}) (InputsStage unit recording files) (InputsStage unit recording files) Reading Reading (one-inputs unit recording files) one
+
+one-made : (seed samples : ℕ) → Agree (Any-two {A = Outcome}) (GeneratedStage seed samples) (GeneratedStage seed samples)
+one-made seed samples a b (v, _, e) (w, _, f) = alike-ok (Any-two {A = Outcome}) _ _ a b e f tt
+
+one-meaning : (meaning : Meaning) (files : Contents) → Agree (Any-two {A = Outcome}) (MeaningStage meaning files) (MeaningStage meaning files)
+one-meaning (wave unit recording) files =
+    one-outcome (Any-two {A = List Verdict}) (WaveStage unit recording) Wave files (one-loaded unit recording (VerdictsReading unit) files (one-verdicts unit))
+one-meaning (show unit names) files =
+    one-outcome (Any-two {A = List Line}) (ShowStage unit names) Shown files
+    (one-loaded unit names (λ inputs. LinesReading unit inputs.tree inputs.recording.names) files (one-lines unit))
+one-meaning (gen seed samples) files = one-made seed samples
 
 -- words are one command at most
 
 limit-small : sample_limit < 2 ^ 32
 limit-small = omega arith
 
-same-wave : (u v r s : List ℕ) → meaning.wave u r ≡ meaning.wave v s → (u ≡ v) × (r ≡ s)
-same-wave u v r s e = (cc, cc)
-
-same-show : (u v r s : List ℕ) → meaning.show u r ≡ meaning.show v s → (u ≡ v) × (r ≡ s)
-same-show u v r s e = (cc, cc)
-
-wave-show : (u r v s : List ℕ) → meaning.wave u r ≡ meaning.show v s → ⊥
-wave-show u r v s e = cc
-
-wave-gen : (u r : List ℕ) (seed samples : ℕ) → meaning.wave u r ≡ meaning.gen seed samples → ⊥
-wave-gen u r seed samples e = cc
-
-show-gen : (u r : List ℕ) (seed samples : ℕ) → meaning.show u r ≡ meaning.gen seed samples → ⊥
-show-gen u r seed samples e = cc
-
-abbrev RunsWave : List (List ℕ) → Contents → Result Outcome Fault → Type 0
-RunsWave words files result = (unit recording : List ℕ) × IsWave words unit recording × Then (WaveStage unit recording) Waved files result
-
-abbrev RunsShow : List (List ℕ) → Contents → Result Outcome Fault → Type 0
-RunsShow words files result = (unit names : List ℕ) × IsShow words unit names × Then (ShowStage unit names) LinesShown files result
-
-abbrev RunsGen : List (List ℕ) → Result Outcome Fault → Type 0
-RunsGen words result = (seed samples : ℕ) × IsGen words seed samples × GeneratedStage seed samples result
-
-abbrev Runs : List (List ℕ) → Contents → Result Outcome Fault → Type 0
-Runs words files result = RunsWave words files result ⊎ (RunsShow words files result ⊎ RunsGen words result)
-
-no-run : (words : List (List ℕ)) (files : Contents) (a : Result Outcome Fault) → IsNoCommand words → Runs words files a → ⊥
-no-run words files a none (inl (u, r, is, _)) = none.no_wave u r is
-no-run words files a none (inr (inl (u, r, is, _))) = none.no_show u r is
-no-run words files a none (inr (inr (seed, samples, is, _))) = none.no_gen seed samples is
-
-module _ (words : List (List ℕ)) (files : Contents) (a b : Result Outcome Fault) where
-  -- both are one command
-  abbrev Same-run : Type 0
-  Same-run = Alike (Any-two {A = Outcome}) a b
-
-  waves : RunsWave words files a → RunsWave words files b → Same-run
-  waves (u, r, is, h) (v, s, is', k) =
-      let same = same-wave u v r s (one_meaning sample_limit words (meaning.wave u r) (meaning.wave v s) limit-small is is') in
-      one-wave v s files a b
-      (subst (λ (q : List ℕ). Then (WaveStage v q) Waved files a) same.1 (subst (λ (q : List ℕ). Then (WaveStage q r) Waved files a) same.0 h)) k
-
-  shows : RunsShow words files a → RunsShow words files b → Same-run
-  shows (u, r, is, h) (v, s, is', k) =
-      let same = same-show u v r s (one_meaning sample_limit words (meaning.show u r) (meaning.show v s) limit-small is is') in
-      one-show v s files a b
-      (subst (λ (q : List ℕ). Then (ShowStage v q) LinesShown files a) same.1 (subst (λ (q : List ℕ). Then (ShowStage q r) LinesShown files a) same.0 h)) k
-
-  gens : RunsGen words a → RunsGen words b → Same-run
-  gens (_, _, _, (v, _, e)) (_, _, _, (w, _, f)) = alike-ok (Any-two {A = Outcome}) _ _ a b e f tt
-
--- and not two
-not-wave-show : (words : List (List ℕ)) (files : Contents) (a b : Result Outcome Fault) → RunsWave words files a → RunsShow words files b → ⊥
-not-wave-show words files a b (u, r, is, _) (v, s, is', _) = wave-show u r v s (one_meaning sample_limit words (meaning.wave u r) (meaning.show v s) limit-small is is')
-
-not-wave-gen : (words : List (List ℕ)) (files : Contents) (a b : Result Outcome Fault) → RunsWave words files a → RunsGen words b → ⊥
-not-wave-gen words files a b (u, r, is, _) (seed, samples, is', _) =
-    wave-gen u r seed samples (one_meaning sample_limit words (meaning.wave u r) (meaning.gen seed samples) limit-small is is')
-
-not-show-gen : (words : List (List ℕ)) (files : Contents) (a b : Result Outcome Fault) → RunsShow words files a → RunsGen words b → ⊥
-not-show-gen words files a b (u, r, is, _) (seed, samples, is', _) =
-    show-gen u r seed samples (one_meaning sample_limit words (meaning.show u r) (meaning.gen seed samples) limit-small is is')
-
-one-run : (words : List (List ℕ)) (files : Contents) → Agree (Any-two {A = Outcome}) (Runs words files) (Runs words files)
-one-run words files a b (inl h) (inl k) = waves words files a b h k
-one-run words files a b (inl h) (inr (inl k)) = absurd (not-wave-show words files a b h k)
-one-run words files a b (inl h) (inr (inr k)) = absurd (not-wave-gen words files a b h k)
-one-run words files a b (inr (inl h)) (inl k) = absurd (not-wave-show words files b a k h)
-one-run words files a b (inr (inl h)) (inr (inl k)) = shows words files a b h k
-one-run words files a b (inr (inl h)) (inr (inr k)) = absurd (not-show-gen words files a b h k)
-one-run words files a b (inr (inr h)) (inl k) = absurd (not-wave-gen words files b a k h)
-one-run words files a b (inr (inr h)) (inr (inl k)) = absurd (not-show-gen words files b a k h)
-one-run words files a b (inr (inr h)) (inr (inr k)) = gens words files a b h k
-
 one-command : (words : List (List ℕ)) (files : Contents) → Agree (Any-two {A = Outcome}) (CommandStage words files) (CommandStage words files)
 one-command words files a b (inl (_, e)) (inl (_, f)) = alike-err (Any-two {A = Outcome}) (of_none Usage) (of_none Usage) a b e f refl
-one-command words files a b (inl (n, _)) (inr runs) = absurd (no-run words files b n runs)
-one-command words files a b (inr runs) (inl (n, _)) = absurd (no-run words files a n runs)
-one-command words files a b (inr h) (inr k) = one-run words files a b h k
+one-command words files a b (inl (none, _)) (inr (meaning, is, _)) = absurd (none meaning is)
+one-command words files a b (inr (meaning, is, _)) (inl (none, _)) = absurd (none meaning is)
+one-command words files a b (inr (m, is, h)) (inr (n, is', k)) =
+    one-meaning n files a b
+    (subst (λ (x : Meaning). MeaningStage x files a) (one_meaning sample_limit words m n limit-small is is') h) k
 
 pub one-first : (words : List (List ℕ)) (files : Contents) (a b : Option Fault) → FirstRefusal words files a → FirstRefusal words files b → a ≡ b
 one-first words files a b (r, h, e) (s, k, f) =

@@ -1,41 +1,34 @@
--- The faults of texts and of units, but for want of memory, are faults of a text.
-use Rattle.std.proofs.Common.{◌≡◌, refl}
+-- What is said of the faults of texts and directives, but for want of memory, is said of a text.
+use Rattle.std.proofs.Common.{◌≡◌, refl, ℕ, List}
 use Rattle.std.specs.Prelude.{◌≢◌}
 use Rattle.psl_elaboration.specs.declared.fault.LayerFault.{LayerFault}
 use Rattle.psl_elaboration.specs.declared.fault.LayerFault.TheVariants as layer
 use Rattle.psl_lexer.specs.declared.fault.LexFault.{LexFault}
 use Rattle.psl_lexer.specs.declared.fault.LexFault.TheVariants as lex
+use Rattle.psl_lexer.specs.declared.token.Token.{Token}
 use Rattle.psl_parser.specs.declared.fault.ParseFault.{ParseFault}
 use Rattle.psl_parser.specs.declared.fault.ParseFault.TheVariants as parse
-use Rattle.commands.specs.Causes.{lex_reason, parse_reason, layer_reason, judge_reason}
-use Rattle.commands.specs.Stages.{OfText, cause_of}
-use Rattle.commands.specs.declared.outcome.Reason.TheVariants.{NoMemory}
+use Rattle.psl_tree.specs.declared.directive.Directive.{Directive}
+use Rattle.commands.specs.Diagnostics.{lex_diagnostic, parse_diagnostic, layer_diagnostic, judge_diagnostic}
+use Rattle.commands.specs.Rows.{OfText, cause_of}
+use Rattle.commands.specs.declared.reason.Reason.TheVariants.{NoMemory}
 use Rattle.wave_judge.specs.declared.fault.JudgeFault.{JudgeFault}
 use Rattle.wave_judge.specs.declared.fault.JudgeFault.TheVariants as judge
 
-pub lex-text : (fault : LexFault) → (lex_reason fault ≢ NoMemory) → cause_of (lex_reason fault) ≡ OfText
-lex-text (lex.BadByte _) other = refl
-lex-text (lex.Unended _) other = refl
-lex-text (lex.NumberTooLarge _) other = refl
+pub lex-text : (fault : LexFault) → ((lex_diagnostic fault).reason ≢ NoMemory) → cause_of (lex_diagnostic fault).reason ≡ OfText
 lex-text lex.NoMemory other = absurd (other refl)
+lex-text _ other = refl
 
-pub parse-text : (fault : ParseFault) → (parse_reason fault ≢ NoMemory) → cause_of (parse_reason fault) ≡ OfText
-parse-text (parse.Syntax _) other = refl
-parse-text (parse.NestedTooDeep _) other = refl
-parse-text (parse.StatementTooLong _) other = refl
-parse-text parse.NoMemory other = absurd (other refl)
+pub parse-text : (content : List ℕ) (tokens : List Token) (fault : ParseFault) → ((parse_diagnostic content tokens fault).reason ≢ NoMemory)
+    → cause_of (parse_diagnostic content tokens fault).reason ≡ OfText
+parse-text content tokens parse.NoMemory other = absurd (other refl)
+parse-text content tokens _ other = refl
 
-pub layer-text : (fault : LayerFault) → (layer_reason fault ≢ NoMemory) → cause_of (layer_reason fault) ≡ OfText
-layer-text (layer.Kind _) other = refl
-layer-text (layer.UnknownName _) other = refl
-layer-text (layer.Ambiguous _) other = refl
-layer-text (layer.DeclaredTwice _) other = refl
-layer-text (layer.EmptyRange _) other = refl
-layer-text (layer.ConstantTooWide _) other = refl
-layer-text (layer.TooLarge _) other = refl
+pub layer-text : (fault : LayerFault) → ((layer_diagnostic fault).reason ≢ NoMemory) → cause_of (layer_diagnostic fault).reason ≡ OfText
 layer-text layer.NoMemory other = absurd (other refl)
+layer-text _ other = refl
 
-pub judge-text : (fault : JudgeFault) → (judge_reason fault ≢ NoMemory) → cause_of (judge_reason fault) ≡ OfText
-judge-text (judge.Sere _) other = refl
-judge-text (judge.Automaton _) other = refl
-judge-text judge.NoMemory other = absurd (other refl)
+pub judge-text : (directives : List Directive) (fault : JudgeFault) → ((judge_diagnostic directives fault).reason ≢ NoMemory)
+    → cause_of (judge_diagnostic directives fault).reason ≡ OfText
+judge-text directives judge.NoMemory other = absurd (other refl)
+judge-text directives _ other = refl

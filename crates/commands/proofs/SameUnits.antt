@@ -12,7 +12,10 @@ use Rattle.psl_meaning.specs.Plain.{plain}
 use Rattle.psl_tree.specs.Counts.{obligations_of}
 use Rattle.psl_tree.specs.Trees.{Formula}
 use Rattle.psl_tree.specs.declared.directive.Directive.{Directive}
-use Rattle.commands.specs.Causes.{directive_place, judge_place}
+use Rattle.commands.specs.Diagnostics.{directive_place, judge_diagnostic}
+use Rattle.commands.specs.declared.reason.Diagnostic.{Diagnostic}
+use Rattle.commands.specs.declared.reason.Reason.{Reason}
+use Rattle.commands.specs.declared.reason.Reason.TheVariants.{SereTooLarge, AutomatonTooLarge}
 use Rattle.wave_judge.specs.Faults.{unclocked, IsJudgeable, IsRefused, IsFirstFault}
 use Rattle.wave_judge.specs.declared.fault.JudgeFault.{JudgeFault}
 use Rattle.wave_judge.specs.declared.fault.JudgeFault.TheVariants as judge
@@ -92,7 +95,10 @@ place-numbered (d ∷ u) number = by (d.number == number) (place-numbered u numb
 same-place : (u v : List Directive) (number : ℕ) → SameUnit u v → directive_place u number ≡ directive_place v number
 same-place u v number s = place-numbered u number ∙ ap (λ (all : List Numbered). numbered_place all number) s ∙ sym (place-numbered v number)
 
-pub same-judge_place : (u v : List Directive) (fault : JudgeFault) → SameUnit u v → judge_place u fault ≡ judge_place v fault
-same-judge_place u v (judge.Sere n) s = same-place u v n s
-same-judge_place u v (judge.Automaton n) s = same-place u v n s
-same-judge_place u v judge.NoMemory s = refl
+abbrev said-of : Reason → Option Place → Diagnostic
+said-of reason place = record { reason = reason; place = place }
+
+pub same-said : (u v : List Directive) (fault : JudgeFault) → SameUnit u v → judge_diagnostic u fault ≡ judge_diagnostic v fault
+same-said u v (judge.Sere n) s = ap (said-of SereTooLarge) (same-place u v n s)
+same-said u v (judge.Automaton n) s = ap (said-of AutomatonTooLarge) (same-place u v n s)
+same-said u v judge.NoMemory s = refl

@@ -1,14 +1,15 @@
 -- Stages one after the other: what they give over the contents that are told, and why they refuse.
-use Rattle.std.proofs.Common.{◌≡◌, refl, sym, ◌∙◌, ap, subst, ℕ, ◌<◌, ◌≤◌, List, length, Option, None, Some, Ok, Err, arith, inl, inr}
-use Rattle.std.specs.Prelude.{◌⊎◌, ◌≢◌, Result, IfOk, IfErr}
+use Rattle.std.proofs.Common.{◌≡◌, refl, sym, ◌∙◌, ap, subst, ℕ, ◌<◌, ◌≤◌, List, [], ◌∷◌, length, Option, None, Some, Ok, Err, arith, inl, inr}
+use Rattle.std.specs.Prelude.{◌⊎◌, ◌≢◌, Result, IfErr}
 use Rattle.psl_base.specs.Places.{file_limit}
 use Rattle.psl_base.specs.Shelf.{Contents, ShelfState, OnlyReads, IsContent}
-use Rattle.psl_base.specs.declared.place.Place.{Place}
 use Rattle.commands.specs.Faults.{fault_in, of_file, of_none}
-use Rattle.commands.specs.Stages.{SpeaksOfFile, AndThen, Then, ToldBy, OfContent, OfFile, Cause, OfWords, OfReading, OfWriting, OfText, OfMemory, cause_of, HasCause, Gives, Refuses, IsOfFile, IsOfFileOrMemory, IsUnread, LoadFails, for_memory, unread, longer, TextFails}
+use Rattle.commands.specs.Rows.{Cause, OfWords, OfReading, OfWriting, OfText, OfMemory, cause_of}
+use Rattle.commands.specs.Stages.{SpeaksOfFile, AndThen, Then, ToldBy, OfContent, OfFile, HasCause, Gives, Refuses, IsOfFile, IsOfFiles, IsOfFilesOrMemory, IsUnread, LoadFails, for_memory, unread, longer, TextFails, IsReading}
 use Rattle.commands.specs.declared.outcome.Fault.{Fault}
-use Rattle.commands.specs.declared.outcome.Reason.{Reason}
-use Rattle.commands.specs.declared.outcome.Reason.TheVariants.{ReadFault, TooLong, NoMemory}
+use Rattle.commands.specs.declared.reason.Diagnostic.{Diagnostic}
+use Rattle.commands.specs.declared.reason.Reason.{Reason}
+use Rattle.commands.specs.declared.reason.Reason.TheVariants.{ReadFault, TooLong, NoMemory}
 
 -- a cause for a weaker refusal, seen from an earlier state with the same contents
 pub cause-moved : (cause : Cause) (W : Type 0) (old mid new : ShelfState) (P Q : Contents → Type 0) → OnlyReads old mid
@@ -81,45 +82,46 @@ pub result-refuses : {A : Type 0} (Reading : List ℕ → Result A Fault → Typ
 result-refuses Reading name old new bytes (Ok _) is le h = tt
 result-refuses Reading name old new bytes (Err fault) is le h = read-refuses Reading name old new bytes fault is le h
 
--- what is told of a fault, by its reason and its place
-abbrev pub IsTold : {F : Type 0} → List ℕ → (F → Reason) → (F → Option Place) → F → Fault → Type 0
-IsTold name reason place cause fault = (fault ≡ of_none NoMemory) ⊎ ((reason cause ≢ NoMemory) × (fault ≡ fault_in name (reason cause) (place cause)))
+-- a fault is told by what is said of its cause
+abbrev pub IsTold : {F : Type 0} → List ℕ → (F → Diagnostic) → F → Fault → Type 0
+IsTold name diagnostic cause fault = (fault ≡ of_none NoMemory) ⊎ (((diagnostic cause).reason ≢ NoMemory) × (fault ≡ fault_in name (diagnostic cause)))
 
-pub told-cause : {F : Type 0} (name : List ℕ) (reason : F → Reason) (place : F → Option Place) (cause : F) (fault : Fault) (r : Reason) (p : Option Place)
-    → r ≡ reason cause → p ≡ place cause → (fault ≡ of_none NoMemory) ⊎ ((r ≢ NoMemory) × (fault ≡ fault_in name r p)) → IsTold name reason place cause fault
-told-cause name reason place cause fault r p er ep (inl e) = inl e
-told-cause name reason place cause fault r p er ep (inr (other, e)) =
-    inr (λ h. other (er ∙ h), e ∙ ap (λ x. fault_in name x p) er ∙ ap (λ y. fault_in name (reason cause) y) ep)
+pub told-cause : {F : Type 0} (name : List ℕ) (diagnostic : F → Diagnostic) (cause : F) (fault : Fault) (said : Diagnostic) → said ≡ diagnostic cause
+    → (fault ≡ of_none NoMemory) ⊎ ((said.reason ≢ NoMemory) × (fault ≡ fault_in name said)) → IsTold name diagnostic cause fault
+told-cause name diagnostic cause fault said e h =
+    subst (λ (d : Diagnostic). (fault ≡ of_none NoMemory) ⊎ ((d.reason ≢ NoMemory) × (fault ≡ fault_in name d))) e h
 
 -- a fault that was told is what the reading refuses
-pub told-fails : {A F : Type 0} (name : List ℕ) (reason : F → Reason) (place : F → Option Place) (IsValue : A → Type 0) (IsFault : F → Type 0) (cause : F) (fault : Fault)
-    → IsFault cause → ((reason cause ≢ NoMemory) → cause_of (reason cause) ≡ OfText) → IsTold name reason place cause fault
-    → TextFails name (λ f. ToldBy name reason place IsValue IsFault (Err f)) fault
-told-fails name reason place IsValue IsFault cause fault is text (inl e) = inl e
-told-fails name reason place IsValue IsFault cause fault is text (inr (other, e)) = inr record {
-  cause = ap (λ (f : Fault). cause_of f.reason) e ∙ text other;
-  file = ap (λ (f : Fault). f.file) e;
-  refusal = (cause, is, other, e);
-}
+pub told-fails : {A F : Type 0} (name : List ℕ) (diagnostic : F → Diagnostic) (IsValue : A → Type 0) (IsFault : F → Type 0) (cause : F) (fault : Fault) (said : Diagnostic)
+    → IsFault cause → (((diagnostic cause).reason ≢ NoMemory) → cause_of (diagnostic cause).reason ≡ OfText) → said ≡ diagnostic cause
+    → (fault ≡ of_none NoMemory) ⊎ ((said.reason ≢ NoMemory) × (fault ≡ fault_in name said))
+    → IsReading name (ToldBy name diagnostic IsValue IsFault) (Err fault)
+told-fails name diagnostic IsValue IsFault cause fault said is text e h = record { gives = tt; refuses = by (told-cause name diagnostic cause fault said e h) }
+  where
+    by : IsTold name diagnostic cause fault → TextFails name (λ f. ToldBy name diagnostic IsValue IsFault (Err f)) fault
+    by (inl e) = inl e
+    by (inr (other, e)) = inr record {
+      cause = ap (λ (f : Fault). cause_of f.reason) e ∙ text other;
+      file = ap (λ (f : Fault). f.file) e;
+      refusal = (cause, is, other, e);
+    }
 
 -- one reading after the other
-module _ {A B : Type 0} (First : Result A Fault → Type 0) (Next : A → Result B Fault → Type 0) where
-  pub first-fails : (name : List ℕ) (fault : Fault) → TextFails name (λ f. First (Err f)) fault → TextFails name (λ f. AndThen First Next (Err f)) fault
-  first-fails name fault (inl e) = inl e
-  first-fails name fault (inr t) = inr record { cause = t.cause; file = t.file; refusal = inl (fault, t.refusal, refl) }
+module _ {A B : Type 0} (First : Result A Fault → Type 0) (Next : A → Result B Fault → Type 0) (name : List ℕ) where
+  pub reading-first : (fault : Fault) → IsReading name First (Err fault) → IsReading name (AndThen First Next) (Err fault)
+  reading-first fault h = record { gives = tt; refuses = by h.refuses }
+    where
+      by : TextFails name (λ f. First (Err f)) fault → TextFails name (λ f. AndThen First Next (Err f)) fault
+      by (inl e) = inl e
+      by (inr t) = inr record { cause = t.cause; file = t.file; refusal = inl (fault, t.refusal, refl) }
 
-  next-fails : (name : List ℕ) (a : A) (fault : Fault) → First (Ok a) → TextFails name (λ f. Next a (Err f)) fault → TextFails name (λ f. AndThen First Next (Err f)) fault
-  next-fails name a fault h (inl e) = inl e
-  next-fails name a fault h (inr t) = inr record { cause = t.cause; file = t.file; refusal = inr (a, h, t.refusal) }
+  next-fails : (a : A) (fault : Fault) → First (Ok a) → TextFails name (λ f. Next a (Err f)) fault → TextFails name (λ f. AndThen First Next (Err f)) fault
+  next-fails a fault h (inl e) = inl e
+  next-fails a fault h (inr t) = inr record { cause = t.cause; file = t.file; refusal = inr (a, h, t.refusal) }
 
-  pub result-fails : (name : List ℕ) (a : A) (result : Result B Fault) → First (Ok a) → IfErr result (λ fault. TextFails name (λ f. Next a (Err f)) fault)
-      → IfErr result (λ fault. TextFails name (λ f. AndThen First Next (Err f)) fault)
-  result-fails name a (Ok _) h k = tt
-  result-fails name a (Err fault) h k = next-fails name a fault h k
-
-  pub result-gives : (a : A) (result : Result B Fault) → First (Ok a) → IfOk result (λ b. Next a (Ok b)) → IfOk result (λ b. AndThen First Next (Ok b))
-  result-gives a (Ok b) h k = inr (a, h, k)
-  result-gives a (Err _) h k = tt
+  pub reading-then : (a : A) (result : Result B Fault) → IsReading name First (Ok a) → IsReading name (Next a) result → IsReading name (AndThen First Next) result
+  reading-then a (Ok b) h k = record { gives = inr (a, h.gives, k.gives); refuses = tt }
+  reading-then a (Err fault) h k = record { gives = tt; refuses = next-fails a fault h.gives k.refuses }
 
 -- what a stage that reads no file refuses
 pub text-stage-refuses : {A : Type 0} (Stage : Contents → Result A Fault → Type 0) (name : List ℕ) (old new : ShelfState) (fault : Fault)
@@ -133,14 +135,14 @@ text-stage-refuses Stage name old new fault (inr t) =
 pub of-text : (name : List ℕ) (fault : Fault) → cause_of fault.reason ≡ OfText → fault.file ≡ Some name → IsOfFile name fault
 of-text name fault e file = record { reason = subst SpeaksOfFile (sym e) tt; file = file }
 
-pub text-named : (name : List ℕ) (Refusal : Fault → Type 0) (fault : Fault) → TextFails name Refusal fault → IsOfFileOrMemory name fault
+pub text-named : (name : List ℕ) (Refusal : Fault → Type 0) (fault : Fault) → TextFails name Refusal fault → IsOfFilesOrMemory (name ∷ []) fault
 text-named name Refusal fault (inl e) = inl e
-text-named name Refusal fault (inr t) = inr (of-text name fault t.cause t.file)
+text-named name Refusal fault (inr t) = inr (inl (of-text name fault t.cause t.file))
 
-pub loading-named : (name : List ℕ) (old new : ShelfState) (fault : Fault) → LoadFails name old new fault → IsOfFileOrMemory name fault
+pub loading-named : (name : List ℕ) (old new : ShelfState) (fault : Fault) → LoadFails name old new fault → IsOfFilesOrMemory (name ∷ []) fault
 loading-named name old new fault (for_memory e) = inl e
-loading-named name old new fault (unread e _ _) = inr (subst (IsOfFile name) (sym e) record { reason = tt; file = refl })
-loading-named name old new fault (longer e _) = inr (subst (IsOfFile name) (sym e) record { reason = tt; file = refl })
+loading-named name old new fault (unread e _ _) = inr (inl (subst (IsOfFile name) (sym e) record { reason = tt; file = refl }))
+loading-named name old new fault (longer e _) = inr (inl (subst (IsOfFile name) (sym e) record { reason = tt; file = refl }))
 
 -- which of them are of reading
 
@@ -172,7 +174,12 @@ loading-unread name old new fault (unread e _ selects) = subst (IsUnread new) (s
 loading-unread name old new fault (longer e _) =
     subst (IsUnread new) (sym e) (other-unread new (of_file TooLong name) (λ is. let wrong : OfText ≡ OfReading = ap cause_of is in cc))
 
--- a fault of a file, or of memory, is none of the words
-pub no-words : (name : List ℕ) (fault : Fault) → IsOfFileOrMemory name fault → cause_of fault.reason ≡ OfWords → ⊥
-no-words name fault (inl e) w = let wrong : OfMemory ≡ OfWords = sym (ap (λ (f : Fault). cause_of f.reason) e) ∙ w in cc
-no-words name fault (inr t) w = subst SpeaksOfFile w t.reason
+-- a fault of files, or of memory, is none of the words
+files-no-words : (names : List (List ℕ)) (fault : Fault) → IsOfFiles names fault → cause_of fault.reason ≡ OfWords → ⊥
+files-no-words [] fault h w = h
+files-no-words (name ∷ names) fault (inl t) w = subst SpeaksOfFile w t.reason
+files-no-words (name ∷ names) fault (inr h) w = files-no-words names fault h w
+
+pub no-words : (names : List (List ℕ)) (fault : Fault) → IsOfFilesOrMemory names fault → cause_of fault.reason ≡ OfWords → ⊥
+no-words names fault (inl e) w = let wrong : OfMemory ≡ OfWords = sym (ap (λ (f : Fault). cause_of f.reason) e) ∙ w in cc
+no-words names fault (inr h) w = files-no-words names fault h w

@@ -1,52 +1,55 @@
 -- The commands: what the words after the program's name ask for, and what a run of them gives or refuses.
-use Rattle.std.specs.Prelude.{◌≡◌, ℕ, ◌⊎◌, List, Option, Result, Ok, Err}
-use Rattle.command_line.specs.Commands.{IsCommand}
-use Rattle.command_line.specs.Commands.{Meaning as meaning}
-use Rattle.psl_base.specs.Shelf.{Contents}
+use Rattle.std.specs.Prelude.{◌≡◌, ℕ, ◌⊎◌, List, [], ◌∷◌, Option, Some, Result, Ok, Err}
+use Rattle.command_line.specs.Commands as words_of
+use Rattle.command_line.specs.Commands.{Meaning}
+use Rattle.command_line.specs.Commands.Meaning.{wave, show, gen}
+use Rattle.psl_base.specs.Shelf.{Contents, ShelfState}
+use Rattle.commands.specs.Endings.{Explained}
 use Rattle.commands.specs.Faults.{of_none, fault_of}
 use Rattle.commands.specs.Generated.{GeneratedStage}
-use Rattle.commands.specs.Stages.{Then, IsOfFile}
+use Rattle.commands.specs.Stages.{Then, IsOfFiles}
 use Rattle.commands.specs.Waves.{WaveStage, ShowStage}
 use Rattle.commands.specs.declared.outcome.Fault.{Fault}
 use Rattle.commands.specs.declared.outcome.Line.{Line}
 use Rattle.commands.specs.declared.outcome.Outcome.{Outcome}
-use Rattle.commands.specs.declared.outcome.Outcome.TheVariants.{Nothing, Wave, Shown, Made}
-use Rattle.commands.specs.declared.outcome.Reason.TheVariants.{Usage, WriteFault, NoMemory}
+use Rattle.commands.specs.declared.outcome.Outcome.TheVariants.{Nothing, Wave, Shown}
+use Rattle.commands.specs.declared.reason.Reason.TheVariants.{Usage, WriteFault, NoMemory}
 use Rattle.vcd_reader.specs.Rules.{sample_limit}
 use Rattle.wave_judge.specs.declared.verdict.Verdict.{Verdict}
 
--- the words are `wave UNIT RECORDING`
-abbrev pub IsWave : List (List ℕ) → List ℕ → List ℕ → Type 0
-IsWave words unit recording = IsCommand sample_limit words (meaning.wave unit recording)
-
--- the words are `show UNIT NAMES`
-abbrev pub IsShow : List (List ℕ) → List ℕ → List ℕ → Type 0
-IsShow words unit names = IsCommand sample_limit words (meaning.show unit names)
-
--- the words are `gen SEED SAMPLES`, a seed below 2^31 and a number of samples from 1 to the limit
-abbrev pub IsGen : List (List ℕ) → ℕ → ℕ → Type 0
-IsGen words seed samples = IsCommand sample_limit words (meaning.gen seed samples)
+-- The words are this command: `wave UNIT RECORDING`, `show UNIT NAMES`, or `gen SEED SAMPLES` with a seed below 2^31 and
+-- a number of samples from 1 to the limit on samples.
+abbrev pub IsCommand : List (List ℕ) → Meaning → Type 0
+IsCommand words meaning = words_of.IsCommand sample_limit words meaning
 
 -- the words are no command
-pub record IsNoCommand (words : List (List ℕ)) : Type 0 where
-  pub no_wave : (unit recording : List ℕ) → IsWave words unit recording → ⊥
-  pub no_show : (unit names : List ℕ) → IsShow words unit names → ⊥
-  pub no_gen : (seed samples : ℕ) → IsGen words seed samples → ⊥
+abbrev pub IsNoCommand : List (List ℕ) → Type 0
+IsNoCommand words = words_of.IsNoCommand sample_limit words
 
--- the last stage: verdicts are the outcome, or lines are
-abbrev pub Waved : List Verdict → Contents → Result Outcome Fault → Type 0
-Waved verdicts files result = result ≡ Ok (Wave verdicts)
+-- the files that a command names, in the order in which it reads them
+abbrev pub files_of : Meaning → List (List ℕ)
+files_of (wave unit recording) = unit ∷ recording ∷ []
+files_of (show unit names) = unit ∷ names ∷ []
+files_of (gen seed samples) = []
 
-abbrev pub LinesShown : List Line → Contents → Result Outcome Fault → Type 0
-LinesShown lines files result = result ≡ Ok (Shown lines)
+-- what a command gives over contents: an outcome, or the first refusal
+abbrev pub MeaningStage : Meaning → Contents → Result Outcome Fault → Type 0
+MeaningStage (wave unit recording) files result =
+    Then (WaveStage unit recording) (λ verdicts _ outcome. outcome ≡ Ok (Wave verdicts)) files result
+MeaningStage (show unit names) files result = Then (ShowStage unit names) (λ lines _ outcome. outcome ≡ Ok (Shown lines)) files result
+MeaningStage (gen seed samples) files result = GeneratedStage seed samples result
+
+-- what is known of a command's outcome whatever the files tell: its kind, and that of `gen` is exact
+abbrev pub MeaningOutcome : Meaning → Outcome → Type 0
+MeaningOutcome (wave unit recording) outcome = (verdicts : List Verdict) × (outcome ≡ Wave verdicts)
+MeaningOutcome (show unit names) outcome = (lines : List Line) × (outcome ≡ Shown lines)
+MeaningOutcome (gen seed samples) outcome = GeneratedStage seed samples (Ok outcome)
 
 -- what the words give over contents: an outcome, or the first refusal
 abbrev pub CommandStage : List (List ℕ) → Contents → Result Outcome Fault → Type 0
 CommandStage words files result =
     (IsNoCommand words × (result ≡ Err (of_none Usage)))
-    ⊎ (((unit recording : List ℕ) × IsWave words unit recording × Then (WaveStage unit recording) Waved files result)
-    ⊎ (((unit names : List ℕ) × IsShow words unit names × Then (ShowStage unit names) LinesShown files result)
-    ⊎ ((seed samples : ℕ) × IsGen words seed samples × GeneratedStage seed samples result)))
+    ⊎ ((meaning : Meaning) × IsCommand words meaning × MeaningStage meaning files result)
 
 -- the first refusal of words over contents, or that there is none
 abbrev pub FirstRefusal : List (List ℕ) → Contents → Option Fault → Type 0
@@ -54,21 +57,18 @@ FirstRefusal words files answer = (result : Result Outcome Fault) × CommandStag
 
 -- whatever is told, an outcome is one of the command that the words are, and that of `gen` is exact
 abbrev pub IsOfCommand : List (List ℕ) → Outcome → Type 0
-IsOfCommand words Nothing = Unit {0}
-IsOfCommand words (Wave _) = (unit recording : List ℕ) × IsWave words unit recording
-IsOfCommand words (Shown _) = (unit names : List ℕ) × IsShow words unit names
-IsOfCommand words (Made seed samples bytes verdicts) =
-    IsGen words seed samples × GeneratedStage seed samples (Ok (Made seed samples bytes verdicts))
+IsOfCommand words outcome = (outcome ≡ Nothing) ⊎ ((meaning : Meaning) × IsCommand words meaning × MeaningOutcome meaning outcome)
 
 -- what an outcome says of the words and the contents
 abbrev pub IsOutcomeOf : List (List ℕ) → Contents → Outcome → Type 0
-IsOutcomeOf words files Nothing = Unit {0}
-IsOutcomeOf words files outcome = CommandStage words files (Ok outcome)
+IsOutcomeOf words files outcome = (outcome ≡ Nothing) ⊎ CommandStage words files (Ok outcome)
 
--- The fault is of no file where it is of the words, of writing or of memory; else it is of a file that
--- the words name.
+-- The fault is of no file where it is of the words, of writing or of memory; else it is of a file that the words name.
 abbrev pub IsNamed : List (List ℕ) → Fault → Type 0
 IsNamed words fault =
     (fault ≡ of_none Usage) ⊎ ((fault ≡ of_none WriteFault) ⊎ ((fault ≡ of_none NoMemory)
-    ⊎ (((unit recording : List ℕ) × IsWave words unit recording × (IsOfFile unit fault ⊎ IsOfFile recording fault))
-    ⊎ ((unit names : List ℕ) × IsShow words unit names × (IsOfFile unit fault ⊎ IsOfFile names fault)))))
+    ⊎ ((meaning : Meaning) × IsCommand words meaning × IsOfFiles (files_of meaning) fault)))
+
+-- a fault that a run of the words had to tell: it has its cause in the words and the files
+abbrev pub HadToTell : List (List ℕ) → ShelfState → ShelfState → Fault → Type 0
+HadToTell words old new fault = Explained ⊥ old new (FirstRefusal words) (Some fault)

@@ -5,13 +5,14 @@ use Rattle.psl_base.specs.Shelf.{Contents, ShelfState}
 use Rattle.psl_base.specs.Sink.{SinkState, AddsAll, AddsPart}
 use Rattle.psl_tree.specs.declared.directive.Kind.{Kind}
 use Rattle.psl_tree.specs.declared.directive.Kind.TheVariants.{Assert, Assume, Cover}
-use Rattle.commands.specs.Stages.{Cause, OfWriting, cause_of, OfTold, HasCause}
+use Rattle.commands.specs.Faults.{of_none}
+use Rattle.commands.specs.Rows.{Cause, OfWords, OfReading, OfWriting, OfText, OfMemory, cause_of, reason_status}
+use Rattle.commands.specs.Stages.{OfTold, HasCause}
 use Rattle.commands.specs.Text.{text_of, line_of}
 use Rattle.commands.specs.declared.outcome.Fault.{Fault}
 use Rattle.commands.specs.declared.outcome.Outcome.{Outcome}
 use Rattle.commands.specs.declared.outcome.Outcome.TheVariants.{Nothing, Wave, Shown, Made}
-use Rattle.commands.specs.declared.outcome.Reason.{Reason}
-use Rattle.commands.specs.declared.outcome.Reason.TheVariants.{Usage, ReadFault, WriteFault, TooLong, NoMemory, TooLarge, SereTooLarge, AutomatonTooLarge, NestedTooDeep, StatementTooLong, TooManySamples, TooManySignals}
+use Rattle.commands.specs.declared.reason.Reason.TheVariants.{WriteFault, NoMemory}
 use Rattle.wave_judge.specs.declared.verdict.Verdict.{Verdict}
 
 -- a cover may be neutral no
@@ -33,22 +34,6 @@ outcome_status Nothing = 0
 outcome_status (Wave verdicts) = verdicts_status verdicts
 outcome_status (Shown lines) = 0
 outcome_status (Made seed samples bytes verdicts) = verdicts_status verdicts
-
--- 2 for the words, 3 for reading, 4 for writing, 7 for a limit, 8 for memory, and 5 for the other faults of a text
-abbrev pub reason_status : Reason → ℕ
-reason_status Usage = 2
-reason_status ReadFault = 3
-reason_status WriteFault = 4
-reason_status TooLong = 7
-reason_status TooLarge = 7
-reason_status SereTooLarge = 7
-reason_status AutomatonTooLarge = 7
-reason_status NestedTooDeep = 7
-reason_status StatementTooLong = 7
-reason_status TooManySamples = 7
-reason_status TooManySignals = 7
-reason_status NoMemory = 8
-reason_status _ = 5
 
 -- the status of a run, from what it found out or from its fault
 abbrev pub status_of : Outcome → Option Fault → ℕ
@@ -74,19 +59,25 @@ IsUnwritten fault = fault.reason ≢ WriteFault
 abbrev pub AddsSome : List ℕ → SinkState → SinkState → Type 0
 AddsSome line old new = AddsAll line old new ⊎ AddsPart line old new
 
--- What is added to the two outputs by the end of a run. Without a fault the outcome's text, whole, and
--- nothing else. With one the fault's line, whole, on the second output and nothing on the first; but
--- where writing failed, the first bytes of the outcome's text and of the fault's line, or the first
--- bytes of some fault's line alone.
-abbrev pub PrintsFault : Cause → Outcome → Fault → SinkState → SinkState → SinkState → SinkState → Type 0
-PrintsFault OfWriting outcome fault out out' err err' =
-    (AddsPart (text_of outcome) out out' × AddsSome (line_of fault) err err')
-    ⊎ ((out' ≡ out) × ((other : Fault) × AddsPart (line_of other) err err'))
-PrintsFault _ _ fault out out' err err' = (out' ≡ out) × AddsAll (line_of fault) err err'
+-- a fault that is to be told: the one there is, or want of memory where its line cannot be made
+abbrev pub IsToTell : Option Fault → Fault → Type 0
+IsToTell had fault = (had ≡ Some fault) ⊎ (fault ≡ of_none NoMemory)
 
-abbrev pub Prints : Outcome → Option Fault → SinkState → SinkState → SinkState → SinkState → Type 0
-Prints outcome None out out' err err' = AddsAll (text_of outcome) out out' × (err' ≡ err)
-Prints outcome (Some fault) out out' err err' = PrintsFault (cause_of fault.reason) outcome fault out out' err err'
+-- What is added to the two outputs by the end of a run. Without a fault the outcome's text, whole, and nothing else. With
+-- one the fault's line, whole, on the second output and nothing on the first; but where writing failed, the first bytes
+-- of the outcome's text and of the fault's line, or the first bytes of the line of a fault that was to be told alone.
+abbrev pub PrintsFault : Cause → (Fault → Type 0) → Outcome → Fault → SinkState → SinkState → SinkState → SinkState → Type 0
+PrintsFault OfWriting WasToBeTold outcome fault out out' err err' =
+    (AddsPart (text_of outcome) out out' × AddsSome (line_of fault) err err')
+    ⊎ ((out' ≡ out) × ((other : Fault) × WasToBeTold other × AddsPart (line_of other) err err'))
+PrintsFault OfWords _ _ fault out out' err err' = (out' ≡ out) × AddsAll (line_of fault) err err'
+PrintsFault OfReading _ _ fault out out' err err' = (out' ≡ out) × AddsAll (line_of fault) err err'
+PrintsFault OfText _ _ fault out out' err err' = (out' ≡ out) × AddsAll (line_of fault) err err'
+PrintsFault OfMemory _ _ fault out out' err err' = (out' ≡ out) × AddsAll (line_of fault) err err'
+
+abbrev pub Prints : (Fault → Type 0) → Outcome → Option Fault → SinkState → SinkState → SinkState → SinkState → Type 0
+Prints WasToBeTold outcome None out out' err err' = AddsAll (text_of outcome) out out' × (err' ≡ err)
+Prints WasToBeTold outcome (Some fault) out out' err err' = PrintsFault (cause_of fault.reason) WasToBeTold outcome fault out out' err err'
 
 -- the two outputs after a run that had found this out: its text was printed, or writing failed
 pub record EndsWith (found : Outcome) (outcome : Outcome) (fault : Option Fault) (written : Fault) (write_cause : Type 0) : Type 0 where

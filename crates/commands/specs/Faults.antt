@@ -2,15 +2,24 @@
 use Rattle.std.specs.Prelude.{List, ℕ, Option, Result, Ok, Err, None, Some}
 use Rattle.psl_base.specs.declared.place.Place.{Place}
 use Rattle.commands.specs.declared.outcome.Fault.{Fault}
-use Rattle.commands.specs.declared.outcome.Reason.{Reason}
+use Rattle.commands.specs.declared.reason.Diagnostic.{Diagnostic}
+use Rattle.commands.specs.declared.reason.Reason.{Reason}
 
--- a fault of a file, perhaps at a place of it
-abbrev pub fault_in : List ℕ → Reason → Option Place → Fault
-fault_in name reason place = record { reason = reason; file = Some name; place = place }
+-- what is said at a place of a file
+abbrev pub at : Reason → Place → Diagnostic
+at reason place = record { reason = reason; place = Some place }
+
+-- what is said of no place
+abbrev pub whole : Reason → Diagnostic
+whole reason = record { reason = reason; place = None }
+
+-- the fault that a file has by what is said of it
+abbrev pub fault_in : List ℕ → Diagnostic → Fault
+fault_in name diagnostic = record { reason = diagnostic.reason; file = Some name; place = diagnostic.place }
 
 -- a fault of a whole file
 abbrev pub of_file : Reason → List ℕ → Fault
-of_file reason name = fault_in name reason None
+of_file reason name = fault_in name (whole reason)
 
 -- a fault of no file
 abbrev pub of_none : Reason → Fault

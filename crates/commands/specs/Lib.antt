@@ -1,8 +1,10 @@
-pub mod Causes
 pub mod Commands
+pub mod Diagnostics
 pub mod Endings
 pub mod Faults
 pub mod Generated
+pub mod Planning
+pub mod Rows
 pub mod Stages
 pub mod Text
 pub mod Waves

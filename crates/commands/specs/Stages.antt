@@ -1,14 +1,14 @@
 -- Stages of a run. A stage says of contents which value it gives or which fault refuses it; the stages of a command
 -- come one after the other, and the first refusal ends them.
-use Rattle.std.specs.Prelude.{◌≡◌, ◌≢◌, ℕ, ◌<◌, ◌≤◌, ◌⊎◌, List, length, Option, Result, Ok, Err, None, Some}
+use Rattle.std.specs.Prelude.{◌≡◌, ◌≢◌, ℕ, ◌<◌, ◌≤◌, ◌⊎◌, List, [], ◌∷◌, length, Option, Result, Ok, Err, None, Some, IfOk, IfErr}
 use Rattle.psl_base.specs.Faults.{Rose}
 use Rattle.psl_base.specs.Places.{file_limit}
-use Rattle.psl_base.specs.Shelf.{Contents, ShelfState, IsLonger, ReadingFails, SelectsNoOther}
-use Rattle.psl_base.specs.declared.place.Place.{Place}
+use Rattle.psl_base.specs.Shelf.{Contents, ShelfState, IsLonger, OnlyReads, ReadingFails, SelectsNoOther}
 use Rattle.commands.specs.Faults.{fault_in, of_file, of_none}
+use Rattle.commands.specs.Rows.{Cause, OfWords, OfReading, OfWriting, OfText, OfMemory, cause_of}
 use Rattle.commands.specs.declared.outcome.Fault.{Fault}
-use Rattle.commands.specs.declared.outcome.Reason.{Reason}
-use Rattle.commands.specs.declared.outcome.Reason.TheVariants.{Usage, ReadFault, WriteFault, TooLong, NoMemory}
+use Rattle.commands.specs.declared.reason.Diagnostic.{Diagnostic}
+use Rattle.commands.specs.declared.reason.Reason.TheVariants.{ReadFault, TooLong, NoMemory}
 
 -- What two readings give: what the first one refuses, and else what the second gives from the first one's value.
 abbrev pub AndThen : {A B : Type 0} → (Result A Fault → Type 0) → (A → Result B Fault → Type 0) → Result B Fault → Type 0
@@ -19,12 +19,12 @@ AndThen {A = A} First Next result =
 abbrev pub Then : {A B : Type 0} → (Contents → Result A Fault → Type 0) → (A → Contents → Result B Fault → Type 0) → Contents → Result B Fault → Type 0
 Then First Next files result = AndThen (First files) (λ value. Next value files) result
 
--- A reading that is told by its own values and faults, where a fault has a reason and perhaps a place in a file. Want of
--- memory is no fault of a text.
-abbrev pub ToldBy : {A F : Type 0} → List ℕ → (F → Reason) → (F → Option Place) → (A → Type 0) → (F → Type 0) → Result A Fault → Type 0
-ToldBy name reason place IsValue IsFault (Ok value) = IsValue value
-ToldBy {F = F} name reason place IsValue IsFault (Err fault) =
-    (cause : F) × IsFault cause × (reason cause ≢ NoMemory) × (fault ≡ fault_in name (reason cause) (place cause))
+-- A reading that is told by its own values and faults, of which something is said in a file. Want of memory is no
+-- fault of a text.
+abbrev pub ToldBy : {A F : Type 0} → List ℕ → (F → Diagnostic) → (A → Type 0) → (F → Type 0) → Result A Fault → Type 0
+ToldBy name diagnostic IsValue IsFault (Ok value) = IsValue value
+ToldBy {F = F} name diagnostic IsValue IsFault (Err fault) =
+    (cause : F) × IsFault cause × ((diagnostic cause).reason ≢ NoMemory) × (fault ≡ fault_in name (diagnostic cause))
 
 -- what a stage gives of a file, by its content: it is not there, or too long, or its content is read
 abbrev pub OfContent : {A : Type 0} → (List ℕ → Result A Fault → Type 0) → List ℕ → Option (List ℕ) → Result A Fault → Type 0
@@ -34,21 +34,6 @@ OfContent Reading name (Some content) result =
 
 abbrev pub OfFile : {A : Type 0} → (List ℕ → Result A Fault → Type 0) → List ℕ → Contents → Result A Fault → Type 0
 OfFile Reading name files result = OfContent Reading name (files name) result
-
--- what a reason speaks of
-pub data Cause : Type 0 where
-  OfWords : Cause
-  OfReading : Cause
-  OfWriting : Cause
-  OfText : Cause
-  OfMemory : Cause
-
-abbrev pub cause_of : Reason → Cause
-cause_of Usage = OfWords
-cause_of ReadFault = OfReading
-cause_of WriteFault = OfWriting
-cause_of NoMemory = OfMemory
-cause_of _ = OfText
 
 -- a fact of the contents that are told; nothing where nothing is told
 abbrev pub OfTold : ShelfState → (Contents → Type 0) → Type 0
@@ -85,9 +70,14 @@ pub record IsOfFile (name : List ℕ) (fault : Fault) : Type 0 where
   pub reason : SpeaksOfFile (cause_of fault.reason)
   pub file : fault.file ≡ Some name
 
--- the fault is of this file, or want of memory
-abbrev pub IsOfFileOrMemory : List ℕ → Fault → Type 0
-IsOfFileOrMemory name fault = (fault ≡ of_none NoMemory) ⊎ IsOfFile name fault
+-- the fault is of one of these files
+abbrev pub IsOfFiles : List (List ℕ) → Fault → Type 0
+IsOfFiles [] fault = ⊥
+IsOfFiles (name ∷ names) fault = IsOfFile name fault ⊎ IsOfFiles names fault
+
+-- the fault is of one of these files, or want of memory
+abbrev pub IsOfFilesOrMemory : List (List ℕ) → Fault → Type 0
+IsOfFilesOrMemory names fault = (fault ≡ of_none NoMemory) ⊎ IsOfFiles names fault
 
 -- why a file is not loaded: want of memory, a fault of reading, its length
 pub data LoadFails (name : List ℕ) (old new : ShelfState) (fault : Fault) : Type 0 where
@@ -112,3 +102,21 @@ TextFails name Refusal fault = (fault ≡ of_none NoMemory) ⊎ IsTextFault name
 -- a count of reading that is larger after a stage comes with a fault of reading, or with want of memory for telling it
 abbrev pub IsCounted : ShelfState → ShelfState → Fault → Type 0
 IsCounted old new fault = (new.read_faults ≡ old.read_faults) ⊎ ((fault.reason ≡ ReadFault) ⊎ (fault.reason ≡ NoMemory))
+
+-- A stage over the files of these names was gone through.
+pub record IsStage {A : Type 0} (names : List (List ℕ)) (Stage : Contents → Result A Fault → Type 0)
+    (old new : ShelfState) (result : Result A Fault) : Type 0 where
+  -- its value, or its refusal, which is of one of the files
+  pub gives : IfOk result (λ value. Gives old Stage value)
+  pub refuses : IfErr result (λ fault. Refuses old new Stage fault)
+  pub named : IfErr result (λ fault. IsOfFilesOrMemory names fault)
+  -- what it did to the files: their count of faults rose only with such a fault, and they are as before
+  pub unread : IfErr result (λ fault. IsUnread new fault)
+  pub quiet : IfOk result (λ _. new.read_faults ≡ old.read_faults)
+  pub counted : IfErr result (λ fault. IsCounted old new fault)
+  pub kept : OnlyReads old new
+
+-- What was read of the file of this name was gone through: the value, or the refusal.
+pub record IsReading {A : Type 0} (name : List ℕ) (Reading : Result A Fault → Type 0) (result : Result A Fault) : Type 0 where
+  pub gives : IfOk result (λ value. Reading (Ok value))
+  pub refuses : IfErr result (λ fault. TextFails name (λ fault. Reading (Err fault)) fault)

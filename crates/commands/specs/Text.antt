@@ -4,12 +4,11 @@ use Rattle.std.specs.List.{flat_map}
 use Rattle.psl_base.specs.declared.place.Place.{Place}
 use Rattle.psl_tree.specs.declared.directive.Kind.{Kind}
 use Rattle.psl_tree.specs.declared.directive.Kind.TheVariants.{Assert, Assume, Cover}
+use Rattle.commands.specs.Rows.{fault_words}
 use Rattle.commands.specs.declared.outcome.Fault.{Fault}
 use Rattle.commands.specs.declared.outcome.Line.{Line}
 use Rattle.commands.specs.declared.outcome.Outcome.{Outcome}
 use Rattle.commands.specs.declared.outcome.Outcome.TheVariants.{Nothing, Wave, Shown, Made}
-use Rattle.commands.specs.declared.outcome.Reason.{Reason}
-use Rattle.commands.specs.declared.outcome.Reason.TheVariants.{Usage, ReadFault, WriteFault, TooLong, NoMemory, BadByte, Unended, NumberTooLarge, Syntax, Kind as KindFault, UnknownName, Ambiguous, DeclaredTwice, EmptyRange, ConstantTooWide, TooLarge, SereTooLarge, AutomatonTooLarge, NestedTooDeep, StatementTooLong, UnknownKeyword, MissingEnd, BadVar, CodeSizeDiffers, ScopeNotOpen, BadTime, TimeFalls, CodeNotDeclared, BadValue, VectorTooLong, ChangeBeforeDefinitionsEnd, EndsInside, TooManySamples, TooManySignals}
 use Rattle.wave_judge.specs.Levels.{level_of}
 use Rattle.wave_judge.specs.declared.verdict.Level.{Level}
 use Rattle.wave_judge.specs.declared.verdict.Level.TheVariants.{HoldsStrongly, Holds, Pending, Fails}
@@ -73,43 +72,6 @@ abbrev pub about : Option (List ℕ) → Option Place → List ℕ → List ℕ
 about None _ words = words
 about (Some file) None words = file ++ codes ": " ++ words
 about (Some file) (Some place) words = file ++ codes ":" ++ decimal place.line ++ codes ":" ++ decimal place.column ++ codes ": " ++ words
-
--- what is said of a fault: where it is of a text, its code and its name
-abbrev pub fault_words : Reason → List ℕ
-fault_words Usage = codes "usage: pslc wave|prove|check|show|gen ARGUMENTS"
-fault_words ReadFault = codes "read fault"
-fault_words WriteFault = codes "write fault"
-fault_words TooLong = codes "TooLong"
-fault_words NoMemory = codes "no memory"
-fault_words BadByte = codes "1 BadByte"
-fault_words Unended = codes "2 Unended"
-fault_words NumberTooLarge = codes "3 NumberTooLarge"
-fault_words Syntax = codes "5 Syntax"
-fault_words KindFault = codes "6 Kind"
-fault_words UnknownName = codes "7 UnknownName"
-fault_words Ambiguous = codes "8 Ambiguous"
-fault_words DeclaredTwice = codes "9 DeclaredTwice"
-fault_words EmptyRange = codes "10 EmptyRange"
-fault_words ConstantTooWide = codes "11 ConstantTooWide"
-fault_words TooLarge = codes "12 TooLarge"
-fault_words SereTooLarge = codes "13 SereTooLarge"
-fault_words AutomatonTooLarge = codes "14 AutomatonTooLarge"
-fault_words NestedTooDeep = codes "16 NestedTooDeep"
-fault_words StatementTooLong = codes "17 StatementTooLong"
-fault_words UnknownKeyword = codes "V1 UnknownKeyword"
-fault_words MissingEnd = codes "V2 MissingEnd"
-fault_words BadVar = codes "V3 BadVar"
-fault_words CodeSizeDiffers = codes "V4 CodeSizeDiffers"
-fault_words ScopeNotOpen = codes "V5 ScopeNotOpen"
-fault_words BadTime = codes "V6 BadTime"
-fault_words TimeFalls = codes "V7 TimeFalls"
-fault_words CodeNotDeclared = codes "V8 CodeNotDeclared"
-fault_words BadValue = codes "V9 BadValue"
-fault_words VectorTooLong = codes "V10 VectorTooLong"
-fault_words ChangeBeforeDefinitionsEnd = codes "V11 ChangeBeforeDefinitionsEnd"
-fault_words EndsInside = codes "V12 EndsInside"
-fault_words TooManySamples = codes "V13 TooManySamples"
-fault_words TooManySignals = codes "V14 TooManySignals"
 
 -- a fault's line
 abbrev pub line_of : Fault → List ℕ

@@ -1,6 +1,6 @@
 -- What the commands over a text and a recording give: the verdicts of the text's directives on the recording, and
 -- what the directives mean over its names.
-use Rattle.std.specs.Prelude.{◌≡◌, ℕ, List, map, None, Result, Ok, Err}
+use Rattle.std.specs.Prelude.{◌≡◌, ℕ, List, All, map, None, Result, Ok, Err}
 use Rattle.psl_base.specs.Shelf.{Contents}
 use Rattle.psl_grammar.specs.declared.tree.UnitTree.{UnitTree}
 use Rattle.psl_elaboration.specs.Answers.{IsUnit, IsLayerFault}
@@ -14,7 +14,7 @@ use Rattle.psl_tree.specs.Counts.{obligations_of, shown}
 use Rattle.psl_tree.specs.declared.directive.Directive.{Directive}
 use Rattle.psl_tree.specs.declared.name.Name.{Name}
 use Rattle.psl_tree.specs.Trees.{formula_of}
-use Rattle.commands.specs.Causes.{lex_reason, lex_place, parse_reason, parse_place, layer_reason, layer_place, judge_reason, judge_place, vcd_reason, vcd_place}
+use Rattle.commands.specs.Diagnostics.{lex_diagnostic, parse_diagnostic, layer_diagnostic, judge_diagnostic, vcd_diagnostic}
 use Rattle.commands.specs.Stages.{AndThen, Then, OfFile, ToldBy}
 use Rattle.commands.specs.declared.inputs.Inputs.{Inputs}
 use Rattle.commands.specs.declared.outcome.Fault.{Fault}
@@ -24,15 +24,14 @@ use Rattle.vcd_reader.specs.Sampled.{Sampled, letters_of}
 use Rattle.wave_judge.specs.Faults.{IsJudgeable, IsJudgeFault}
 use Rattle.wave_judge.specs.Judged.{AreVerdicts}
 use Rattle.wave_judge.specs.declared.verdict.Verdict.{Verdict}
-use Rattle.std.specs.Prelude.{All}
 
 -- the tokens of a text, or its first fault
 abbrev pub TokensReading : List ℕ → List ℕ → Result (List Token) Fault → Type 0
-TokensReading name content = ToldBy name lex_reason lex_place (IsLexed content) (IsFirstFault content)
+TokensReading name content = ToldBy name lex_diagnostic (IsLexed content) (IsFirstFault content)
 
 -- the tree of tokens, or the first token with a fault
 abbrev pub TreeReading : List ℕ → List ℕ → List Token → Result UnitTree Fault → Type 0
-TreeReading name content tokens = ToldBy name parse_reason (parse_place content tokens) (IsParsed tokens) (IsParseFault tokens)
+TreeReading name content tokens = ToldBy name (parse_diagnostic content tokens) (IsParsed tokens) (IsParseFault tokens)
 
 -- the tree of a text
 abbrev pub UnitReading : List ℕ → List ℕ → Result UnitTree Fault → Type 0
@@ -43,7 +42,7 @@ UnitStage name = OfFile (UnitReading name) name
 
 -- the values of a recording, or its first fault
 abbrev pub RecordingReading : List ℕ → List ℕ → Result Sampled Fault → Type 0
-RecordingReading name content = ToldBy name vcd_reason vcd_place (λ sampled. reading content ≡ Ok sampled) (λ fault. reading content ≡ Err fault)
+RecordingReading name content = ToldBy name vcd_diagnostic (λ sampled. reading content ≡ Ok sampled) (λ fault. reading content ≡ Err fault)
 
 abbrev pub RecordingStage : List ℕ → Contents → Result Sampled Fault → Type 0
 RecordingStage name = OfFile (RecordingReading name) name
@@ -55,7 +54,7 @@ InputsStage unit recording =
 
 -- the directives of a text over names, or the first fault of kinds and names
 abbrev pub DirectivesReading : List ℕ → UnitTree → List Name → Result (List Directive) Fault → Type 0
-DirectivesReading name tree names = ToldBy name layer_reason layer_place (IsUnit tree names) (IsLayerFault tree names)
+DirectivesReading name tree names = ToldBy name layer_diagnostic (IsUnit tree names) (IsLayerFault tree names)
 
 -- the directives can be judged, and these are their verdicts on the recording
 pub record AreJudged (sampled : Sampled) (directives : List Directive) (verdicts : List Verdict) : Type 0 where
@@ -64,7 +63,7 @@ pub record AreJudged (sampled : Sampled) (directives : List Directive) (verdicts
 
 -- the verdicts of directives, or the first directive that is too large to be judged
 abbrev pub JudgeReading : List ℕ → Sampled → List Directive → Result (List Verdict) Fault → Type 0
-JudgeReading name sampled directives = ToldBy name judge_reason (judge_place directives) (AreJudged sampled directives) (IsJudgeFault directives)
+JudgeReading name sampled directives = ToldBy name (judge_diagnostic directives) (AreJudged sampled directives) (IsJudgeFault directives)
 
 -- the verdicts of a text on a recording
 abbrev pub VerdictsReading : List ℕ → Inputs → Result (List Verdict) Fault → Type 0
@@ -80,10 +79,10 @@ line_of names directive = record {
   obligations = shown (obligations_of (plain (formula_of directive.formula) None));
 }
 
--- what the directives of a text mean over the names of a recording
-abbrev pub LinesReading : List ℕ → Inputs → Result (List Line) Fault → Type 0
-LinesReading name inputs =
-    AndThen (DirectivesReading name inputs.tree inputs.recording.names) (λ directives result. result ≡ Ok (map (line_of inputs.recording.names) directives))
+-- what the directives of a text mean over names
+abbrev pub LinesReading : List ℕ → UnitTree → List Name → Result (List Line) Fault → Type 0
+LinesReading name tree names =
+    AndThen (DirectivesReading name tree names) (λ directives result. result ≡ Ok (map (line_of names) directives))
 
 -- `wave UNIT RECORDING`
 abbrev pub WaveStage : List ℕ → List ℕ → Contents → Result (List Verdict) Fault → Type 0
@@ -91,4 +90,4 @@ WaveStage unit recording = Then (InputsStage unit recording) (λ inputs files. V
 
 -- `show UNIT NAMES`
 abbrev pub ShowStage : List ℕ → List ℕ → Contents → Result (List Line) Fault → Type 0
-ShowStage unit names = Then (InputsStage unit names) (λ inputs files. LinesReading unit inputs)
+ShowStage unit names = Then (InputsStage unit names) (λ inputs files. LinesReading unit inputs.tree inputs.recording.names)

@@ -3,13 +3,15 @@ ghost use Rattle.std.specs.List.{list_all};
 ghost use Rattle.std.specs.Result.{ForOk, ForErr};
 ghost use Rattle.psl_base.specs.Faults.{Rose};
 ghost use Rattle.psl_base.specs.Sink.{SinkState};
-ghost use Rattle.commands.specs.Endings.{status_of, reason_status, outcome_status, verdicts_status, passes, may_be_no, IsUnwritten, Prints, AddsSome, EndsWith, EndsFaulted};
-ghost use Rattle.commands.specs.Faults.{of_none};
+ghost use Rattle.commands.specs.Endings.{status_of, outcome_status, verdicts_status, passes, may_be_no, IsUnwritten, IsToTell, Prints, AddsSome, EndsWith, EndsFaulted};
+ghost use Rattle.commands.specs.Faults.{of_none, fault_of};
 ghost use Rattle.commands.specs.Text.{text_of, line_of};
 
-use crate::outcome::{Fault, Outcome, Reason, Report};
+use crate::faults::of_none;
+use crate::outcome::{Fault, Outcome, Report};
+use crate::reason::Reason;
 use crate::report::fault_line;
-use crate::telling::of_none;
+use crate::rows::row_of;
 use psl_base::{Bytes, Sink, put_all};
 use psl_tree::Kind;
 use std::alloc::Global;
@@ -34,7 +36,7 @@ pub fn finish<O: Sink, E: Sink>(
     requires unwritten { ForErr planned (λ fault. IsUnwritten fault) }
 
     ensures status { result.status ≡ status_of result.outcome result.fault }
-    ensures printed { Prints result.outcome result.fault (O.state out.old) (O.state out.new) (E.state err.old) (E.state err.new) }
+    ensures printed { Prints (IsToTell (fault_of planned)) result.outcome result.fault (O.state out.old) (O.state out.new) (E.state err.old) (E.state err.new) }
     ensures made { IfOk planned (λ made. EndsWith made.outcome result.outcome result.fault (of_none Reason.WriteFault) (Rose (O.state out.old).faults (O.state out.new).faults)) }
     ensures faulted { IfErr planned (λ fault. EndsFaulted fault result.outcome result.fault (of_none Reason.NoMemory) (of_none Reason.WriteFault) (Rose (E.state err.old).faults (E.state err.new).faults)) }
 {
@@ -48,7 +50,7 @@ fn finish_outcome<O: Sink, E: Sink>(made: Planned, out: &mut O, err: &mut E) -> 
     requires text { made.text ≡ text_of made.outcome }
 
     ensures status { result.status ≡ status_of result.outcome result.fault }
-    ensures printed { Prints result.outcome result.fault (O.state out.old) (O.state out.new) (E.state err.old) (E.state err.new) }
+    ensures printed { Prints (λ _. ⊥) result.outcome result.fault (O.state out.old) (O.state out.new) (E.state err.old) (E.state err.new) }
     ensures made { EndsWith made.outcome result.outcome result.fault (of_none Reason.WriteFault) (Rose (O.state out.old).faults (O.state out.new).faults) }
 {
     let Planned { outcome, text } = made;
@@ -77,7 +79,7 @@ fn finish_fault<E: Sink>(alloc: Global, fault: Fault, err: &mut E) -> Report
     requires unwritten { IsUnwritten fault }
 
     ensures status { result.status ≡ status_of result.outcome result.fault }
-    ensures printed { (out : SinkState) → Prints result.outcome result.fault out out (E.state err.old) (E.state err.new) }
+    ensures printed { (out : SinkState) → Prints (IsToTell (Some fault)) result.outcome result.fault out out (E.state err.old) (E.state err.new) }
     ensures faulted { EndsFaulted fault result.outcome result.fault (of_none Reason.NoMemory) (of_none Reason.WriteFault) (Rose (E.state err.old).faults (E.state err.new).faults) }
 {
     match fault_line(alloc, &fault) {
@@ -91,12 +93,12 @@ fn tell<E: Sink>(fault: Fault, line: &[u8], err: &mut E) -> Report
     requires line { line.now ≡ line_of fault }
 
     ensures status { result.status ≡ status_of result.outcome result.fault }
-    ensures printed { (out : SinkState) → Prints result.outcome result.fault out out (E.state err.old) (E.state err.new) }
+    ensures printed { (out : SinkState) → Prints (λ other. other ≡ fault) result.outcome result.fault out out (E.state err.old) (E.state err.new) }
     ensures faulted { EndsFaulted fault result.outcome result.fault (of_none Reason.NoMemory) (of_none Reason.WriteFault) (Rose (E.state err.old).faults (E.state err.new).faults) }
 {
     match put_all(err, line) {
         Ok(()) => Report {
-            status: status_of_reason(fault.reason),
+            status: row_of(fault.reason).status,
             outcome: Outcome::Nothing,
             fault: Some(fault),
         },
@@ -135,25 +137,4 @@ fn passes(verdict: &Verdict) -> bool
     ensures { result ≡ passes verdict.now }
 {
     verdict.neutral || verdict.kind as u8 == Kind::Cover as u8
-}
-
-/// The status of a run that ended with a fault.
-fn status_of_reason(reason: Reason) -> u8
-    ensures { result ≡ reason_status reason }
-{
-    match reason {
-        Reason::Usage => 2,
-        Reason::ReadFault => 3,
-        Reason::WriteFault => 4,
-        Reason::TooLong
-        | Reason::TooLarge
-        | Reason::SereTooLarge
-        | Reason::AutomatonTooLarge
-        | Reason::NestedTooDeep
-        | Reason::StatementTooLong
-        | Reason::TooManySamples
-        | Reason::TooManySignals => 7,
-        Reason::NoMemory => 8,
-        _ => 5,
-    }
 }

@@ -5,14 +5,15 @@ ghost use Rattle.commands.specs.Generated.{AreMade, AreAnswered, GeneratedStage,
 ghost use Rattle.vcd_writer.specs.Made.{made_text, made_sampled};
 ghost use Rattle.vcd_reader.specs.Rules.{sample_limit};
 
-use crate::outcome::{Fault, Outcome, Reason};
-use crate::telling::of_none;
+use crate::faults::of_none;
+use crate::outcome::{Fault, Outcome};
+use crate::reason::Reason;
 use psl_base::{Bytes, File, Files, MemShelf, NoMemory, Numbers, Place, Text};
 use psl_sugar::{MeasuredBool, MeasuredFl, Strength, SugarFault};
 use psl_tree::{Atom, Directive, Edge, Kind, Unit};
-use vcd_writer::make_recording;
 use std::alloc::Global;
 use vcd_reader::{Recording, read_vcd};
+use vcd_writer::make_recording;
 use wave_judge::{Verdicts, judge};
 
 /// Makes a recording from a seed and judges `assert always (req -> next! ack);` on it: `gen SEED SAMPLES`.

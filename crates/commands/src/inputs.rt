@@ -1,15 +1,18 @@
-ghost use Rattle.std.specs.Prelude.{◌≡◌, ◌⊎◌, IfOk, IfErr};
-ghost use Rattle.psl_base.specs.Shelf.{OnlyReads};
-ghost use Rattle.commands.specs.Stages.{Gives, Refuses, IsOfFile, IsOfFileOrMemory, IsUnread, IsCounted};
-ghost use Rattle.commands.specs.Waves.{InputsStage};
+ghost use Rattle.std.specs.Prelude.{◌≡◌, ◌≤◌, ◌∷◌, [], length, IfOk, IfErr};
+ghost use Rattle.psl_base.specs.Places.{file_limit};
+ghost use Rattle.psl_base.specs.Shelf.{OnlyReads, IsContent};
+ghost use Rattle.commands.specs.Stages.{IsStage, IsReading, IsCounted, LoadFails};
+ghost use Rattle.commands.specs.Waves.{TokensReading, TreeReading, UnitReading, UnitStage, RecordingStage, InputsStage};
 
+use crate::faults::{fault_in, lex_diagnostic, of_none, parse_diagnostic, vcd_diagnostic, whole};
 use crate::outcome::Fault;
-use crate::sampled::load_recording;
-use crate::unit::load_unit;
-use psl_base::Shelf;
+use crate::reason::Reason;
+use psl_base::{Bytes, FILE_LIMIT, ReadAllFault, Shelf, read_all};
 use psl_grammar::UnitTree;
+use psl_lexer::{Tokens, lex};
+use psl_parser::parse;
 use std::alloc::Global;
-use vcd_reader::Recording;
+use vcd_reader::{Recording, read_vcd};
 
 /// What a command reads: the tree of a text, and a recording.
 #[derive(Drop)]
@@ -25,21 +28,75 @@ pub fn load_inputs<F: Shelf>(
     unit: &str,
     recording: &str,
 ) -> Result<Inputs, Fault>
-    ensures gives { IfOk result (λ inputs. Gives (F.state files.old) (InputsStage unit.now recording.now) inputs) }
-    ensures refuses { IfErr result (λ fault. Refuses (F.state files.old) (F.state files.new) (InputsStage unit.now recording.now) fault) }
-    ensures named { IfErr result (λ fault. IsOfFileOrMemory unit.now fault ⊎ IsOfFile recording.now fault) }
-    ensures unread { IfErr result (λ fault. IsUnread (F.state files.new) fault) }
+    ensures { IsStage (unit.now ∷ recording.now ∷ []) (InputsStage unit.now recording.now) (F.state files.old) (F.state files.new) result }
+{
+    let tree = load_unit(alloc, files, unit)?;
+    let recording = load_recording(alloc, files, recording)?;
+    Ok(Inputs { tree, recording })
+}
+
+/// The recording in a file.
+fn load_recording<F: Shelf>(alloc: Global, files: &mut F, name: &str) -> Result<Recording, Fault>
+    ensures { IsStage (name.now ∷ []) (RecordingStage name.now) (F.state files.old) (F.state files.new) result }
+{
+    match read_vcd(alloc, files, name) {
+        Ok(recording) => Ok(recording),
+        Err(fault) => Err(fault_in(alloc, name, vcd_diagnostic(fault))),
+    }
+}
+
+/// The tree of the text in a file.
+fn load_unit<F: Shelf>(alloc: Global, files: &mut F, name: &str) -> Result<UnitTree, Fault>
+    ensures { IsStage (name.now ∷ []) (UnitStage name.now) (F.state files.old) (F.state files.new) result }
+{
+    let text = load(alloc, files, name)?;
+    parse_text(alloc, text.as_slice(), name)
+}
+
+/// The whole content of a file.
+fn load<F: Shelf>(alloc: Global, files: &mut F, name: &str) -> Result<Bytes, Fault>
+    ensures content { IfOk result (λ bytes. IsContent (F.state files.old) name.now bytes) }
+    ensures within { IfOk result (λ bytes. length bytes ≤ file_limit) }
+    ensures refuses { IfErr result (λ fault. LoadFails name.now (F.state files.old) (F.state files.new) fault) }
     ensures quiet { IfOk result (λ _. (F.state files.new).read_faults ≡ (F.state files.old).read_faults) }
     ensures counted { IfErr result (λ fault. IsCounted (F.state files.old) (F.state files.new) fault) }
     ensures kept { OnlyReads (F.state files.old) (F.state files.new) }
 {
-    let tree = match load_unit(alloc, files, unit) {
-        Ok(tree) => tree,
-        Err(fault) => return Err(fault),
-    };
-    let recording = match load_recording(alloc, files, recording) {
-        Ok(recording) => recording,
-        Err(fault) => return Err(fault),
-    };
-    Ok(Inputs { tree, recording })
+    match read_all(alloc, files, name, FILE_LIMIT) {
+        Ok(bytes) => Ok(bytes),
+        Err(ReadAllFault::ReadFault) => Err(fault_in(alloc, name, whole(Reason::ReadFault))),
+        Err(ReadAllFault::TooLong) => Err(fault_in(alloc, name, whole(Reason::TooLong))),
+        Err(ReadAllFault::NoMemory) => Err(of_none(Reason::NoMemory)),
+    }
+}
+
+/// The tree of a text.
+fn parse_text(alloc: Global, text: &[u8], name: &str) -> Result<UnitTree, Fault>
+    requires { length text.now ≤ file_limit }
+    ensures { IsReading name.now (UnitReading name.now text.now) result }
+{
+    let tokens = tokens_of(alloc, text, name)?;
+    tree_of(alloc, text, &tokens, name)
+}
+
+/// The tokens of a text.
+fn tokens_of(alloc: Global, text: &[u8], name: &str) -> Result<Tokens, Fault>
+    requires { length text.now ≤ file_limit }
+    ensures { IsReading name.now (TokensReading name.now text.now) result }
+{
+    match lex(alloc, text) {
+        Ok(tokens) => Ok(tokens),
+        Err(fault) => Err(fault_in(alloc, name, lex_diagnostic(fault))),
+    }
+}
+
+/// The tree of the tokens of a text.
+fn tree_of(alloc: Global, text: &[u8], tokens: &Tokens, name: &str) -> Result<UnitTree, Fault>
+    requires { length text.now ≤ file_limit }
+    ensures { IsReading name.now (TreeReading name.now text.now tokens.now) result }
+{
+    match parse(alloc, tokens) {
+        Ok(tree) => Ok(tree),
+        Err(fault) => Err(fault_in(alloc, name, parse_diagnostic(text, tokens, fault))),
+    }
 }

@@ -2,21 +2,21 @@
 //! call, `run`, whose clauses are what a run promises.
 #![tactic(auto)]
 
-mod causes;
 mod directives;
+mod faults;
 mod finish;
 mod generated;
 mod inputs;
 mod outcome;
+mod reason;
 mod report;
-mod sampled;
+mod rows;
 mod show;
-mod telling;
 #[cfg(test)]
 mod tests;
 mod top;
-mod unit;
 mod wave;
 
-pub use outcome::{Fault, Line, Lines, Outcome, Reason, Report};
+pub use outcome::{Fault, Line, Lines, Outcome, Report};
+pub use reason::Reason;
 pub use top::{one_refusal, run};

@@ -1,8 +1,9 @@
 ghost use Rattle.std.specs.Prelude.{◌≡◌, ◌++◌, IfOk, OnOk, decimal};
 ghost use Rattle.std.specs.List.{flat_map};
-ghost use Rattle.commands.specs.Text.{text_of, line_of, made_line, meaning_line, verdict_line, head, label_part, kind_word, level_words, answer_word, about, fault_words};
+ghost use Rattle.commands.specs.Text.{text_of, line_of, made_line, meaning_line, verdict_line, head, label_part, kind_word, level_words, answer_word, about};
 
-use crate::outcome::{Fault, Line, Outcome, Reason};
+use crate::outcome::{Fault, Line, Outcome};
+use crate::rows::row_of;
 use itoa::Buffer;
 use psl_base::{Bytes, NoMemory, Place, Text};
 use psl_tree::Kind;
@@ -32,7 +33,12 @@ pub fn fault_line(alloc: Global, fault: &Fault) -> Result<Bytes, NoMemory>
 {
     let mut line = Vec::new(alloc);
     add(&mut line, b"pslc: ")?;
-    add_about(&mut line, &fault.file, &fault.place, words_of(fault.reason))?;
+    add_about(
+        &mut line,
+        &fault.file,
+        &fault.place,
+        row_of(fault.reason).words,
+    )?;
     add(&mut line, b"\n")?;
     Ok(Bytes::from_vec(line))
 }
@@ -64,48 +70,6 @@ fn add_number(line: &mut Vec<u8>, number: u64) -> Result<(), NoMemory>
     ensures { OnOk result (line.new.items ≡ line.old.items ++ decimal number) }
 {
     add(line, Buffer::new().format(number).as_bytes())
-}
-
-/// What is said of a fault.
-pub fn words_of(reason: Reason) -> &'static [u8]
-    ensures { result.now ≡ fault_words reason }
-{
-    match reason {
-        Reason::Usage => b"usage: pslc wave|prove|check|show|gen ARGUMENTS",
-        Reason::ReadFault => b"read fault",
-        Reason::WriteFault => b"write fault",
-        Reason::TooLong => b"TooLong",
-        Reason::NoMemory => b"no memory",
-        Reason::BadByte => b"1 BadByte",
-        Reason::Unended => b"2 Unended",
-        Reason::NumberTooLarge => b"3 NumberTooLarge",
-        Reason::Syntax => b"5 Syntax",
-        Reason::Kind => b"6 Kind",
-        Reason::UnknownName => b"7 UnknownName",
-        Reason::Ambiguous => b"8 Ambiguous",
-        Reason::DeclaredTwice => b"9 DeclaredTwice",
-        Reason::EmptyRange => b"10 EmptyRange",
-        Reason::ConstantTooWide => b"11 ConstantTooWide",
-        Reason::TooLarge => b"12 TooLarge",
-        Reason::SereTooLarge => b"13 SereTooLarge",
-        Reason::AutomatonTooLarge => b"14 AutomatonTooLarge",
-        Reason::NestedTooDeep => b"16 NestedTooDeep",
-        Reason::StatementTooLong => b"17 StatementTooLong",
-        Reason::UnknownKeyword => b"V1 UnknownKeyword",
-        Reason::MissingEnd => b"V2 MissingEnd",
-        Reason::BadVar => b"V3 BadVar",
-        Reason::CodeSizeDiffers => b"V4 CodeSizeDiffers",
-        Reason::ScopeNotOpen => b"V5 ScopeNotOpen",
-        Reason::BadTime => b"V6 BadTime",
-        Reason::TimeFalls => b"V7 TimeFalls",
-        Reason::CodeNotDeclared => b"V8 CodeNotDeclared",
-        Reason::BadValue => b"V9 BadValue",
-        Reason::VectorTooLong => b"V10 VectorTooLong",
-        Reason::ChangeBeforeDefinitionsEnd => b"V11 ChangeBeforeDefinitionsEnd",
-        Reason::EndsInside => b"V12 EndsInside",
-        Reason::TooManySamples => b"V13 TooManySamples",
-        Reason::TooManySignals => b"V14 TooManySignals",
-    }
 }
 
 /// The line that says what was made.

@@ -1,50 +1,38 @@
-ghost use Rattle.std.specs.Prelude.{◌≡◌, ◌⊎◌, All, map, Ok, Err, None, IfOk, IfErr};
-ghost use Rattle.psl_base.specs.Shelf.{OnlyReads};
+ghost use Rattle.std.specs.Prelude.{◌≡◌, ◌∷◌, [], All, map, None, IfOk};
 ghost use Rattle.psl_meaning.specs.Plain.{plain};
 ghost use Rattle.psl_tree.specs.Atoms.{AtomsOfFormula};
 ghost use Rattle.psl_tree.specs.Counts.{obligations_of, shown};
-ghost use Rattle.psl_tree.specs.Names.{AtomInRange};
+ghost use Rattle.psl_tree.specs.Names.{AtomInRange, AreAlike};
 ghost use Rattle.psl_tree.specs.Trees.{formula_of};
-ghost use Rattle.commands.specs.Faults.{of_none};
-ghost use Rattle.commands.specs.Stages.{Gives, Refuses, IsOfFile, IsOfFileOrMemory, IsUnread, IsCounted, TextFails};
+ghost use Rattle.commands.specs.Stages.{IsStage, IsReading};
 ghost use Rattle.commands.specs.Waves.{LinesReading, ShowStage, line_of};
 
 use crate::directives::directives;
-use crate::inputs::{Inputs, load_inputs};
-use crate::outcome::{Fault, Line, Lines, Reason};
-use crate::telling::of_none;
+use crate::faults::of_none;
+use crate::inputs::load_inputs;
+use crate::outcome::{Fault, Line, Lines};
+use crate::reason::Reason;
 use clock_rewrite::unclock;
 use psl_base::{NoMemory, Shelf, Text};
+use psl_grammar::UnitTree;
 use psl_tree::{Directive, Fl, Names, obligations, print_fl};
 use std::alloc::Global;
 
 /// What the directives of a text mean over the names of a recording, both read from files: `show UNIT NAMES`.
 pub fn show<F: Shelf>(alloc: Global, files: &mut F, unit: &str, names: &str) -> Result<Lines, Fault>
-    ensures gives { IfOk result (λ lines. Gives (F.state files.old) (ShowStage unit.now names.now) lines) }
-    ensures refuses { IfErr result (λ fault. Refuses (F.state files.old) (F.state files.new) (ShowStage unit.now names.now) fault) }
-    ensures named { IfErr result (λ fault. IsOfFileOrMemory unit.now fault ⊎ IsOfFile names.now fault) }
-    ensures unread { IfErr result (λ fault. IsUnread (F.state files.new) fault) }
-    ensures quiet { IfOk result (λ _. (F.state files.new).read_faults ≡ (F.state files.old).read_faults) }
-    ensures counted { IfErr result (λ fault. IsCounted (F.state files.old) (F.state files.new) fault) }
-    ensures kept { OnlyReads (F.state files.old) (F.state files.new) }
+    ensures { IsStage (unit.now ∷ names.now ∷ []) (ShowStage unit.now names.now) (F.state files.old) (F.state files.new) result }
 {
-    let inputs = match load_inputs(alloc, files, unit, names) {
-        Ok(inputs) => inputs,
-        Err(fault) => return Err(fault),
-    };
-    lines(alloc, &inputs, unit)
+    let inputs = load_inputs(alloc, files, unit, names)?;
+    lines(alloc, &inputs.tree, inputs.recording.names(), unit)
 }
 
-/// What the directives of a text mean.
-fn lines(alloc: Global, inputs: &Inputs, unit: &str) -> Result<Lines, Fault>
-    ensures gives { IfOk result (λ lines. LinesReading unit.now inputs.now (Ok lines)) }
-    ensures refuses { IfErr result (λ fault. TextFails unit.now (λ fault. LinesReading unit.now inputs.now (Err fault)) fault) }
+/// What the directives of a text mean over names.
+fn lines(alloc: Global, tree: &UnitTree, names: &Names, unit: &str) -> Result<Lines, Fault>
+    requires { AreAlike names.now }
+    ensures { IsReading unit.now (LinesReading unit.now tree.now names.now) result }
 {
-    let directives = match directives(alloc, inputs, unit) {
-        Ok(directives) => directives,
-        Err(fault) => return Err(fault),
-    };
-    match lines_of(alloc, directives.as_slice(), inputs.recording.names()) {
+    let directives = directives(alloc, tree, names, unit)?;
+    match lines_of(alloc, directives.as_slice(), names) {
         Ok(lines) => Ok(lines),
         Err(_) => Err(of_none(Reason::NoMemory)),
     }

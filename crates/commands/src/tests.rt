@@ -1,4 +1,4 @@
-use crate::outcome::Reason;
+use crate::reason::Reason;
 use crate::top::run;
 use psl_base::{Bytes, File, Files, MemShelf, MemSink, NoMemory, Numbers};
 use std::alloc::{AllocError, Global};

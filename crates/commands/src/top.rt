@@ -1,18 +1,20 @@
-ghost use Rattle.std.specs.Prelude.{◌≡◌, ◌≢◌, ◌⊎◌, ◌<◌, ℕ, List, Option, map, None, Some, IfOk, IfErr, IfSome, IsNone, IsErrOf, string_bytes};
+ghost use Rattle.std.specs.Prelude.{◌≡◌, ◌≢◌, ◌⊎◌, ◌<◌, ℕ, List, Option, map, None, Some, IfOk, IfErr, IfSome, string_bytes};
 ghost use Rattle.psl_base.specs.Faults.{Rose};
 ghost use Rattle.psl_base.specs.Shelf.{Contents, OnlyReads};
-ghost use Rattle.commands.specs.Commands.{FirstRefusal, IsOfCommand, IsOutcomeOf, IsNamed, IsNoCommand};
-ghost use Rattle.commands.specs.Endings.{status_of, Explained, Prints, IsUnwritten, IsOutOfMemory, IsDeviceStatus};
-ghost use Rattle.commands.specs.Faults.{of_none, fault_of};
-ghost use Rattle.commands.specs.Stages.{OfTold, IsUnread, IsCounted};
+ghost use Rattle.commands.specs.Commands.{FirstRefusal, HadToTell, IsOfCommand, IsOutcomeOf, IsNamed, IsNoCommand};
+ghost use Rattle.commands.specs.Endings.{status_of, Explained, Prints, IsOutOfMemory, IsDeviceStatus};
+ghost use Rattle.commands.specs.Faults.{of_none};
+ghost use Rattle.commands.specs.Planning.{IsAnswer};
+ghost use Rattle.commands.specs.Stages.{OfTold, IsUnread};
 ghost use Rattle.commands.specs.Text.{text_of};
 
+use crate::faults::of_none;
 use crate::finish::{Planned, finish};
 use crate::generated::generate;
-use crate::outcome::{Fault, Outcome, Reason, Report};
+use crate::outcome::{Fault, Outcome, Report};
+use crate::reason::Reason;
 use crate::report::report;
 use crate::show::show;
-use crate::telling::of_none;
 use crate::wave::wave;
 use command_line::{Command, WordsFault, read_words};
 use psl_base::{Shelf, Sink};
@@ -53,8 +55,9 @@ pub fn run<F: Shelf, O: Sink, E: Sink>(
     ensures found { result.fault ≡ None → result.outcome ≢ Outcome.Nothing }
     ensures nothing { IfSome result.fault (λ fault. (fault.reason ≡ Reason.WriteFault) ⊎ (result.outcome ≡ Outcome.Nothing)) }
 
-    // What is printed is the outcome's text whole, or the fault's line, or their first bytes.
-    ensures printed { Prints result.outcome result.fault (O.state out.old) (O.state out.new) (E.state err.old) (E.state err.new) }
+    // What is printed is the outcome's text whole, or the fault's line, or their first bytes, or those of the line of a
+    // fault that was to be told.
+    ensures printed { Prints (HadToTell (map string_bytes words.now) (F.state files.old) (F.state files.new)) result.outcome result.fault (O.state out.old) (O.state out.new) (E.state err.old) (E.state err.new) }
 
     // A count that is larger after the run than before it comes with the status of such a fault.
     ensures counted { ((F.state files.old).read_faults < (F.state files.new).read_faults) ⊎ (((O.state out.old).faults < (O.state out.new).faults) ⊎ ((E.state err.old).faults < (E.state err.new).faults))
@@ -75,48 +78,23 @@ pub fn run<F: Shelf, O: Sink, E: Sink>(
 
 /// What the command finds out, with its text. Nothing is written.
 fn plan<F: Shelf>(alloc: Global, words: &[String], files: &mut F) -> Result<Planned, Fault>
-    ensures explained { Explained ⊥ (F.state files.old) (F.state files.new) (FirstRefusal (map string_bytes words.now)) (fault_of result) }
-    ensures no_command { IsNoCommand (map string_bytes words.now) → IsErrOf result (of_none Reason.Usage) ⊎ IsErrOf result (of_none Reason.NoMemory) }
-    ensures named { IfErr result (λ fault. IsNamed (map string_bytes words.now) fault) }
-    ensures unread { IfErr result (λ fault. IsUnread (F.state files.new) fault) }
-    ensures unwritten { IfErr result (λ fault. IsUnwritten fault) }
-    ensures command { IfOk result (λ made. IsOfCommand (map string_bytes words.now) made.outcome) }
-    ensures outcome { IfOk result (λ made. OfTold (F.state files.old) (λ told. IsOutcomeOf (map string_bytes words.now) told made.outcome)) }
-    ensures found { IfOk result (λ made. made.outcome ≢ Outcome.Nothing) }
-    ensures quiet { IfOk result (λ _. (F.state files.new).read_faults ≡ (F.state files.old).read_faults) }
-    ensures counted { IfErr result (λ fault. IsCounted (F.state files.old) (F.state files.new) fault) }
+    ensures answer { IsAnswer (λ (made : Planned). made.outcome) (map string_bytes words.now) (F.state files.old) (F.state files.new) result }
     ensures text { IfOk result (λ made. made.text ≡ text_of made.outcome) }
-    ensures kept { OnlyReads (F.state files.old) (F.state files.new) }
 {
-    match command(alloc, words, files) {
-        Ok(outcome) => made(alloc, outcome),
-        Err(fault) => Err(fault),
-    }
+    let outcome = command(alloc, words, files)?;
+    made(alloc, outcome)
 }
 
 /// The outcome of the command.
 fn command<F: Shelf>(alloc: Global, words: &[String], files: &mut F) -> Result<Outcome, Fault>
-    ensures explained { Explained ⊥ (F.state files.old) (F.state files.new) (FirstRefusal (map string_bytes words.now)) (fault_of result) }
-    ensures no_command { IsNoCommand (map string_bytes words.now) → IsErrOf result (of_none Reason.Usage) ⊎ IsErrOf result (of_none Reason.NoMemory) }
-    ensures named { IfErr result (λ fault. IsNamed (map string_bytes words.now) fault) }
-    ensures unread { IfErr result (λ fault. IsUnread (F.state files.new) fault) }
-    ensures command { IfOk result (λ outcome. IsOfCommand (map string_bytes words.now) outcome) }
-    ensures outcome { IfOk result (λ outcome. OfTold (F.state files.old) (λ told. IsOutcomeOf (map string_bytes words.now) told outcome)) }
-    ensures found { IfOk result (λ outcome. outcome ≢ Outcome.Nothing) }
-    ensures quiet { IfOk result (λ _. (F.state files.new).read_faults ≡ (F.state files.old).read_faults) }
-    ensures counted { IfErr result (λ fault. IsCounted (F.state files.old) (F.state files.new) fault) }
-    ensures kept { OnlyReads (F.state files.old) (F.state files.new) }
+    ensures { IsAnswer (λ (outcome : Outcome). outcome) (map string_bytes words.now) (F.state files.old) (F.state files.new) result }
 {
     match read_words(alloc, words, SAMPLE_LIMIT) {
-        Ok(Command::Wave { unit, recording }) => match wave(alloc, files, unit, recording) {
-            Ok(verdicts) => Ok(Outcome::Wave(verdicts)),
-            Err(fault) => Err(fault),
-        },
+        Ok(Command::Wave { unit, recording }) => {
+            Ok(Outcome::Wave(wave(alloc, files, unit, recording)?))
+        }
+        Ok(Command::Show { unit, names }) => Ok(Outcome::Shown(show(alloc, files, unit, names)?)),
         Ok(Command::Gen { seed, samples }) => generate(alloc, seed, samples),
-        Ok(Command::Show { unit, names }) => match show(alloc, files, unit, names) {
-            Ok(lines) => Ok(Outcome::Shown(lines)),
-            Err(fault) => Err(fault),
-        },
         Err(WordsFault::Usage) => Err(of_none(Reason::Usage)),
         Err(WordsFault::NoMemory) => Err(of_none(Reason::NoMemory)),
     }

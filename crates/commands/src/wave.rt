@@ -1,17 +1,15 @@
-ghost use Rattle.std.specs.Prelude.{◌≡◌, ◌≤◌, ◌⊎◌, All, Ok, Err, IfOk, IfErr};
-ghost use Rattle.psl_base.specs.Shelf.{OnlyReads};
+ghost use Rattle.std.specs.Prelude.{◌≤◌, ◌∷◌, [], All};
 ghost use Rattle.psl_tree.specs.Atoms.{AtomsOfFormula};
 ghost use Rattle.psl_tree.specs.Counts.{formula_size};
 ghost use Rattle.psl_tree.specs.Names.{AtomInRange};
 ghost use Rattle.psl_tree.specs.Trees.{formula_of};
-ghost use Rattle.commands.specs.Stages.{Gives, Refuses, IsOfFile, IsOfFileOrMemory, IsUnread, IsCounted, TextFails};
+ghost use Rattle.commands.specs.Stages.{IsStage, IsReading};
 ghost use Rattle.commands.specs.Waves.{JudgeReading, VerdictsReading, WaveStage};
 
-use crate::causes::{judge_place, judge_reason};
 use crate::directives::directives;
+use crate::faults::{fault_in, judge_diagnostic};
 use crate::inputs::{Inputs, load_inputs};
 use crate::outcome::Fault;
-use crate::telling::told;
 use psl_base::Shelf;
 use psl_tree::Unit;
 use std::alloc::Global;
@@ -25,30 +23,17 @@ pub fn wave<F: Shelf>(
     unit: &str,
     recording: &str,
 ) -> Result<Verdicts, Fault>
-    ensures gives { IfOk result (λ verdicts. Gives (F.state files.old) (WaveStage unit.now recording.now) verdicts) }
-    ensures refuses { IfErr result (λ fault. Refuses (F.state files.old) (F.state files.new) (WaveStage unit.now recording.now) fault) }
-    ensures named { IfErr result (λ fault. IsOfFileOrMemory unit.now fault ⊎ IsOfFile recording.now fault) }
-    ensures unread { IfErr result (λ fault. IsUnread (F.state files.new) fault) }
-    ensures quiet { IfOk result (λ _. (F.state files.new).read_faults ≡ (F.state files.old).read_faults) }
-    ensures counted { IfErr result (λ fault. IsCounted (F.state files.old) (F.state files.new) fault) }
-    ensures kept { OnlyReads (F.state files.old) (F.state files.new) }
+    ensures { IsStage (unit.now ∷ recording.now ∷ []) (WaveStage unit.now recording.now) (F.state files.old) (F.state files.new) result }
 {
-    let inputs = match load_inputs(alloc, files, unit, recording) {
-        Ok(inputs) => inputs,
-        Err(fault) => return Err(fault),
-    };
+    let inputs = load_inputs(alloc, files, unit, recording)?;
     verdicts(alloc, &inputs, unit)
 }
 
 /// The verdicts of a text on a recording.
 fn verdicts(alloc: Global, inputs: &Inputs, unit: &str) -> Result<Verdicts, Fault>
-    ensures gives { IfOk result (λ verdicts. VerdictsReading unit.now inputs.now (Ok verdicts)) }
-    ensures refuses { IfErr result (λ fault. TextFails unit.now (λ fault. VerdictsReading unit.now inputs.now (Err fault)) fault) }
+    ensures { IsReading unit.now (VerdictsReading unit.now inputs.now) result }
 {
-    let directives = match directives(alloc, inputs, unit) {
-        Ok(directives) => directives,
-        Err(fault) => return Err(fault),
-    };
+    let directives = directives(alloc, &inputs.tree, inputs.recording.names(), unit)?;
     judged(alloc, &directives, &inputs.recording, unit)
 }
 
@@ -61,14 +46,10 @@ fn judged(
 ) -> Result<Verdicts, Fault>
     requires in_range { All (λ directive. AtomsOfFormula (AtomInRange recording.now.names) (formula_of directive.formula)) directives.now }
     requires small { All (λ directive. formula_size (formula_of directive.formula) ≤ 4096) directives.now }
-    ensures gives { IfOk result (λ verdicts. JudgeReading unit.now recording.now directives.now (Ok verdicts)) }
-    ensures refuses { IfErr result (λ fault. TextFails unit.now (λ fault. JudgeReading unit.now recording.now directives.now (Err fault)) fault) }
+    ensures { IsReading unit.now (JudgeReading unit.now recording.now directives.now) result }
 {
     match judge(alloc, directives, recording) {
         Ok(verdicts) => Ok(verdicts),
-        Err(fault) => {
-            let place = judge_place(directives, fault);
-            Err(told(alloc, unit, judge_reason(fault), place))
-        }
+        Err(fault) => Err(fault_in(alloc, unit, judge_diagnostic(directives, fault))),
     }
 }

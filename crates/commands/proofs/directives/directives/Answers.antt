@@ -1,10 +1,10 @@
 use Rattle.psl_elaboration.specs.Answers.{IsUnit, IsLayerFault}
 use Rattle.commands.proofs.Reasons.{layer-text}
-use Rattle.commands.proofs.Staging.{told-fails, told-cause}
+use Rattle.commands.proofs.Staging.{told-fails}
 use Rattle.commands.proofs.directives.directives.Goals as goal
-use Rattle.commands.specs.Causes.{layer_reason, layer_place}
+use Rattle.commands.specs.Diagnostics.{layer_diagnostic}
 
-pub returns-in-Err-clause-refuses : goal.returns-in-Err-clause-refuses
-returns-in-Err-clause-refuses c =
-    told-fails c.args.unit.now layer_reason layer_place (IsUnit c.args.inputs.now.tree c.args.inputs.now.recording.names) (IsLayerFault c.args.inputs.now.tree c.args.inputs.now.recording.names) c.in-Err.fault c.told.result (rw c.names.ensures.names at c.in-Err.ensures.fault) (layer-text c.in-Err.fault)
-    (told-cause c.args.unit.now layer_reason layer_place c.in-Err.fault c.told.result c.layer_reason.result c.layer_place.result c.layer_reason.ensures c.layer_place.ensures c.told.ensures)
+pub returns-in-Err-clause-reading : goal.returns-in-Err-clause-reading
+returns-in-Err-clause-reading c =
+    told-fails c.args.unit.now layer_diagnostic (IsUnit c.args.tree.now c.args.names.now) (IsLayerFault c.args.tree.now c.args.names.now) c.in-Err.fault c.fault_in.result
+    c.layer_diagnostic.result c.in-Err.ensures.fault (layer-text c.in-Err.fault) c.layer_diagnostic.ensures c.fault_in.ensures

@@ -1,25 +1,18 @@
-use Rattle.std.proofs.Common.{Err}
-use Rattle.commands.proofs.Staging.{first-refuses, texts-unread}
-use Rattle.commands.proofs.Waving.{reading-given, reading-refused}
+use Rattle.std.proofs.Common.{[], ◌∷◌}
+use Rattle.std.proofs.lemmas.Result.{err_from_is_err_and}
+use Rattle.commands.proofs.Composing.{stage-first, stage-reading}
 use Rattle.commands.proofs.show.show.Goals as goal
 use Rattle.commands.specs.Waves.{InputsStage, LinesReading}
 
-pub returns-in-Err-clause-refuses : goal.returns-in-Err-clause-refuses
-returns-in-Err-clause-refuses g c =
-    first-refuses (InputsStage c.args.unit.now c.args.names.now) (λ inputs files. LinesReading c.args.unit.now inputs)
-    (g.F.Shelf.state c.args.files.now) (g.F.Shelf.state c.load_inputs.new.files) c.in-Err.fault c.in-Err.ensures.refuses
+pub returns-in_err-inputs : goal.returns-in_err-inputs
+returns-in_err-inputs g c =
+    let p = err_from_is_err_and c.from_residual.result c.from_residual.ensures.1 in
+    rw (p.1, p.2) (stage-first (c.args.unit.now ∷ c.args.names.now ∷ []) [] (InputsStage c.args.unit.now c.args.names.now)
+    (λ inputs files. LinesReading c.args.unit.now inputs.tree inputs.recording.names)
+    (g.F.Shelf.state c.args.files.now) (g.F.Shelf.state c.load_inputs.new.files) _ c.in_err-inputs.ensures)
 
-pub returns-clause-gives : goal.returns-clause-gives
-returns-clause-gives g c =
-    reading-given c.args.unit.now c.args.names.now (LinesReading c.args.unit.now) (g.F.Shelf.state c.args.files.now) (g.F.Shelf.state c.load_inputs.new.files)
-    c.in-Ok.inputs c.in-Ok.ensures.gives c.load_inputs.ensures.kept c.lines.result c.lines.ensures.gives
-
-pub returns-clause-unread : goal.returns-clause-unread
-returns-clause-unread g c =
-    texts-unread c.args.unit.now (λ fault. LinesReading c.args.unit.now c.in-Ok.inputs (Err fault)) (g.F.Shelf.state c.load_inputs.new.files)
-    c.lines.result c.lines.ensures.refuses
-
-pub returns-clause-refuses : goal.returns-clause-refuses
-returns-clause-refuses g c =
-    reading-refused c.args.unit.now c.args.names.now (LinesReading c.args.unit.now) (g.F.Shelf.state c.args.files.now) (g.F.Shelf.state c.load_inputs.new.files)
-    c.in-Ok.inputs c.in-Ok.ensures.gives c.load_inputs.ensures.kept c.lines.result c.lines.ensures.refuses
+pub returns : goal.returns
+returns g c =
+    stage-reading c.args.unit.now (c.args.names.now ∷ []) (InputsStage c.args.unit.now c.args.names.now) (λ inputs. LinesReading c.args.unit.now inputs.tree inputs.recording.names)
+    (g.F.Shelf.state c.args.files.now) (g.F.Shelf.state c.load_inputs.new.files) c.in_ok-inputs.inputs c.lines.result c.in_ok-inputs.ensures
+    (rw c.names.ensures.names at c.lines.ensures)

@@ -1,12 +1,15 @@
-use Rattle.commands.proofs.Staging.{first-fails, result-fails, result-gives}
+use Rattle.std.proofs.lemmas.Result.{err_from_is_err_and}
+use Rattle.commands.proofs.Staging.{reading-first, reading-then}
 use Rattle.commands.proofs.wave.verdicts.Goals as goal
 use Rattle.commands.specs.Waves.{DirectivesReading, JudgeReading}
 
-pub returns-in-Err-clause-refuses : goal.returns-in-Err-clause-refuses
-returns-in-Err-clause-refuses c = first-fails (DirectivesReading c.args.unit.now c.args.inputs.now.tree c.args.inputs.now.recording.names) (JudgeReading c.args.unit.now c.args.inputs.now.recording) c.args.unit.now c.in-Err.fault c.in-Err.ensures.refuses
+pub returns-in_err-directives : goal.returns-in_err-directives
+returns-in_err-directives c =
+    let p = err_from_is_err_and c.from_residual.result c.from_residual.ensures.1 in
+    rw (p.1, p.2) (reading-first (DirectivesReading c.args.unit.now c.args.inputs.now.tree c.args.inputs.now.recording.names) (JudgeReading c.args.unit.now c.args.inputs.now.recording)
+    c.args.unit.now _ (rw c.names.ensures.names at c.in_err-directives.ensures.reading))
 
-pub returns-clause-refuses : goal.returns-clause-refuses
-returns-clause-refuses c = result-fails (DirectivesReading c.args.unit.now c.args.inputs.now.tree c.args.inputs.now.recording.names) (JudgeReading c.args.unit.now c.args.inputs.now.recording) c.args.unit.now c.in-Ok.directives c.judged.result c.in-Ok.ensures.gives c.judged.ensures.refuses
-
-pub returns-clause-gives : goal.returns-clause-gives
-returns-clause-gives c = result-gives (DirectivesReading c.args.unit.now c.args.inputs.now.tree c.args.inputs.now.recording.names) (JudgeReading c.args.unit.now c.args.inputs.now.recording) c.in-Ok.directives c.judged.result c.in-Ok.ensures.gives c.judged.ensures.gives
+pub returns : goal.returns
+returns c =
+    reading-then (DirectivesReading c.args.unit.now c.args.inputs.now.tree c.args.inputs.now.recording.names) (JudgeReading c.args.unit.now c.args.inputs.now.recording)
+    c.args.unit.now c.in_ok-directives.directives c.judged.result (rw c.names.ensures.names at c.in_ok-directives.ensures.reading) c.judged.ensures

@@ -1,0 +1,157 @@
+-- Stages one after the other are one stage.
+use Rattle.std.proofs.Common.{◌≡◌, refl, ◌∙◌, ℕ, ◌≤◌, List, [], ◌∷◌, ◌++◌, length, Ok, Err, arith, inl, inr}
+use Rattle.std.specs.Prelude.{Result}
+use Rattle.psl_base.specs.Places.{file_limit}
+use Rattle.psl_base.specs.Shelf.{Contents, ShelfState, OnlyReads, IsContent}
+use Rattle.commands.proofs.Staging.{then-gives, first-refuses, next-refuses, of-content, loading-refuses, loading-named, loading-unread, read-refuses, text-stage-refuses, text-named, text-unread, no-words}
+use Rattle.commands.specs.Stages.{Then, OfFile, IsOfFiles, IsOfFilesOrMemory, IsCounted, IsReading, IsStage, LoadFails, TextFails}
+use Rattle.commands.specs.declared.outcome.Fault.{Fault}
+
+pub reads-then : (old mid new : ShelfState) → OnlyReads old mid → OnlyReads mid new → OnlyReads old new
+reads-then old mid new first next = record {
+  told = next.told ∙ first.told;
+  created = next.created ∙ first.created;
+  write_faults = next.write_faults ∙ first.write_faults;
+  read_faults = omega arith;
+}
+
+-- the files of both
+
+of-more : (names more : List (List ℕ)) (fault : Fault) → IsOfFiles names fault → IsOfFiles (names ++ more) fault
+of-more [] more fault h = absurd h
+of-more (name ∷ names) more fault (inl t) = inl t
+of-more (name ∷ names) more fault (inr h) = inr (of-more names more fault h)
+
+of-later : (names more : List (List ℕ)) (fault : Fault) → IsOfFiles more fault → IsOfFiles (names ++ more) fault
+of-later [] more fault h = h
+of-later (name ∷ names) more fault h = inr (of-later names more fault h)
+
+pub or-more : (names more : List (List ℕ)) (fault : Fault) → IsOfFilesOrMemory names fault → IsOfFilesOrMemory (names ++ more) fault
+or-more names more fault (inl e) = inl e
+or-more names more fault (inr h) = inr (of-more names more fault h)
+
+or-later : (names more : List (List ℕ)) (fault : Fault) → IsOfFilesOrMemory more fault → IsOfFilesOrMemory (names ++ more) fault
+or-later names more fault (inl e) = inl e
+or-later names more fault (inr h) = inr (of-later names more fault h)
+
+counted-later : (old mid new : ShelfState) (fault : Fault) → mid.read_faults ≡ old.read_faults → IsCounted mid new fault → IsCounted old new fault
+counted-later old mid new fault quiet (inl still) = inl (still ∙ quiet)
+counted-later old mid new fault quiet (inr told) = inr told
+
+-- a stage behind a stage
+
+module _ {A B : Type 0} (names more : List (List ℕ)) (First : Contents → Result A Fault → Type 0) (Next : A → Contents → Result B Fault → Type 0) where
+  pub stage-first : (old new : ShelfState) (fault : Fault) → IsStage names First old new (Err fault) → IsStage (names ++ more) (Then First Next) old new (Err fault)
+  stage-first old new fault s = record {
+    gives = tt;
+    refuses = first-refuses First Next old new fault s.refuses;
+    named = or-more names more fault s.named;
+    unread = s.unread;
+    quiet = tt;
+    counted = s.counted;
+    kept = s.kept;
+  }
+
+  pub stage-then : (old mid new : ShelfState) (a : A) (result : Result B Fault) → IsStage names First old mid (Ok a) → IsStage more (Next a) mid new result
+      → IsStage (names ++ more) (Then First Next) old new result
+  stage-then old mid new a (Ok b) s t = record {
+    gives = then-gives First Next old mid a b s.gives s.kept t.gives;
+    refuses = tt;
+    named = tt;
+    unread = tt;
+    quiet = t.quiet ∙ s.quiet;
+    counted = tt;
+    kept = reads-then old mid new s.kept t.kept;
+  }
+  stage-then old mid new a (Err fault) s t = record {
+    gives = tt;
+    refuses = next-refuses First Next old mid new a fault s.gives s.kept (no-words more fault t.named) t.refuses;
+    named = or-later names more fault t.named;
+    unread = t.unread;
+    quiet = tt;
+    counted = counted-later old mid new fault s.quiet t.counted;
+    kept = reads-then old mid new s.kept t.kept;
+  }
+
+-- the value of a stage is made into another
+pub stage-value : {A B : Type 0} (names : List (List ℕ)) (First : Contents → Result A Fault → Type 0) (value : A → B) (old new : ShelfState) (a : A)
+    → IsStage names First old new (Ok a) → IsStage names (Then First (λ a files result. result ≡ Ok (value a))) old new (Ok (value a))
+stage-value names First value old new a s = record {
+  gives = then-gives First (λ a files result. result ≡ Ok (value a)) old new a (value a) s.gives s.kept (λ files told. refl);
+  refuses = tt;
+  named = tt;
+  unread = tt;
+  quiet = s.quiet;
+  counted = tt;
+  kept = s.kept;
+}
+
+-- a reading behind a stage, of its first file
+
+module _ {A B : Type 0} (name : List ℕ) (names : List (List ℕ)) (First : Contents → Result A Fault → Type 0) (Reading : A → Result B Fault → Type 0) where
+  abbrev Whole : Contents → Result B Fault → Type 0
+  Whole = Then First (λ a files. Reading a)
+
+  for-all : (a : A) (fault : Fault) → TextFails name (λ f. Reading a (Err f)) fault → TextFails name (λ f. (files : Contents) → Reading a (Err f)) fault
+  for-all a fault (inl e) = inl e
+  for-all a fault (inr t) = inr record { cause = t.cause; file = t.file; refusal = λ files. t.refusal }
+
+  pub stage-reading : (old new : ShelfState) (a : A) (result : Result B Fault) → IsStage (name ∷ names) First old new (Ok a) → IsReading name (Reading a) result
+      → IsStage (name ∷ names) (Then First (λ a files. Reading a)) old new result
+  stage-reading old new a (Ok b) s r = record {
+    gives = then-gives First (λ a files. Reading a) old new a b s.gives s.kept (λ files told. r.gives);
+    refuses = tt;
+    named = tt;
+    unread = tt;
+    quiet = s.quiet;
+    counted = tt;
+    kept = s.kept;
+  }
+  stage-reading old new a (Err fault) s r =
+      let named : IsOfFilesOrMemory (name ∷ []) fault = text-named name (λ f. Reading a (Err f)) fault r.refuses in
+      record {
+        gives = tt;
+        refuses = next-refuses First (λ a files. Reading a) old new new a fault s.gives s.kept (no-words (name ∷ []) fault named)
+            (text-stage-refuses (λ files. Reading a) name new new fault (for-all a fault r.refuses));
+        named = or-more (name ∷ []) names fault named;
+        unread = text-unread name (λ f. Reading a (Err f)) new fault r.refuses;
+        quiet = tt;
+        counted = inl s.quiet;
+        kept = s.kept;
+      }
+
+-- a file that is loaded and read
+
+module _ {A : Type 0} (Reading : List ℕ → Result A Fault → Type 0) (name : List ℕ) (old new : ShelfState) where
+  pub stage-unloaded : (fault : Fault) → LoadFails name old new fault → IsCounted old new fault → OnlyReads old new
+      → IsStage (name ∷ []) (OfFile Reading name) old new (Err fault)
+  stage-unloaded fault fails counted kept = record {
+    gives = tt;
+    refuses = loading-refuses Reading name old new fault fails;
+    named = loading-named name old new fault fails;
+    unread = loading-unread name old new fault fails;
+    quiet = tt;
+    counted = counted;
+    kept = kept;
+  }
+
+  pub stage-loaded : (bytes : List ℕ) (result : Result A Fault) → IsContent old name bytes → length bytes ≤ file_limit → new.read_faults ≡ old.read_faults → OnlyReads old new
+      → IsReading name (Reading bytes) result → IsStage (name ∷ []) (OfFile Reading name) old new result
+  stage-loaded bytes (Ok a) is le quiet kept r = record {
+    gives = λ files told. of-content Reading name files bytes (Ok a) (is files told) le r.gives;
+    refuses = tt;
+    named = tt;
+    unread = tt;
+    quiet = quiet;
+    counted = tt;
+    kept = kept;
+  }
+  stage-loaded bytes (Err fault) is le quiet kept r = record {
+    gives = tt;
+    refuses = read-refuses Reading name old new bytes fault is le r.refuses;
+    named = text-named name (λ f. Reading bytes (Err f)) fault r.refuses;
+    unread = text-unread name (λ f. Reading bytes (Err f)) new fault r.refuses;
+    quiet = tt;
+    counted = inl quiet;
+    kept = kept;
+  }

@@ -1,0 +1,90 @@
+-- What is said of the faults of texts, recordings and directives: the reason, and the place in the file.
+use Rattle.std.specs.Prelude.{ℕ, ◌==◌, List, length, slice_get, Option, None, Some}
+use Rattle.std.specs.List.{find}
+use Rattle.std.specs.Option.{option_map}
+use Rattle.psl_base.specs.Places.{place_at}
+use Rattle.psl_base.specs.declared.place.Place.{Place}
+use Rattle.psl_elaboration.specs.declared.fault.LayerFault.{LayerFault}
+use Rattle.psl_elaboration.specs.declared.fault.LayerFault.TheVariants as layer
+use Rattle.psl_lexer.specs.declared.fault.LexFault.{LexFault}
+use Rattle.psl_lexer.specs.declared.fault.LexFault.TheVariants as lex
+use Rattle.psl_lexer.specs.declared.token.Token.{Token}
+use Rattle.psl_parser.specs.declared.fault.ParseFault.{ParseFault}
+use Rattle.psl_parser.specs.declared.fault.ParseFault.TheVariants as parse
+use Rattle.psl_tree.specs.declared.directive.Directive.{Directive}
+use Rattle.commands.specs.Faults.{at, whole}
+use Rattle.commands.specs.declared.reason.Diagnostic.{Diagnostic}
+use Rattle.commands.specs.declared.reason.Reason.TheVariants as reasons
+use Rattle.vcd_reader.specs.declared.fault.VcdFault.{VcdFault}
+use Rattle.vcd_reader.specs.declared.fault.VcdFault.TheVariants as vcd
+use Rattle.wave_judge.specs.declared.fault.JudgeFault.{JudgeFault}
+use Rattle.wave_judge.specs.declared.fault.JudgeFault.TheVariants as judge
+
+-- the bytes of a text
+
+abbrev pub lex_diagnostic : LexFault → Diagnostic
+lex_diagnostic (lex.BadByte place) = at reasons.BadByte place
+lex_diagnostic (lex.Unended place) = at reasons.Unended place
+lex_diagnostic (lex.NumberTooLarge place) = at reasons.NumberTooLarge place
+lex_diagnostic lex.NoMemory = whole reasons.NoMemory
+
+-- the tokens of a text
+
+-- the place of a token, or a place behind all tokens
+abbrev pub place_or : Option Token → Place → Place
+place_or None behind = behind
+place_or (Some token) behind = token.place
+
+-- the place of a token by its index; where there is none, the end of the text
+abbrev pub token_place : List ℕ → List Token → ℕ → Place
+token_place content tokens index = place_or (slice_get tokens index) (place_at content (length content))
+
+abbrev pub parse_diagnostic : List ℕ → List Token → ParseFault → Diagnostic
+parse_diagnostic content tokens (parse.Syntax token) = at reasons.Syntax (token_place content tokens token)
+parse_diagnostic content tokens (parse.NestedTooDeep token) = at reasons.NestedTooDeep (token_place content tokens token)
+parse_diagnostic content tokens (parse.StatementTooLong token) = at reasons.StatementTooLong (token_place content tokens token)
+parse_diagnostic content tokens parse.NoMemory = whole reasons.NoMemory
+
+-- kinds and names
+
+abbrev pub layer_diagnostic : LayerFault → Diagnostic
+layer_diagnostic (layer.Kind place) = at reasons.Kind place
+layer_diagnostic (layer.UnknownName place) = at reasons.UnknownName place
+layer_diagnostic (layer.Ambiguous place) = at reasons.Ambiguous place
+layer_diagnostic (layer.DeclaredTwice place) = at reasons.DeclaredTwice place
+layer_diagnostic (layer.EmptyRange place) = at reasons.EmptyRange place
+layer_diagnostic (layer.ConstantTooWide place) = at reasons.ConstantTooWide place
+layer_diagnostic (layer.TooLarge place) = at reasons.TooLarge place
+layer_diagnostic layer.NoMemory = whole reasons.NoMemory
+
+-- directives
+
+-- the place of a directive by its number
+abbrev pub directive_place : List Directive → ℕ → Option Place
+directive_place directives number = option_map (λ (directive : Directive). directive.place) (find (λ (directive : Directive). directive.number == number) directives)
+
+abbrev pub judge_diagnostic : List Directive → JudgeFault → Diagnostic
+judge_diagnostic directives (judge.Sere number) = record { reason = reasons.SereTooLarge; place = directive_place directives number }
+judge_diagnostic directives (judge.Automaton number) = record { reason = reasons.AutomatonTooLarge; place = directive_place directives number }
+judge_diagnostic directives judge.NoMemory = whole reasons.NoMemory
+
+-- recordings
+
+abbrev pub vcd_diagnostic : VcdFault → Diagnostic
+vcd_diagnostic (vcd.UnknownKeyword place) = at reasons.UnknownKeyword place
+vcd_diagnostic (vcd.MissingEnd place) = at reasons.MissingEnd place
+vcd_diagnostic (vcd.BadVar place) = at reasons.BadVar place
+vcd_diagnostic (vcd.CodeSizeDiffers place) = at reasons.CodeSizeDiffers place
+vcd_diagnostic (vcd.ScopeNotOpen place) = at reasons.ScopeNotOpen place
+vcd_diagnostic (vcd.BadTime place) = at reasons.BadTime place
+vcd_diagnostic (vcd.TimeFalls place) = at reasons.TimeFalls place
+vcd_diagnostic (vcd.CodeNotDeclared place) = at reasons.CodeNotDeclared place
+vcd_diagnostic (vcd.BadValue place) = at reasons.BadValue place
+vcd_diagnostic (vcd.VectorTooLong place) = at reasons.VectorTooLong place
+vcd_diagnostic (vcd.ChangeBeforeDefinitionsEnd place) = at reasons.ChangeBeforeDefinitionsEnd place
+vcd_diagnostic (vcd.EndsInside place) = at reasons.EndsInside place
+vcd_diagnostic (vcd.TooManySamples place) = at reasons.TooManySamples place
+vcd_diagnostic (vcd.TooManySignals place) = at reasons.TooManySignals place
+vcd_diagnostic vcd.TooLong = whole reasons.TooLong
+vcd_diagnostic vcd.ReadFault = whole reasons.ReadFault
+vcd_diagnostic vcd.NoMemory = whole reasons.NoMemory

@@ -1,0 +1,70 @@
+-- One row for each reason of a fault: what is printed of it, the status of a run that ends with it, and what it speaks of.
+use Rattle.std.specs.Prelude.{ℕ, List, codes}
+use Rattle.commands.specs.declared.reason.Reason.{Reason}
+use Rattle.commands.specs.declared.reason.Reason.TheVariants.{Usage, ReadFault, WriteFault, TooLong, NoMemory, BadByte, Unended, NumberTooLarge, Syntax, Kind, UnknownName, Ambiguous, DeclaredTwice, EmptyRange, ConstantTooWide, TooLarge, SereTooLarge, AutomatonTooLarge, NestedTooDeep, StatementTooLong, UnknownKeyword, MissingEnd, BadVar, CodeSizeDiffers, ScopeNotOpen, BadTime, TimeFalls, CodeNotDeclared, BadValue, VectorTooLong, ChangeBeforeDefinitionsEnd, EndsInside, TooManySamples, TooManySignals}
+
+-- what a reason speaks of
+pub data Cause : Type 0 where
+  OfWords : Cause
+  OfReading : Cause
+  OfWriting : Cause
+  OfText : Cause
+  OfMemory : Cause
+
+pub record Row : Type 0 where
+  -- what is printed: where it is of a text, its code and its name
+  pub words : List ℕ
+  -- 2 for the words, 3 for reading, 4 for writing, 5 for a fault of a text, 7 for a limit and 8 for memory
+  pub status : ℕ
+  pub cause : Cause
+
+abbrev row : List ℕ → ℕ → Cause → Row
+row words status cause = record { words = words; status = status; cause = cause }
+
+abbrev pub row_of : Reason → Row
+row_of Usage = row (codes "usage: pslc wave|prove|check|show|gen ARGUMENTS") 2 OfWords
+row_of ReadFault = row (codes "read fault") 3 OfReading
+row_of WriteFault = row (codes "write fault") 4 OfWriting
+row_of TooLong = row (codes "TooLong") 7 OfText
+row_of NoMemory = row (codes "no memory") 8 OfMemory
+row_of BadByte = row (codes "1 BadByte") 5 OfText
+row_of Unended = row (codes "2 Unended") 5 OfText
+row_of NumberTooLarge = row (codes "3 NumberTooLarge") 5 OfText
+row_of Syntax = row (codes "5 Syntax") 5 OfText
+row_of Kind = row (codes "6 Kind") 5 OfText
+row_of UnknownName = row (codes "7 UnknownName") 5 OfText
+row_of Ambiguous = row (codes "8 Ambiguous") 5 OfText
+row_of DeclaredTwice = row (codes "9 DeclaredTwice") 5 OfText
+row_of EmptyRange = row (codes "10 EmptyRange") 5 OfText
+row_of ConstantTooWide = row (codes "11 ConstantTooWide") 5 OfText
+row_of TooLarge = row (codes "12 TooLarge") 7 OfText
+row_of SereTooLarge = row (codes "13 SereTooLarge") 7 OfText
+row_of AutomatonTooLarge = row (codes "14 AutomatonTooLarge") 7 OfText
+row_of NestedTooDeep = row (codes "16 NestedTooDeep") 7 OfText
+row_of StatementTooLong = row (codes "17 StatementTooLong") 7 OfText
+row_of UnknownKeyword = row (codes "V1 UnknownKeyword") 5 OfText
+row_of MissingEnd = row (codes "V2 MissingEnd") 5 OfText
+row_of BadVar = row (codes "V3 BadVar") 5 OfText
+row_of CodeSizeDiffers = row (codes "V4 CodeSizeDiffers") 5 OfText
+row_of ScopeNotOpen = row (codes "V5 ScopeNotOpen") 5 OfText
+row_of BadTime = row (codes "V6 BadTime") 5 OfText
+row_of TimeFalls = row (codes "V7 TimeFalls") 5 OfText
+row_of CodeNotDeclared = row (codes "V8 CodeNotDeclared") 5 OfText
+row_of BadValue = row (codes "V9 BadValue") 5 OfText
+row_of VectorTooLong = row (codes "V10 VectorTooLong") 5 OfText
+row_of ChangeBeforeDefinitionsEnd = row (codes "V11 ChangeBeforeDefinitionsEnd") 5 OfText
+row_of EndsInside = row (codes "V12 EndsInside") 5 OfText
+row_of TooManySamples = row (codes "V13 TooManySamples") 7 OfText
+row_of TooManySignals = row (codes "V14 TooManySignals") 7 OfText
+
+-- what is printed of a reason
+abbrev pub fault_words : Reason → List ℕ
+fault_words reason = (row_of reason).words
+
+-- the status of a run that ends with it
+abbrev pub reason_status : Reason → ℕ
+reason_status reason = (row_of reason).status
+
+-- what it speaks of
+abbrev pub cause_of : Reason → Cause
+cause_of reason = (row_of reason).cause

@@ -1,0 +1,181 @@
+// What the faults of texts, recordings and directives are called in a run, and where they stand.
+ghost use Rattle.std.specs.Prelude.{◌≡◌, ◌≢◌, ◌⊎◌, ◌≤◌, length};
+ghost use Rattle.psl_base.specs.Places.{file_limit};
+ghost use Rattle.commands.specs.Diagnostics as spec;
+ghost use Rattle.commands.specs.Faults.{at, whole, fault_in, of_none};
+
+use crate::outcome::Fault;
+use crate::reason::{Diagnostic, Reason};
+use psl_base::{Place, Text, place_of};
+use psl_elaboration::LayerFault;
+use psl_lexer::{LexFault, Tokens};
+use psl_parser::ParseFault;
+use psl_tree::Unit;
+use std::alloc::Global;
+use vcd_reader::VcdFault;
+use wave_judge::JudgeFault;
+
+/// A fault of no file.
+pub fn of_none(reason: Reason) -> Fault
+    ensures { result ≡ of_none reason }
+{
+    Fault {
+        reason,
+        file: None,
+        place: None,
+    }
+}
+
+/// The fault of a file; or want of memory, where that is the reason or where the file's name cannot be kept.
+pub fn fault_in(alloc: Global, name: &str, diagnostic: Diagnostic) -> Fault
+    ensures { (result ≡ of_none Reason.NoMemory) ⊎ ((diagnostic.reason ≢ Reason.NoMemory) × (result ≡ fault_in name.now diagnostic)) }
+{
+    if let Reason::NoMemory = diagnostic.reason {
+        return of_none(Reason::NoMemory);
+    }
+    match Text::from_slice(alloc, name.as_bytes()) {
+        Ok(file) => Fault {
+            reason: diagnostic.reason,
+            file: Some(file),
+            place: diagnostic.place,
+        },
+        Err(_) => of_none(Reason::NoMemory),
+    }
+}
+
+/// What is said at a place of a file.
+pub fn at(reason: Reason, place: Place) -> Diagnostic
+    ensures { result ≡ at reason place }
+{
+    Diagnostic {
+        reason,
+        place: Some(place),
+    }
+}
+
+/// What is said of a whole file, or of none.
+pub fn whole(reason: Reason) -> Diagnostic
+    ensures { result ≡ whole reason }
+{
+    Diagnostic {
+        reason,
+        place: None,
+    }
+}
+
+/// What is said of a fault of a text's bytes.
+pub fn lex_diagnostic(fault: LexFault) -> Diagnostic
+    ensures { result ≡ spec.lex_diagnostic fault }
+{
+    match fault {
+        LexFault::BadByte(place) => at(Reason::BadByte, place),
+        LexFault::Unended(place) => at(Reason::Unended, place),
+        LexFault::NumberTooLarge(place) => at(Reason::NumberTooLarge, place),
+        LexFault::NoMemory => whole(Reason::NoMemory),
+    }
+}
+
+/// What is said of a fault of a text's tokens.
+pub fn parse_diagnostic(text: &[u8], tokens: &Tokens, fault: ParseFault) -> Diagnostic
+    requires { length text.now ≤ file_limit }
+    ensures { result ≡ spec.parse_diagnostic text.now tokens.now fault }
+{
+    match fault {
+        ParseFault::Syntax { token } => at(Reason::Syntax, token_place(text, tokens, token)),
+        ParseFault::NestedTooDeep { token } => at(
+            Reason::NestedTooDeep,
+            token_place(text, tokens, token),
+        ),
+        ParseFault::StatementTooLong { token } => at(
+            Reason::StatementTooLong,
+            token_place(text, tokens, token),
+        ),
+        ParseFault::NoMemory => whole(Reason::NoMemory),
+    }
+}
+
+/// The place of a token, counted from 0; the end of the text where there is none.
+fn token_place(text: &[u8], tokens: &Tokens, token: u32) -> Place
+    requires { length text.now ≤ file_limit }
+    ensures { result ≡ spec.token_place text.now tokens.now token }
+{
+    match tokens.as_slice().get(token as usize) {
+        Some(token) => token.place,
+        None => place_of(text, text.len()),
+    }
+}
+
+/// What is said of a fault of kinds and names.
+pub fn layer_diagnostic(fault: LayerFault) -> Diagnostic
+    ensures { result ≡ spec.layer_diagnostic fault }
+{
+    match fault {
+        LayerFault::Kind(place) => at(Reason::Kind, place),
+        LayerFault::UnknownName(place) => at(Reason::UnknownName, place),
+        LayerFault::Ambiguous(place) => at(Reason::Ambiguous, place),
+        LayerFault::DeclaredTwice(place) => at(Reason::DeclaredTwice, place),
+        LayerFault::EmptyRange(place) => at(Reason::EmptyRange, place),
+        LayerFault::ConstantTooWide(place) => at(Reason::ConstantTooWide, place),
+        LayerFault::TooLarge(place) => at(Reason::TooLarge, place),
+        LayerFault::NoMemory => whole(Reason::NoMemory),
+    }
+}
+
+/// What is said of a fault of directives: it stands at the word of the directive.
+pub fn judge_diagnostic(directives: &Unit, fault: JudgeFault) -> Diagnostic
+    ensures { result ≡ spec.judge_diagnostic directives.now fault }
+{
+    match fault {
+        JudgeFault::Sere(number) => Diagnostic {
+            reason: Reason::SereTooLarge,
+            place: directive_place(directives, number),
+        },
+        JudgeFault::Automaton(number) => Diagnostic {
+            reason: Reason::AutomatonTooLarge,
+            place: directive_place(directives, number),
+        },
+        JudgeFault::NoMemory => whole(Reason::NoMemory),
+    }
+}
+
+/// The place of the first directive with a number.
+fn directive_place(directives: &Unit, number: u32) -> Option<Place>
+    ensures { result ≡ spec.directive_place directives.now number }
+{
+    let numbered = directives
+        .as_slice()
+        .iter()
+        .find(|directive| directive.number == number);
+    match numbered {
+        Some(directive) => Some(directive.place),
+        None => None,
+    }
+}
+
+/// What is said of a fault of a recording.
+pub fn vcd_diagnostic(fault: VcdFault) -> Diagnostic
+    ensures { result ≡ spec.vcd_diagnostic fault }
+{
+    match fault {
+        VcdFault::UnknownKeyword(place) => at(Reason::UnknownKeyword, place),
+        VcdFault::MissingEnd(place) => at(Reason::MissingEnd, place),
+        VcdFault::BadVar(place) => at(Reason::BadVar, place),
+        VcdFault::CodeSizeDiffers(place) => at(Reason::CodeSizeDiffers, place),
+        VcdFault::ScopeNotOpen(place) => at(Reason::ScopeNotOpen, place),
+        VcdFault::BadTime(place) => at(Reason::BadTime, place),
+        VcdFault::TimeFalls(place) => at(Reason::TimeFalls, place),
+        VcdFault::CodeNotDeclared(place) => at(Reason::CodeNotDeclared, place),
+        VcdFault::BadValue(place) => at(Reason::BadValue, place),
+        VcdFault::VectorTooLong(place) => at(Reason::VectorTooLong, place),
+        VcdFault::ChangeBeforeDefinitionsEnd(place) => at(
+            Reason::ChangeBeforeDefinitionsEnd,
+            place,
+        ),
+        VcdFault::EndsInside(place) => at(Reason::EndsInside, place),
+        VcdFault::TooManySamples(place) => at(Reason::TooManySamples, place),
+        VcdFault::TooManySignals(place) => at(Reason::TooManySignals, place),
+        VcdFault::TooLong => whole(Reason::TooLong),
+        VcdFault::ReadFault => whole(Reason::ReadFault),
+        VcdFault::NoMemory => whole(Reason::NoMemory),
+    }
+}
