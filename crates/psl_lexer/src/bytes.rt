@@ -7,7 +7,7 @@ ghost use Rattle.psl_lexer.specs.Bytes as spec;
 pub fn is_white(byte: u8) -> bool
     ensures { result ≡ spec.is_white byte }
 {
-    (9 <= byte && byte <= 13) || byte == b' '
+    matches!(byte, b'\t'..=b'\r' | b' ')
 }
 
 /// Whether a name may begin with a byte.
@@ -40,16 +40,12 @@ pub fn base_of(letter: u8) -> Option<u8>
     ensures base { result ≡ spec.base_of letter }
     ensures large { IfSome result (λ base. 2 ≤ base) }
 {
-    if letter == b'b' || letter == b'B' {
-        Some(2)
-    } else if letter == b'o' || letter == b'O' {
-        Some(8)
-    } else if letter == b'd' || letter == b'D' {
-        Some(10)
-    } else if letter == b'h' || letter == b'H' {
-        Some(16)
-    } else {
-        None
+    match letter {
+        b'b' | b'B' => Some(2),
+        b'o' | b'O' => Some(8),
+        b'd' | b'D' => Some(10),
+        b'h' | b'H' => Some(16),
+        _ => None,
     }
 }
 
@@ -58,14 +54,11 @@ pub fn base_of(letter: u8) -> Option<u8>
 pub fn digit_of(byte: u8) -> u8
     ensures { result ≡ spec.digit_of byte }
 {
-    if b'0' <= byte && byte <= b'9' {
-        byte - b'0'
-    } else if b'A' <= byte && byte <= b'F' {
-        byte - 55
-    } else if b'a' <= byte && byte <= b'f' {
-        byte - 87
-    } else {
-        16
+    match byte {
+        b'0'..=b'9' => byte - b'0',
+        b'A'..=b'F' => byte - b'A' + 10,
+        b'a'..=b'f' => byte - b'a' + 10,
+        _ => 16,
     }
 }
 

@@ -11,7 +11,8 @@ use crate::values::{is_past_size, value_of};
 #[tactic(auto, unfolding(crate::specs::Values::is_past_size))]
 fn is_too_large(base: u8, size: &[u8], digits: &[u8]) -> bool
     requires { 1 ≤ base }
-    ensures { result ≡ spec_values.is_past_size (spec_values.value_of 10 size.now) (spec_values.value_of base digits.now) }
+    ensures { result ≡
+        spec_values.is_past_size (spec_values.value_of 10 size.now) (spec_values.value_of base digits.now) }
 {
     let Some(size) = value_of(10, size) else {
         return true;

@@ -3,13 +3,14 @@ use Rattle.psl_base.specs.Places.{place_at}
 use Rattle.psl_lexer.specs.Lexed.{IsReadTo}
 use Rattle.psl_lexer.proofs.lexing.lex.Given as goal
 
-abbrev pub invariant-loop-at : goal.invariant-loop-at
-invariant-loop-at l = record {
-  within : l.at ≤ length l.text;
-  place : l.place ≡ place_at l.text l.at;
-  is_read : IsReadTo l.text l.tokens l.at;
-  few : length l.tokens ≤ l.at;
+abbrev pub invariant-loop-position : goal.invariant-loop-position
+invariant-loop-position l = record {
+  same : l.position.text.now ≡ l.text;
+  within : l.position.at ≤ length l.text;
+  place : l.position.place ≡ place_at l.text l.position.at;
+  is_read : IsReadTo l.text l.tokens l.position.at;
+  few : length l.tokens ≤ l.position.at;
 }
 
-abbrev pub decreases-loop-at : goal.decreases-loop-at
-decreases-loop-at l = length l.text - l.at
+abbrev pub decreases-loop-position : goal.decreases-loop-position
+decreases-loop-position l = length l.text - l.position.at
