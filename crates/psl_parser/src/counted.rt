@@ -53,7 +53,8 @@ impl Parser<'_> {
     #[cycle(parser)]
     fn next_times(&mut self, alloc: Global) -> Result<Piece, Fault>
         ensures fewer { length self.new.rest.now ≤ length self.old.rest.now }
-        ensures parsed { Parses (Gave (built grammar.Counted) parts.next_times) parts.next_times (state self.old) result (state self.new) }
+        ensures parsed { Parses (Gave (built grammar.Counted) parts.next_times) parts.next_times
+            (state self.old) result (state self.new) }
     {
         let word = self.take_any(&[TokenKind::Next, TokenKind::NextStrong])?;
         let number = self.index(alloc)?;
@@ -65,7 +66,8 @@ impl Parser<'_> {
     #[cycle(parser)]
     fn next_range(&mut self, alloc: Global) -> Result<Piece, Fault>
         ensures fewer { length self.new.rest.now ≤ length self.old.rest.now }
-        ensures parsed { Parses (Gave (built grammar.Counted) parts.next_ranged) parts.next_ranged (state self.old) result (state self.new) }
+        ensures parsed { Parses (Gave (built grammar.Counted) parts.next_ranged) parts.next_ranged
+            (state self.old) result (state self.new) }
     {
         let word = self.take_any(&NEXT_RANGE)?;
         let count = self.range(alloc)?;
@@ -77,7 +79,8 @@ impl Parser<'_> {
     #[cycle(parser)]
     fn next_event(&mut self, alloc: Global) -> Result<Piece, Fault>
         ensures fewer { length self.new.rest.now ≤ length self.old.rest.now }
-        ensures parsed { Parses (Gave (built grammar.Counted) parts.next_event) parts.next_event (state self.old) result (state self.new) }
+        ensures parsed { Parses (Gave (built grammar.Counted) parts.next_event) parts.next_event
+            (state self.old) result (state self.new) }
     {
         let word = self.take_any(&[TokenKind::NextEvent, TokenKind::NextEventStrong])?;
         let condition = self.group(alloc)?;
@@ -94,7 +97,8 @@ impl Parser<'_> {
     #[cycle(parser)]
     fn event_range(&mut self, alloc: Global) -> Result<Piece, Fault>
         ensures fewer { length self.new.rest.now ≤ length self.old.rest.now }
-        ensures parsed { Parses (Gave (built grammar.Counted) parts.event_ranged) parts.event_ranged (state self.old) result (state self.new) }
+        ensures parsed { Parses (Gave (built grammar.Counted) parts.event_ranged) parts.event_ranged
+            (state self.old) result (state self.new) }
     {
         let word = self.take_any(&EVENT_RANGE)?;
         let condition = self.group(alloc)?;

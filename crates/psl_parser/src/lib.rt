@@ -21,3 +21,4 @@ mod units;
 pub use fault::ParseFault;
 pub use laws::one_answer;
 pub use parsing::parse;
+pub use psl_grammar::UnitTree;

@@ -90,7 +90,8 @@ pub fn postfix(alloc: Global, operand: Piece, operator: &Token) -> Result<Piece,
 
 /// What stands before a repetition, and the repetition.
 pub fn repeated(alloc: Global, operand: Piece, repetition: Repetition) -> Result<Piece, Fault>
-    ensures { Makes result (Posted (node_of operand.tree.value) (Repeat repetition.opening (count_node repetition.count))) }
+    ensures { Makes result
+        (Posted (node_of operand.tree.value) (Repeat repetition.opening (count_node repetition.count))) }
 {
     let (opening, count) = repetition.into_parts();
     let operand = operand.into_tree();
@@ -153,7 +154,8 @@ pub fn next_event(
     count: Option<Count>,
     operand: Piece,
 ) -> Result<Piece, Fault>
-    ensures { Makes result (NextForm word.now (node_of condition.tree.value) (count_node count) (node_of operand.tree.value)) }
+    ensures { Makes result
+        (NextForm word.now (node_of condition.tree.value) (count_node count) (node_of operand.tree.value)) }
 {
     let word = word.copy(alloc)?;
     let condition = condition.into_tree();
@@ -241,7 +243,8 @@ pub fn directive(
     property: Piece,
     report: Option<Token>,
 ) -> Result<Statement, Fault>
-    ensures { MakesBy (λ made. statement_node made ≡ labelled_node label (Directed word.now (node_of property.tree.value) (report_node report))) result }
+    ensures { MakesBy (λ made. statement_node made ≡
+        labelled_node label (Directed word.now (node_of property.tree.value) (report_node report))) result }
 {
     let word = word.copy(alloc)?;
     let property = Box::into_inner(property.into_tree());

@@ -164,7 +164,8 @@ impl Parser<'_> {
     #[cycle(parser)]
     fn grouped(&mut self, alloc: Global) -> Result<Piece, Fault>
         ensures fewer { length self.new.rest.now ≤ length self.old.rest.now }
-        ensures parsed { Parses (Gave atom productions.grouped) productions.grouped (state self.old) result (state self.new) }
+        ensures parsed { Parses (Gave atom productions.grouped) productions.grouped
+            (state self.old) result (state self.new) }
     {
         let opening = self.take(TokenKind::ParenOpen)?;
         let inside = self.property(alloc)?;

@@ -125,7 +125,8 @@ impl<'a> Parser<'a> {
         }
     }
 
-    /// Whether `next`, `next!` or `eventually!` stands before an operand. Before `[` the first two begin a counted form.
+    /// Whether `next`, `next!` or `eventually!` stands before an operand. Before `[` the first two begin a counted
+    /// form.
     pub fn at_occurrence(&self) -> bool
         ensures { result ≡ goes_left occurs (Sym Trm) (state self.now).tokens }
     {

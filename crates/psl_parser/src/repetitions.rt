@@ -17,7 +17,8 @@ impl Parser<'_> {
     #[cycle(parser)]
     pub fn posts(&mut self, alloc: Global, operand: Piece) -> Result<Piece, Fault>
         ensures fewer { length self.new.rest.now ≤ length self.old.rest.now }
-        ensures parsed { Parses (ReadsPosts operand) (Many (Sym grammar.Post)) (state self.old) result (state self.new) }
+        ensures parsed { Parses (ReadsPosts operand) (Many (Sym grammar.Post))
+            (state self.old) result (state self.new) }
     {
         let mut operand = operand;
         while self.at_post() {
@@ -95,7 +96,8 @@ impl Parser<'_> {
     /// `[ count ]`
     fn optional_count(&mut self, alloc: Global) -> Result<Option<Count>, Fault>
         ensures fewer { length self.new.rest.now ≤ length self.old.rest.now }
-        ensures parsed { Parses ReadsOptionalCount (Maybe (Sym grammar.Count)) (state self.old) result (state self.new) }
+        ensures parsed { Parses ReadsOptionalCount (Maybe (Sym grammar.Count))
+            (state self.old) result (state self.new) }
     {
         if !self.at(TokenKind::Number) {
             return Ok(None);

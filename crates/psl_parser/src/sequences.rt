@@ -88,7 +88,8 @@ impl Parser<'_> {
     #[cycle(parser)]
     fn within_tail(&mut self, alloc: Global, operand: Piece) -> Result<Piece, Fault>
         ensures fewer { length self.new.rest.now ≤ length self.old.rest.now }
-        ensures parsed { Parses (ReadsTail grammar.Wtail operand) (Sym grammar.Wtail) (state self.old) result (state self.new) }
+        ensures parsed { Parses (ReadsTail grammar.Wtail operand) (Sym grammar.Wtail)
+            (state self.old) result (state self.new) }
     {
         let mut left = operand;
         while self.at(TokenKind::Within) {
@@ -103,7 +104,8 @@ impl Parser<'_> {
     #[cycle(parser)]
     fn and_tail(&mut self, alloc: Global, operand: Piece) -> Result<Piece, Fault>
         ensures fewer { length self.new.rest.now ≤ length self.old.rest.now }
-        ensures parsed { Parses (ReadsTail grammar.Ctail operand) (Sym grammar.Ctail) (state self.old) result (state self.new) }
+        ensures parsed { Parses (ReadsTail grammar.Ctail operand) (Sym grammar.Ctail)
+            (state self.old) result (state self.new) }
     {
         let mut left = operand;
         while self.at_any(&[TokenKind::Ampersand, TokenKind::AndAnd]) {

@@ -78,7 +78,8 @@ impl Parser<'_> {
     /// `{ statement }`
     fn statements(&mut self, alloc: Global) -> Result<Items<Statement>, Fault>
         ensures fewer { length self.new.rest.now ≤ length self.old.rest.now }
-        ensures parsed { Parses ReadsStatements (Many (Sym grammar.Statement)) (state self.old) result (state self.new) }
+        ensures parsed { Parses ReadsStatements (Many (Sym grammar.Statement))
+            (state self.old) result (state self.new) }
     {
         let mut statements = Items::new(alloc);
         while self.at_statement() {
@@ -106,7 +107,8 @@ impl Parser<'_> {
     fn directive(&mut self, alloc: Global, label: Option<Token>) -> Result<Statement, Fault>
         ensures fewer { length self.new.rest.now ≤ length self.old.rest.now }
         ensures shorter { OnOk result (length self.new.rest.now < length self.old.rest.now) }
-        ensures parsed { Parses (ReadsDirective label) (Sym grammar.Directive) (state self.old) result (state self.new) }
+        ensures parsed { Parses (ReadsDirective label) (Sym grammar.Directive)
+            (state self.old) result (state self.new) }
     {
         let word = self.take_any(&[TokenKind::Assert, TokenKind::Assume, TokenKind::Cover])?;
         let property = self.property(alloc)?;
@@ -140,8 +142,8 @@ impl Parser<'_> {
     ) -> Result<Statement, Fault>
         ensures fewer { length self.new.rest.now ≤ length self.old.rest.now }
         ensures shorter { OnOk result (length self.new.rest.now < length self.old.rest.now) }
-        ensures parsed { Parses (GaveBy statement_node (built grammar.Declaration) (declares word name)) (declares word name)
-            (state self.old) result (state self.new) }
+        ensures parsed { Parses (GaveBy statement_node (built grammar.Declaration) (declares word name))
+            (declares word name) (state self.old) result (state self.new) }
     {
         let word = self.take(word)?;
         let name = self.take(name)?;
