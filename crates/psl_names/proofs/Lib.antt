@@ -1,2 +1,7 @@
+pub mod Backward
+pub mod Counts
 pub mod Declaring
-pub mod Telling
+pub mod Fronts
+pub mod Looking
+pub mod Members
+pub mod Refs

@@ -1,3 +1,4 @@
-pub mod Findings
+pub mod Alike
+pub mod Ends
 pub mod Firsts
-pub mod Joining
+pub mod Sorting

@@ -5,8 +5,8 @@ ghost use Rattle.psl_names.specs.Firsts.{first_at, Adds, Keeps, Tells};
 use crate::kinds::declared_kind;
 use crate::operators::declaration_word;
 use psl_base::NoMemory;
-use psl_grammar::Statement;
 use psl_elaboration::ExpressionKind;
+use psl_grammar::Statement;
 use std::alloc::Global;
 use std::collections::BTreeMap;
 

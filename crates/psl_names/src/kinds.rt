@@ -4,8 +4,8 @@ ghost use Rattle.psl_elaboration.specs.Kinds as spec;
 ghost use Rattle.psl_elaboration.specs.Flaws as flaws;
 
 use crate::operators::declaration_word;
-use psl_grammar::Statement;
 use psl_elaboration::{DeclarationWord, ExpressionKind};
+use psl_grammar::Statement;
 
 /// The kind of what a declaration's word declares.
 pub(crate) fn declared_kind(word: DeclarationWord) -> Option<ExpressionKind>

@@ -2,14 +2,13 @@
 #![tactic(auto)]
 
 mod declared;
-mod findings;
+mod ends;
 mod firsts;
 mod kinds;
 mod matching;
 mod operators;
 mod references;
-#[cfg(test)]
-mod tests;
+mod sorting;
 mod texts;
 mod values;
 

@@ -1,61 +1,50 @@
 // Which entries of a list of names a text matches.
-ghost use Rattle.std.specs.Prelude.{◌≡◌, filter, IfOk};
+ghost use Rattle.std.specs.Prelude.{◌≡◌, ◌+◌, ◌^◌, ◌<◌, ◌≤◌, drop, length, slice_index, IfOk};
 ghost use Rattle.psl_elaboration.specs.LookUp as spec;
+ghost use Rattle.psl_names.specs.Alike.{alike_each, first_passes, said};
+ghost use Rattle.psl_names.specs.Sorting.{found_in, found_with, is_before, names_of, IsPlaceOf};
+ghost use Rattle.std.specs.List.Sorted.{IsSortedBy};
 
-use crate::findings::{end_findings, found_at, whole_findings};
+use crate::ends::compare_ends;
+use crate::sorting::{alike_counts, sorted_by_ends};
 use psl_base::NoMemory;
 use psl_elaboration::Found;
-use psl_tree::Names;
+use psl_tree::{Name, Names};
 use std::alloc::Global;
-use std::collections::BTreeMap;
 use std::marker::Model;
 
-/// Names, ordered by their texts and by the texts behind their dots, for looking many texts up. Contracts see it as the
-/// list of the names.
+/// Names in the order of their ends, for looking many texts up. Contracts see it as the list of the names.
 #[derive(Drop)]
 pub struct NameIndex<'a> {
     names: &'a Names,
-    whole: BTreeMap<&'a [u8], Found>,
-    ends: BTreeMap<&'a [u8], Found>,
+    sorted: Vec<&'a Name>,
+    counts: Vec<usize>,
 }
 
 impl<'a> Model for NameIndex<'a> {
     ghost use Rattle.std.specs.Prelude.{List};
     ghost use Rattle.psl_tree.specs.declared.name.Name.{Name};
-    ghost use Rattle.psl_elaboration.specs.LookUp.{is_named, ends_named};
-    ghost use Rattle.psl_names.specs.Findings.{Tells};
+    ghost use Rattle.psl_names.specs.Sorting.{IsIndex};
 
     ghost Value = { List Name };
 
     ghost view = { λ index. index.names.now };
 
-    ghost invariant = { λ index. Tells is_named index.names.now index.whole × Tells ends_named index.names.now index.ends };
+    ghost invariant = { λ index. IsIndex index.names.now index.sorted.items index.counts.items };
 }
 
 impl<'a> NameIndex<'a> {
-    /// The index of names: an entry for each text of a name and for each text behind a dot of one.
+    /// The index of names. It takes time that grows as the number of names and its logarithm.
     pub fn of(alloc: Global, names: &'a Names) -> Result<NameIndex<'a>, NoMemory>
         ensures { IfOk result (λ index. index ≡ names.now) }
     {
+        let sorted = sorted_by_ends(alloc, names.as_slice())?;
+        let counts = alike_counts(alloc, sorted.as_slice())?;
         Ok(NameIndex {
             names,
-            whole: whole_findings(alloc, names.as_slice())?,
-            ends: end_findings(alloc, names.as_slice())?,
+            sorted,
+            counts,
         })
-    }
-
-    // What the names with a text say together.
-    fn named(&self, text: &[u8]) -> Found
-        ensures { result ≡ spec.found_among (filter (spec.is_named text.now) self.now) }
-    {
-        found_at(&self.whole, text)
-    }
-
-    // What the names that end with a dot and a text say together.
-    fn ending(&self, text: &[u8]) -> Found
-        ensures { result ≡ spec.found_among (filter (spec.ends_named text.now) self.now) }
-    {
-        found_at(&self.ends, text)
     }
 }
 
@@ -65,8 +54,114 @@ impl<'a> NameIndex<'a> {
 pub fn look_up(names: &NameIndex, text: &[u8]) -> Found
     ensures { result ≡ spec.look_up names.now text.now }
 {
-    match names.named(text) {
-        Found::Nothing => names.ending(text),
-        found => found,
+    let sorted = names.sorted.as_slice();
+    found_from(
+        sorted,
+        names.counts.as_slice(),
+        place_of(sorted, text),
+        text,
+    )
+}
+
+// The place of the first name whose end is not before a text.
+fn place_of(sorted: &[&Name], text: &[u8]) -> usize
+    requires { IsSortedBy is_before (names_of sorted.now) }
+    ensures place { IsPlaceOf text.now (names_of sorted.now) result }
+    ensures within { result ≤ length sorted.now }
+{
+    sorted.partition_point(|name| compare_ends(name.text.as_slice(), text).is_lt())
+}
+
+// What a text finds among the names from a place on, of which those that match stand first.
+fn found_from(sorted: &[&Name], counts: &[usize], place: usize, text: &[u8]) -> Found
+    requires { counts.now ≡ alike_each (names_of sorted.now) }
+    ensures { result ≡ found_in text.now (drop place (names_of sorted.now)) }
+{
+    if place < sorted.len() {
+        found_with(
+            text,
+            sorted[place],
+            &sorted[next_other(sorted, counts, place)..],
+        )
+    } else {
+        Found::Nothing
     }
+}
+
+// The first place behind one whose name is not alike to the one there.
+fn next_other(sorted: &[&Name], counts: &[usize], place: usize) -> usize
+    requires counted { counts.now ≡ alike_each (names_of sorted.now) }
+    requires inside { place < length sorted.now }
+    requires fits { length sorted.now < 2 ^ 64 }
+    ensures place { result ≡ place + 1 + slice_index counts.now place }
+    ensures within { result ≤ length sorted.now }
+{
+    place + 1 + counts[place]
+}
+
+// What a text finds, by the first name and the others from the first that is not alike to it.
+fn found_with(text: &[u8], first: &Name, others: &[&Name]) -> Found
+    ensures { result ≡ found_with text.now first.now (names_of others.now) }
+{
+    if is_named(first, text) {
+        said(first, starts_named(others, text))
+    } else if ends_named(first, text) {
+        said(first, starts_ending(others, text))
+    } else {
+        Found::Nothing
+    }
+}
+
+// What a name says, by whether another one that is not alike matches too.
+fn said(name: &Name, is_other: bool) -> Found
+    ensures { result ≡ said name.now is_other }
+{
+    if is_other {
+        Found::Several
+    } else {
+        Found::One {
+            signal: name.signal,
+            left: name.left,
+            right: name.right,
+        }
+    }
+}
+
+// Whether the first of names has a text.
+fn starts_named(names: &[&Name], text: &[u8]) -> bool
+    ensures { result ≡ first_passes (spec.is_named text.now) (names_of names.now) }
+{
+    match names {
+        [first, ..] => is_named(first, text),
+        [] => false,
+    }
+}
+
+// Whether the first of names ends with a dot and a text.
+fn starts_ending(names: &[&Name], text: &[u8]) -> bool
+    ensures { result ≡ first_passes (spec.ends_named text.now) (names_of names.now) }
+{
+    match names {
+        [first, ..] => ends_named(first, text),
+        [] => false,
+    }
+}
+
+// Whether a name has a text.
+fn is_named(name: &Name, text: &[u8]) -> bool
+    ensures { result ≡ spec.is_named text.now name.now }
+{
+    name.text.as_slice() == text
+}
+
+// Whether a name ends with a dot and a text.
+fn ends_named(name: &Name, text: &[u8]) -> bool
+    ensures { result ≡ spec.ends_named text.now name.now }
+{
+    let whole = name.text.as_slice();
+    if whole.len() <= text.len() {
+        return false;
+    }
+    let start = whole.len() - text.len();
+    whole[start - 1] == b'.' && whole.ends_with(text)
 }
