@@ -4,7 +4,7 @@ use Rattle.std.specs.Prelude.{◌≡◌, ◌⊎◌, ℕ, zero, suc, Bool as Trut
 use Rattle.std.specs.Coded.{Coded, code_by, coded×, coded⊎, coded_ℕ, coded_bool, coded_list}
 use Rattle.std.proofs.Common.{inl, inr, ap, ◌∙◌}
 use Rattle.psl_tree.specs.Trees.{Boolean}
-use Rattle.sere_nfa.specs.Codes.{boolean_code}
+use Rattle.psl_tree.specs.Codes.{boolean_code}
 use Rattle.alternating_theory.specs.Obligations.{Obligation, Automaton}
 use Rattle.alternating_theory.specs.Positive.{Positive, Const, Holds, Owed, And, Or}
 

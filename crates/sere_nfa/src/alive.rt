@@ -1,43 +1,13 @@
-ghost use Rattle.std.specs.Prelude.{◌≡◌, ◌^◌, ◌<◌, All, [], false, length, replicate, IfOk, OnOk};
-ghost use Rattle.sere_nfa.specs.Marking.{MarksAlive, finals_from, visit, visit_all};
+ghost use Rattle.std.specs.Prelude.{◌≡◌, ◌^◌, ◌<◌, [], false, length, replicate, IfOk};
+ghost use Rattle.sere_nfa.specs.Marking.{MarksAlive, finals_from, visit_all};
 ghost use Rattle.sere_nfa.specs.MarkingView.{marking_of};
 ghost use Rattle.sere_nfa.specs.Views.{states_of_code, StatesWithin};
 
+use crate::marking::Marking;
 use crate::sources::sources_of;
 use crate::state::State;
 use psl_base::{Bits, Items, NoMemory};
 use std::alloc::Global;
-
-// Which states are marked, and the marked ones whose sources were not looked at yet.
-#[derive(Debug, Drop)]
-struct Marking {
-    marks: Vec<bool>,
-    waiting: Vec<u32>,
-}
-
-impl Marking {
-    // Marks a state that is not marked yet, and lets it wait.
-    fn visit(&mut self, number: u32) -> Result<(), NoMemory>
-        requires { number < length self.old.marks.items }
-        ensures { OnOk result (marking_of self.new ≡ visit (marking_of self.old) number) }
-    {
-        if !self.marks[number as usize] {
-            self.marks[number as usize] = true;
-            self.waiting.push(number).map_err(|_| NoMemory)?;
-        }
-        Ok(())
-    }
-
-    fn visit_each(&mut self, numbers: &[u32]) -> Result<(), NoMemory>
-        requires { All (λ number. number < length self.old.marks.items) numbers.now }
-        ensures { OnOk result (marking_of self.new ≡ visit_all (marking_of self.old) numbers.now) }
-    {
-        for number in numbers {
-            self.visit(*number)?;
-        }
-        Ok(())
-    }
-}
 
 /// For each state, whether a final state is reached from it over letters Top. Each state and each
 /// edge is looked at once.
@@ -60,10 +30,7 @@ fn final_marks(alloc: Global, states: &[State]) -> Result<Marking, NoMemory>
     requires { length states.now < 2 ^ 32 }
     ensures { IfOk result (λ marking. marking_of marking ≡ visit_all (record { marks = replicate (length states.now) false; waiting = [] }) (finals_from 0 (states_of_code states.now))) }
 {
-    let mut marking = Marking {
-        marks: vec![in alloc; false; states.len()].map_err(|_| NoMemory)?,
-        waiting: Vec::new(alloc),
-    };
+    let mut marking = Marking::new(alloc, states.len())?;
     for (number, state) in states.iter().enumerate() {
         if state.is_final {
             marking.visit(number as u32)?;

@@ -3,6 +3,7 @@ ghost use Rattle.psl_tree.specs.Trees.{boolean_of, And};
 ghost use Rattle.sere_nfa.specs.Construction.{narrowed, edge_pair};
 ghost use Rattle.sere_nfa.specs.Views.{edge_of, edges_of};
 
+use crate::Few;
 use psl_base::{Items, NoMemory, boxed};
 use psl_tree::Bool;
 use std::alloc::Global;
@@ -16,10 +17,20 @@ pub struct NfaEdge {
 }
 
 /// Edges in order.
-pub type Edges = Items<NfaEdge>;
+pub type Edges = Few<NfaEdge>;
 
 /// Numbers of states.
 pub type States = Items<u32>;
+
+// An edge that no letter takes, which lies where a short list of edges has none.
+impl Default for NfaEdge {
+    fn default() -> NfaEdge {
+        NfaEdge {
+            label: Bool::Const(false),
+            target: 0,
+        }
+    }
+}
 
 impl NfaEdge {
     fn copy(&self, alloc: Global) -> Result<NfaEdge, NoMemory>

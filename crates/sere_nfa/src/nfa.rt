@@ -14,13 +14,10 @@ use crate::edge::{Edges, States};
 use crate::part::Part;
 use crate::state::State;
 use psl_base::{Bits, Items, NoMemory};
-use psl_tree::{Sere, states};
+use psl_tree::{MOST_STATES, Sere, states};
 use std::alloc::Global;
 use std::marker::Model;
 use thiserror::Error;
-
-// The most states that a sequence may count.
-const MOST_STATES: u64 = 1024;
 
 /// Why there is no automaton of a sequence.
 #[derive(Debug, Drop, Error)]
@@ -110,7 +107,7 @@ pub fn of(alloc: Global, r: &Sere) -> Result<Nfa, NfaFault>
     ensures built { IfOk result (λ nfa. nfa ≡ nfa_of (sequence_of r.now)) }
     ensures meaning { IfOk result (λ nfa. (letters : List Letter) → Accepts nfa letters ↔ Tight None (sequence_of r.now) letters) }
     ensures size { IfOk result (λ nfa. length nfa.states ≤ states_of (sequence_of r.now)) }
-    ensures too_large { (result ≡ Err NfaFault.SereTooLarge) ↔ (1024 < states_of (sequence_of r.now)) }
+    ensures too_large { (result ≡ Err NfaFault.SereTooLarge) ↔ (MOST_STATES < states_of (sequence_of r.now)) }
 {
     if states(r) > MOST_STATES {
         return Err(NfaFault::SereTooLarge);
@@ -124,7 +121,7 @@ pub fn of(alloc: Global, r: &Sere) -> Result<Nfa, NfaFault>
 // The automaton of a sequence whose states can be numbered.
 fn finished(alloc: Global, r: &Sere) -> Result<Nfa, NoMemory>
     requires no_clock { HasNoClock (sequence_of r.now) }
-    requires room { states_of (sequence_of r.now) ≤ 1024 }
+    requires room { states_of (sequence_of r.now) ≤ MOST_STATES }
     ensures built { IfOk result (λ nfa. nfa ≡ nfa_of (sequence_of r.now)) }
     ensures meaning { IfOk result (λ nfa. (letters : List Letter) → Accepts nfa letters ↔ Tight None (sequence_of r.now) letters) }
     ensures size { IfOk result (λ nfa. length nfa.states ≤ states_of (sequence_of r.now)) }

@@ -3,9 +3,11 @@ ghost use Rattle.psl_tree.specs.Trees.{boolean_of};
 ghost use Rattle.sere_nfa.specs.Construction.{empty_part, one_part, concat_part, fuse_part, either_part, both_part, star_part};
 ghost use Rattle.sere_nfa.specs.Views.{part_of_code, PartWithin};
 
+use crate::Few;
 use crate::edge::{NfaEdge, add_copies};
-use crate::state::{Numbering, State, add_states, either_of, fuse_all, join_all, pair, pair_all};
-use psl_base::{Items, NoMemory};
+use crate::product::Product;
+use crate::state::{State, add_states, either_of, fuse_all, join_all};
+use psl_base::NoMemory;
 use psl_tree::Bool;
 use std::alloc::Global;
 
@@ -23,7 +25,7 @@ pub(crate) fn empty(alloc: Global) -> Part
     Part {
         start: State {
             is_final: true,
-            edges: Items::new(alloc),
+            edges: Few::new(alloc),
             ending: None,
         },
         states: Vec::new(alloc),
@@ -34,7 +36,7 @@ pub(crate) fn empty(alloc: Global) -> Part
 pub(crate) fn one(alloc: Global, offset: u32, test: &Bool) -> Result<Part, NoMemory>
     ensures { IfOk result (λ part. part_of_code part ≡ one_part offset (boolean_of test.now)) }
 {
-    let mut edges = Items::new(alloc);
+    let mut edges = Few::new(alloc);
     let label = test.copy(alloc)?;
     edges.push(NfaEdge {
         label,
@@ -42,7 +44,7 @@ pub(crate) fn one(alloc: Global, offset: u32, test: &Bool) -> Result<Part, NoMem
     })?;
     let last = State {
         is_final: true,
-        edges: Items::new(alloc),
+        edges: Few::new(alloc),
         ending: None,
     };
     let mut states = Vec::new(alloc);
@@ -121,18 +123,14 @@ pub(crate) fn both(alloc: Global, offset: u32, left: &Part, right: &Part) -> Res
     requires right_room { length right.now.states.items < 2 ^ 32 }
     ensures { IfOk result (λ part. part_of_code part ≡ both_part offset (part_of_code left.now) (part_of_code right.now)) }
 {
-    let numbering = Numbering {
+    let product = Product {
+        alloc,
         offset,
         height: left.states.len() as u32,
         width: right.states.len() as u32,
     };
-    let start = pair(alloc, numbering, &left.start, &right.start)?;
-    let states = pair_all(
-        alloc,
-        numbering,
-        left.states.as_slice(),
-        right.states.as_slice(),
-    )?;
+    let start = product.pair(&left.start, &right.start)?;
+    let states = product.pair_all(left.states.as_slice(), right.states.as_slice())?;
     Ok(Part { start, states })
 }
 

@@ -1,11 +1,11 @@
-ghost use Rattle.std.specs.Prelude.{◌≡◌, ◌+◌, ◌*◌, ◌^◌, ◌<◌, ◌++◌, map, OnOk, IfOk};
+ghost use Rattle.std.specs.Prelude.{◌≡◌, ◌++◌, map, OnOk, IfOk};
 ghost use Rattle.std.specs.Option.{option_map};
 ghost use Rattle.psl_tree.specs.Trees.{boolean_of};
-ghost use Rattle.sere_nfa.specs.Construction.{either_of, both_of, joined, fused, edge_pair, edge_pairs, state_pair, state_pairs};
-ghost use Rattle.sere_nfa.specs.Views.{edge_of, edges_of, draft_of, drafts_of, TargetsWithin, StatesWithin};
+ghost use Rattle.sere_nfa.specs.Construction.{either_of, both_of, joined, fused};
+ghost use Rattle.sere_nfa.specs.Views.{draft_of, drafts_of};
 
-use crate::edge::{Edges, NfaEdge, add_copies, add_narrowed, both_hold};
-use psl_base::{Items, NoMemory, boxed};
+use crate::edge::{Edges, add_copies, add_narrowed, both_hold};
+use psl_base::{NoMemory, boxed};
 use psl_tree::Bool;
 use std::alloc::Global;
 
@@ -18,16 +18,6 @@ pub(crate) struct State {
     /// On which letters one letter alone leads from here to an end, which fusions ask while the
     /// automaton is made. None where no letter does.
     pub(crate) ending: Option<Bool>,
-}
-
-/// How the pairs of a product are numbered: i below height and j below width have the number
-/// offset + i * width + j.
-#[derive(Clone, Copy, Debug)]
-pub(crate) struct Numbering {
-    pub(crate) offset: u32,
-    pub(crate) height: u32,
-    pub(crate) width: u32,
-    pub(crate) ghost room: { offset + height * width < 2 ^ 32 },
 }
 
 impl State {
@@ -92,8 +82,8 @@ pub(crate) fn either_of(
     }
 }
 
-// The Boolean that holds where both do, where both are there.
-fn both_of(
+/// The Boolean that holds where both do, where both are there.
+pub(crate) fn both_of(
     alloc: Global,
     first: &Option<Bool>,
     second: &Option<Bool>,
@@ -112,99 +102,6 @@ pub(crate) fn fuse_all(alloc: Global, states: &mut [State], next: &State) -> Res
 {
     for state in states.iter_mut() {
         state.fuse(alloc, next)?;
-    }
-    Ok(())
-}
-
-/// The state for two states taken together.
-pub(crate) fn pair(
-    alloc: Global,
-    numbering: Numbering,
-    first: &State,
-    second: &State,
-) -> Result<State, NoMemory>
-    requires first_within { TargetsWithin 0 numbering.height first.now.edges }
-    requires second_within { TargetsWithin 0 numbering.width second.now.edges }
-    ensures { IfOk result (λ new. draft_of new ≡ state_pair numbering.offset numbering.width (draft_of first.now) (draft_of second.now)) }
-{
-    let mut edges = Items::new(alloc);
-    for edge in first.edges.as_slice() {
-        add_pairs(alloc, numbering, edge, second.edges.as_slice(), &mut edges)?;
-    }
-    Ok(State {
-        is_final: first.is_final && second.is_final,
-        edges,
-        ending: both_of(alloc, &first.ending, &second.ending)?,
-    })
-}
-
-// Adds the edges for an edge taken together with each of others.
-fn add_pairs(
-    alloc: Global,
-    numbering: Numbering,
-    first: &NfaEdge,
-    seconds: &[NfaEdge],
-    into: &mut Edges,
-) -> Result<(), NoMemory>
-    requires first_within { first.now.target < numbering.height }
-    requires second_within { TargetsWithin 0 numbering.width seconds.now }
-    ensures { OnOk result (edges_of into.new ≡ edges_of into.old ++ map (λ second. edge_pair numbering.offset numbering.width (edge_of first.now) second) (edges_of seconds.now)) }
-{
-    for second in seconds {
-        into.push(pair_edge(alloc, numbering, first, second)?)?;
-    }
-    Ok(())
-}
-
-// The edge for two edges taken together.
-fn pair_edge(
-    alloc: Global,
-    numbering: Numbering,
-    first: &NfaEdge,
-    second: &NfaEdge,
-) -> Result<NfaEdge, NoMemory>
-    requires first_within { first.now.target < numbering.height }
-    requires second_within { second.now.target < numbering.width }
-    ensures { IfOk result (λ edge. edge_of edge ≡ edge_pair numbering.offset numbering.width (edge_of first.now) (edge_of second.now)) }
-{
-    let label = both_hold(alloc, &first.label, &second.label)?;
-    let target = numbering.offset + first.target * numbering.width + second.target;
-    Ok(NfaEdge { label, target })
-}
-
-/// The states for each state of a list taken together with each of another.
-pub(crate) fn pair_all(
-    alloc: Global,
-    numbering: Numbering,
-    firsts: &[State],
-    seconds: &[State],
-) -> Result<Vec<State>, NoMemory>
-    requires first_within { StatesWithin 0 numbering.height firsts.now }
-    requires second_within { StatesWithin 0 numbering.width seconds.now }
-    ensures { IfOk result (λ states. drafts_of states.items ≡ state_pairs numbering.offset numbering.width (drafts_of firsts.now) (drafts_of seconds.now)) }
-{
-    let mut states = Vec::new(alloc);
-    for first in firsts {
-        add_row(alloc, numbering, first, seconds, &mut states)?;
-    }
-    Ok(states)
-}
-
-// Adds the states for a state taken together with each of others.
-fn add_row(
-    alloc: Global,
-    numbering: Numbering,
-    first: &State,
-    seconds: &[State],
-    into: &mut Vec<State>,
-) -> Result<(), NoMemory>
-    requires first_within { TargetsWithin 0 numbering.height first.now.edges }
-    requires second_within { StatesWithin 0 numbering.width seconds.now }
-    ensures { OnOk result (drafts_of into.new.items ≡ drafts_of into.old.items ++ map (λ second. state_pair numbering.offset numbering.width (draft_of first.now) second) (drafts_of seconds.now)) }
-{
-    for second in seconds {
-        let new = pair(alloc, numbering, first, second)?;
-        into.push(new).map_err(|_| NoMemory)?;
     }
     Ok(())
 }

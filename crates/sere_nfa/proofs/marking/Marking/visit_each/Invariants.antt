@@ -1,7 +1,7 @@
 use Rattle.std.proofs.Common.{◌≡◌, length, drop}
 use Rattle.sere_nfa.specs.Marking.{visit_all}
 use Rattle.sere_nfa.specs.MarkingView.{marking_of}
-use Rattle.sere_nfa.proofs.alive.Marking.visit_each.Given as goal
+use Rattle.sere_nfa.proofs.marking.Marking.visit_each.Given as goal
 
 abbrev pub invariant-loop-number : goal.invariant-loop-number
 invariant-loop-number l = record {

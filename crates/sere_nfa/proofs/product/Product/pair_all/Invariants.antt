@@ -1,8 +1,8 @@
 use Rattle.std.proofs.Common.{◌≡◌, take}
 use Rattle.sere_nfa.specs.Construction.{state_pairs}
 use Rattle.sere_nfa.specs.Views.{drafts_of}
-use Rattle.sere_nfa.proofs.state.pair_all.Given as goal
+use Rattle.sere_nfa.proofs.product.Product.pair_all.Given as goal
 
 abbrev pub invariant-loop-first : goal.invariant-loop-first
 invariant-loop-first l =
-    drafts_of l.states.items ≡ state_pairs l.numbering.offset l.numbering.width (drafts_of (take l.first-index l.firsts)) (drafts_of l.seconds)
+    drafts_of l.states.items ≡ state_pairs l.self.offset l.self.width (drafts_of (take l.first-index l.firsts)) (drafts_of l.seconds)
