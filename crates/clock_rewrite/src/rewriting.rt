@@ -5,7 +5,7 @@ ghost use Rattle.psl_meaning.specs.Plain.{plain, plain_sequence};
 ghost use Rattle.psl_tree.specs.Trees.{sequence_of, formula_of};
 
 use crate::rows::{next, now, now_strong, one, stop, until};
-use crate::trees::{abort, and, not, strong, suffix, weak};
+use crate::trees::{abort, and, both, concat, either, fuse, not, star, strong, suffix, weak};
 use psl_base::{NoMemory, boxed};
 use psl_tree::{Bool, Fl, Sere};
 use std::alloc::Global;
@@ -71,28 +71,21 @@ fn rewritten_sequence(
         Sere::One(test) => one(alloc, test, clock),
         Sere::Concat(left, right) => {
             let left = rewritten_sequence(alloc, left, clock)?;
-            let right = rewritten_sequence(alloc, right, clock)?;
-            boxed(alloc, Sere::Concat(left, right))
+            concat(alloc, left, rewritten_sequence(alloc, right, clock)?)
         }
         Sere::Fuse(left, right) => {
             let left = rewritten_sequence(alloc, left, clock)?;
-            let right = rewritten_sequence(alloc, right, clock)?;
-            boxed(alloc, Sere::Fuse(left, right))
+            fuse(alloc, left, rewritten_sequence(alloc, right, clock)?)
         }
         Sere::Either(left, right) => {
             let left = rewritten_sequence(alloc, left, clock)?;
-            let right = rewritten_sequence(alloc, right, clock)?;
-            boxed(alloc, Sere::Either(left, right))
+            either(alloc, left, rewritten_sequence(alloc, right, clock)?)
         }
         Sere::Both(left, right) => {
             let left = rewritten_sequence(alloc, left, clock)?;
-            let right = rewritten_sequence(alloc, right, clock)?;
-            boxed(alloc, Sere::Both(left, right))
+            both(alloc, left, rewritten_sequence(alloc, right, clock)?)
         }
-        Sere::Star(part) => {
-            let part = rewritten_sequence(alloc, part, clock)?;
-            boxed(alloc, Sere::Star(part))
-        }
+        Sere::Star(part) => star(alloc, rewritten_sequence(alloc, part, clock)?),
         Sere::Clocked(part, inner) => rewritten_sequence(alloc, part, Some(inner)),
     }
 }

@@ -1,5 +1,5 @@
 ghost use Rattle.std.specs.Prelude.{◌≡◌, IfOk};
-ghost use Rattle.psl_tree.specs.Trees.{boolean_of, sequence_of, formula_of, Not, And, Now, Weak, Strong, Next, Until, Suffix, Abort};
+ghost use Rattle.psl_tree.specs.Trees.{boolean_of, sequence_of, formula_of, Concat, Fuse, Either, Both, Star, Not, And, Now, Weak, Strong, Next, Until, Suffix, Abort};
 
 use psl_base::{NoMemory, boxed};
 use psl_tree::{Bool, Fl, Sere};
@@ -74,4 +74,47 @@ pub(crate) fn abort(alloc: Global, part: Box<Fl>, test: Bool) -> Result<Box<Fl>,
     ensures { IfOk result (λ new. formula_of new.value ≡ Abort (formula_of part.value) (boolean_of test)) }
 {
     boxed(alloc, Fl::Abort(part, test))
+}
+
+#[inline(never)]
+pub(crate) fn concat(
+    alloc: Global,
+    left: Box<Sere>,
+    right: Box<Sere>,
+) -> Result<Box<Sere>, NoMemory>
+    ensures { IfOk result (λ new. sequence_of new.value ≡ Concat (sequence_of left.value) (sequence_of right.value)) }
+{
+    boxed(alloc, Sere::Concat(left, right))
+}
+
+#[inline(never)]
+pub(crate) fn fuse(alloc: Global, left: Box<Sere>, right: Box<Sere>) -> Result<Box<Sere>, NoMemory>
+    ensures { IfOk result (λ new. sequence_of new.value ≡ Fuse (sequence_of left.value) (sequence_of right.value)) }
+{
+    boxed(alloc, Sere::Fuse(left, right))
+}
+
+#[inline(never)]
+pub(crate) fn either(
+    alloc: Global,
+    left: Box<Sere>,
+    right: Box<Sere>,
+) -> Result<Box<Sere>, NoMemory>
+    ensures { IfOk result (λ new. sequence_of new.value ≡ Either (sequence_of left.value) (sequence_of right.value)) }
+{
+    boxed(alloc, Sere::Either(left, right))
+}
+
+#[inline(never)]
+pub(crate) fn both(alloc: Global, left: Box<Sere>, right: Box<Sere>) -> Result<Box<Sere>, NoMemory>
+    ensures { IfOk result (λ new. sequence_of new.value ≡ Both (sequence_of left.value) (sequence_of right.value)) }
+{
+    boxed(alloc, Sere::Both(left, right))
+}
+
+#[inline(never)]
+pub(crate) fn star(alloc: Global, part: Box<Sere>) -> Result<Box<Sere>, NoMemory>
+    ensures { IfOk result (λ new. sequence_of new.value ≡ Star (sequence_of part.value)) }
+{
+    boxed(alloc, Sere::Star(part))
 }

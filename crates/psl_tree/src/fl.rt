@@ -1,10 +1,7 @@
-ghost use Rattle.std.specs.Prelude.{◌≡◌, ◌<◌, IfOk, IfSome};
+ghost use Rattle.std.specs.Prelude.{◌<◌, IfSome};
 ghost use Rattle.psl_tree.specs.Dropped.{FirstOf, LeftFirst, weight};
-ghost use Rattle.psl_tree.specs.Trees.{formula_of};
 
 use crate::{Bool, Sere};
-use psl_base::{NoMemory, boxed};
-use std::alloc::Global;
 use std::mem;
 
 /// A formula of the Foundation Language, reduced to its kernel (IEEE 1850, clause 6.2 and Annex B).
@@ -72,46 +69,6 @@ fn left_first(mut left: Box<Fl>, right: Box<Fl>, waiting: Option<Box<Fl>>) -> Dr
         Some(later) => {
             let tree = mem::replace(&mut *left, Fl::And(right, later));
             (tree, Some(left))
-        }
-    }
-}
-
-impl Fl {
-    /// An equal tree.
-    pub fn copy(&self, alloc: Global) -> Result<Fl, NoMemory>
-        ensures { IfOk result (λ new. formula_of new ≡ formula_of self.now) }
-    {
-        match self {
-            Fl::Now(test) => Ok(Fl::Now(test.copy(alloc)?)),
-            Fl::NowStrong(test) => Ok(Fl::NowStrong(test.copy(alloc)?)),
-            Fl::Weak(sequence) => Ok(Fl::Weak(sequence.copy(alloc)?)),
-            Fl::Strong(sequence) => Ok(Fl::Strong(sequence.copy(alloc)?)),
-            Fl::Not(part) => Ok(Fl::Not(boxed(alloc, part.copy(alloc)?)?)),
-            Fl::And(left, right) => {
-                let left = boxed(alloc, left.copy(alloc)?)?;
-                Ok(Fl::And(left, boxed(alloc, right.copy(alloc)?)?))
-            }
-            Fl::Next(part) => Ok(Fl::Next(boxed(alloc, part.copy(alloc)?)?)),
-            Fl::Until(left, right) => {
-                let left = boxed(alloc, left.copy(alloc)?)?;
-                Ok(Fl::Until(left, boxed(alloc, right.copy(alloc)?)?))
-            }
-            Fl::Suffix(sequence, part) => {
-                let part = boxed(alloc, part.copy(alloc)?)?;
-                Ok(Fl::Suffix(sequence.copy(alloc)?, part))
-            }
-            Fl::Abort(part, test) => {
-                let part = boxed(alloc, part.copy(alloc)?)?;
-                Ok(Fl::Abort(part, test.copy(alloc)?))
-            }
-            Fl::SyncAbort(part, test) => {
-                let part = boxed(alloc, part.copy(alloc)?)?;
-                Ok(Fl::SyncAbort(part, test.copy(alloc)?))
-            }
-            Fl::Clocked(part, clock) => {
-                let part = boxed(alloc, part.copy(alloc)?)?;
-                Ok(Fl::Clocked(part, clock.copy(alloc)?))
-            }
         }
     }
 }

@@ -4,6 +4,7 @@
 
 mod atom;
 mod boolean;
+mod copies;
 mod counts;
 mod directive;
 mod fl;
