@@ -43,6 +43,10 @@ pub record TokensLeft : Type 0 where
 abbrev pub left_from : List ℕ → ℕ → TokensLeft
 left_from whole at = record { tokens = tokens_from whole at (drop at whole); end = place_at whole (length whole) }
 
+-- all tokens of a text are left
+abbrev pub all_tokens : List ℕ → TokensLeft
+all_tokens text = record { tokens = tokens text; end = place_at text (length text) }
+
 -- what was left before a token was taken
 infixr 30 ◌▸◌
 abbrev pub ◌▸◌ : PlacedToken → TokensLeft → TokensLeft

@@ -1,7 +1,7 @@
 ghost use Rattle.std.specs.Prelude.{◌≡◌, ◌+◌, ◌<◌, ◌≤◌, ◌∷◌, false, length, drop, slice_range, slice_index, IfSome};
 ghost use Rattle.psl_base.specs.Bytes.{is_white as white};
-ghost use Rattle.psl_base.specs.Places.{file_limit, place_at};
-ghost use Rattle.psl_base.specs.Tokens.{tokens, tokens_from, token_at, IsNext};
+ghost use Rattle.psl_base.specs.Places.{file_limit};
+ghost use Rattle.psl_base.specs.Tokens.{all_tokens, tokens_from, token_at, IsNext};
 
 use crate::{Place, is_white, place_of};
 use std::marker::Model;
@@ -74,8 +74,7 @@ impl<'a> Cursor<'a> {
     /// All tokens of a text.
     pub fn new(text: &'a [u8]) -> Cursor<'a>
         requires { length text.now ≤ file_limit }
-        ensures tokens { result.tokens ≡ tokens text.now }
-        ensures end { result.end ≡ place_at text.now (length text.now) }
+        ensures all { result ≡ all_tokens text.now }
         ensures few { length result.tokens ≤ file_limit }
     {
         Cursor { whole: text, at: 0 }

@@ -4,5 +4,7 @@ pub mod Codes
 pub mod Counts
 pub mod Dropped
 pub mod Holds
+pub mod Letters
 pub mod Names
+pub mod Ranges
 pub mod Trees

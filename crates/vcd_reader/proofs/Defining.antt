@@ -5,6 +5,8 @@ use Rattle.std.proofs.lemmas.List.{length-map, take-map, get_or_append_left, len
 use Rattle.std.proofs.lemmas.List.Elements.{All-push, All-weaker}
 use Rattle.std.proofs.lemmas.List.Sums.{sum_by_push}
 use Rattle.std.specs.List.{All}
+use Rattle.psl_base.specs.Tokens.{PlacedToken, TokensLeft, ◌▸◌}
+use Rattle.psl_tree.specs.Ranges.{index_count}
 use Rattle.psl_tree.specs.declared.name.Name.{Name}
 use Rattle.vcd_reader.specs.declared.shape.Shape.TheVariants.{Upscope}
 use Rattle.vcd_reader.specs.declared.signal.Signal.{Signal}
@@ -12,13 +14,12 @@ use Rattle.vcd_reader.proofs.Places.{place_of-within}
 use Rattle.vcd_reader.specs.Declarations.{Declared, without_scope, name_of, no_signal, bits_most}
 use Rattle.vcd_reader.specs.Kept.{IsNamed, IsKept}
 use Rattle.vcd_reader.specs.Labels.{place_of}
-use Rattle.vcd_reader.specs.Ranges.{Reference, reference_with, range_at_end, index_count}
+use Rattle.vcd_reader.specs.Ranges.{Reference, reference_with, range_at_end}
 use Rattle.vcd_reader.specs.Rules.{has_none}
 use Rattle.vcd_reader.specs.Running.{defining}
 use Rattle.vcd_reader.specs.Sampled.{indices, AreAlike}
 use Rattle.vcd_reader.specs.Shapes.{shape_of, is_end}
 use Rattle.vcd_reader.specs.Standing.{Ready}
-use Rattle.vcd_reader.specs.Tokens.{Token}
 
 -- a list without its last element, seen through a map
 pub all_but_last : {X : Type 0} (f : X → List ℕ) (xs ys : List X) (n : ℕ) → n ≡ length xs → ys ≡ take (n - 1) xs → take (length (map f xs) - 1) (map f xs) ≡ map f ys
@@ -32,9 +33,9 @@ some_there [] some = absurd (omega arith)
 some_there (x ∷ xs) some = refl
 
 -- a scope is closed
-pub scope_closed : (d new : Declared) (at : ℕ) (text : List ℕ) (t : Token) (ts : List Token) → shape_of text ≡ Upscope → has_none d.scopes ≡ false → is_end t.text ≡ true → without_scope d ≡ new →
-    defining d Ready (record { at = at; text = text } ∷ t ∷ ts) ≡ defining new Ready ts
-scope_closed d new at text t ts shape some end same = rw (shape, some, end) (ap (λ (x : Declared). defining x Ready ts) same)
+pub scope_closed : (d new : Declared) (u t : PlacedToken) (left : TokensLeft) → shape_of u.text ≡ Upscope → has_none d.scopes ≡ false → is_end t.text ≡ true → without_scope d ≡ new →
+    defining d Ready (u ▸ t ▸ left) ≡ defining new Ready left
+scope_closed d new u t left shape some end same = rw (shape, some, end) (ap (λ (x : Declared). defining x Ready left) same)
 
 by_count : (fits : Bool) (text : List ℕ) (at size left right : ℕ) → eqb (index_count left right) size ≡ fits → 0 < size →
     (let r = cond {A = Reference} fits (record { text = take at text; left = left; right = right }) (record { text = text; left = size - 1; right = 0 }) in index_count r.left r.right) ≡ size

@@ -1,103 +1,130 @@
 -- The first fault by recursion, against the first fault as a place among the tokens.
-use Rattle.std.proofs.Common.{◌≡◌, ℕ, Bool, true, false, cond, List, [], ◌∷◌, ◌++◌, Option, None, Some, Result, Ok, Err, refl, sym, ap, subst, ◌∙◌, append_assoc, ◌⊎◌, inl, inr}
+use Rattle.std.proofs.Common.{◌≡◌, ℕ, Bool, true, false, List, [], ◌∷◌, ◌++◌, Option, None, Some, Ok, Err, refl, sym, ap, subst, ◌∙◌, append_assoc, ◌⊎◌, inl, inr}
 use Rattle.std.proofs.lemmas.List.{append-nil}
+use Rattle.std.specs.Option.{option_or}
+use Rattle.psl_base.specs.Tokens.{PlacedToken, tokens}
+use Rattle.psl_base.specs.declared.place.Place.{Place}
 use Rattle.vcd_reader.specs.declared.fault.VcdFault.{VcdFault}
-use Rattle.vcd_reader.specs.declared.stop.Rule.{Rule}
-use Rattle.vcd_reader.specs.declared.stop.Stop.{Stop}
-use Rattle.vcd_reader.specs.declared.stop.Stop.TheVariants.{Ends, Faulty}
+use Rattle.vcd_reader.specs.declared.fault.VcdFault.TheVariants.{EndsInside}
 use Rattle.vcd_reader.specs.FirstFault.{HaveNone, IsFaultless, IsFirst}
-use Rattle.vcd_reader.specs.Meaning.{Dump, fault_at, fault_at_end, or_later, first_fault, dump_by, unless, reading, sampled_by, sampled_of, fault_told}
-use Rattle.vcd_reader.specs.Rules.{may_end}
+use Rattle.vcd_reader.specs.Meaning.{fault_at, may_end_after, fault_at_end, first_fault, dump_by, unless, end_of, reading, sampled_of}
 use Rattle.vcd_reader.specs.Sampled.{Sampled}
-use Rattle.vcd_reader.specs.Standing.{standing_by}
-use Rattle.vcd_reader.specs.Tokens.{Token, tokens}
 
--- the first fault of tokens behind others
-abbrev Behind : List Token → List Token → Stop → Type 0
-Behind start ts Ends = HaveNone start ts × (fault_at_end (start ++ ts) ≡ Some Ends)
-Behind start ts (Faulty at broken) =
-    (before : List Token) × (t : Token) × (after : List Token) × (ts ≡ before ++ t ∷ after) × (t.at ≡ at) × HaveNone start before × (fault_at (start ++ before) t ≡ Some broken)
+-- the first fault of tokens behind others is that of a token
+record OfToken (start ts : List PlacedToken) (found : VcdFault) : Type 0 where
+  before : List PlacedToken
+  token : PlacedToken
+  after : List PlacedToken
+  pieces : ts ≡ before ++ token ∷ after
+  none : HaveNone start before
+  here : fault_at (start ++ before) token ≡ Some found
+
+-- or that of the end
+record OfEnd (end : Place) (start ts : List PlacedToken) (found : VcdFault) : Type 0 where
+  none : HaveNone start ts
+  early : may_end_after (start ++ ts) ≡ false
+  here : EndsInside end ≡ found
 
 -- what is found
-abbrev Found : List Token → List Token → Option Stop → Type 0
-Found start ts None = HaveNone start ts × (fault_at_end (start ++ ts) ≡ None)
-Found start ts (Some stop) = Behind start ts stop
+abbrev Found : Place → List PlacedToken → List PlacedToken → Option VcdFault → Type 0
+Found end start ts None = HaveNone start ts × (may_end_after (start ++ ts) ≡ true)
+Found end start ts (Some found) = OfToken start ts found ⊎ OfEnd end start ts found
 
-one_back : (start : List Token) (x : Token) (ts : List Token) (stop : Stop) → fault_at start x ≡ None → Behind (start ++ x ∷ []) ts stop → Behind start (x ∷ ts) stop
-one_back start x ts Ends none found = ((none, found.0), ap fault_at_end (sym (append_assoc start (x ∷ []) ts)) ∙ found.1)
-one_back start x ts (Faulty at broken) none (before, t, after, pieces, place, front, here) =
-    (x ∷ before, t, after, ap (λ (rest : List Token). x ∷ rest) pieces, place, (none, front), ap (λ (all : List Token). fault_at all t) (sym (append_assoc start (x ∷ []) before)) ∙ here)
+found_back : (end : Place) (start : List PlacedToken) (x : PlacedToken) (ts : List PlacedToken) (fault : Option VcdFault) → fault_at start x ≡ None → Found end (start ++ x ∷ []) ts fault → Found end start (x ∷ ts) fault
+found_back end start x ts None none found = ((none, found.0), ap may_end_after (sym (append_assoc start (x ∷ []) ts)) ∙ found.1)
+found_back end start x ts (Some fault) none (inl of_token) = inl (record {
+  before = x ∷ of_token.before;
+  token = of_token.token;
+  after = of_token.after;
+  pieces = ap (λ (rest : List PlacedToken). x ∷ rest) of_token.pieces;
+  none = (none, of_token.none);
+  here = ap (λ (all : List PlacedToken). fault_at all of_token.token) (sym (append_assoc start (x ∷ []) of_token.before)) ∙ of_token.here;
+})
+found_back end start x ts (Some fault) none (inr of_end) = inr (record {
+  none = (none, of_end.none);
+  early = ap may_end_after (sym (append_assoc start (x ∷ []) ts)) ∙ of_end.early;
+  here = of_end.here;
+})
 
-found_back : (start : List Token) (x : Token) (ts : List Token) (fault : Option Stop) → fault_at start x ≡ None → Found (start ++ x ∷ []) ts fault → Found start (x ∷ ts) fault
-found_back start x ts None none found = ((none, found.0), ap fault_at_end (sym (append_assoc start (x ∷ []) ts)) ∙ found.1)
-found_back start x ts (Some stop) none found = one_back start x ts stop none found
+by_rule : (end : Place) (start : List PlacedToken) (x : PlacedToken) (ts : List PlacedToken) (fault later : Option VcdFault) → fault_at start x ≡ fault → Found end (start ++ x ∷ []) ts later → Found end start (x ∷ ts) (option_or fault later)
+by_rule end start x ts None later here found = found_back end start x ts later here found
+by_rule end start x ts (Some fault) later here found = inl (record {
+  before = [];
+  token = x;
+  after = ts;
+  pieces = refl;
+  none = tt;
+  here = ap (λ (all : List PlacedToken). fault_at all x) (append-nil start) ∙ here;
+})
 
-by_rule : (start : List Token) (x : Token) (ts : List Token) (rule : Option Rule) (later : Option Stop) → fault_at start x ≡ rule → Found (start ++ x ∷ []) ts later → Found start (x ∷ ts) (or_later rule x.at later)
-by_rule start x ts None later here found = found_back start x ts later here found
-by_rule start x ts (Some broken) later here found = ([], x, ts, refl, refl, tt, ap (λ (all : List Token). fault_at all x) (append-nil start) ∙ here)
-
-by_end : (start : List Token) (may : Bool) → fault_at_end start ≡ cond may None (Some Ends) → Found start [] (cond may None (Some Ends))
-by_end start true here = (tt, ap fault_at_end (append-nil start) ∙ here)
-by_end start false here = (tt, ap fault_at_end (append-nil start) ∙ here)
+by_end : (end : Place) (start : List PlacedToken) (may : Bool) → may_end_after start ≡ may → Found end start [] (fault_at_end end may)
+by_end end start true here = (tt, ap may_end_after (append-nil start) ∙ here)
+by_end end start false here = inr (record { none = tt; early = ap may_end_after (append-nil start) ∙ here; here = refl })
 
 -- what the recursion gives is so
-is_found : (start ts : List Token) → Found start ts (first_fault start ts)
-is_found start [] = by_end start (may_end (standing_by start).part (standing_by start).opened) refl
-is_found start (x ∷ ts) = by_rule start x ts (fault_at start x) (first_fault (start ++ x ∷ []) ts) refl (is_found (start ++ x ∷ []) ts)
+is_found : (end : Place) (start ts : List PlacedToken) → Found end start ts (first_fault end start ts)
+is_found end start [] = by_end end start (may_end_after start) refl
+is_found end start (x ∷ ts) = by_rule end start x ts (fault_at start x) (first_fault end (start ++ x ∷ []) ts) refl (is_found end (start ++ x ∷ []) ts)
 
 -- and nothing else is
-passes : (start front back : List Token) → HaveNone start front → first_fault start (front ++ back) ≡ first_fault (start ++ front) back
-passes start [] back none = ap (λ (all : List Token). first_fault all back) (sym (append-nil start))
-passes start (x ∷ front) back none =
-    ap (λ (rule : Option Rule). or_later rule x.at (first_fault (start ++ x ∷ []) (front ++ back))) none.0
-    ∙ passes (start ++ x ∷ []) front back none.1 ∙ ap (λ (all : List Token). first_fault all back) (append_assoc start (x ∷ []) front)
+passes : (end : Place) (start front back : List PlacedToken) → HaveNone start front → first_fault end start (front ++ back) ≡ first_fault end (start ++ front) back
+passes end start [] back none = ap (λ (all : List PlacedToken). first_fault end all back) (sym (append-nil start))
+passes end start (x ∷ front) back none =
+    ap (λ (fault : Option VcdFault). option_or fault (first_fault end (start ++ x ∷ []) (front ++ back))) none.0
+    ∙ passes end (start ++ x ∷ []) front back none.1 ∙ ap (λ (all : List PlacedToken). first_fault end all back) (append_assoc start (x ∷ []) front)
 
-pub faultless-none : (ts : List Token) → IsFaultless ts → first_fault [] ts ≡ None
-faultless-none ts none = ap (first_fault []) (sym (append-nil ts)) ∙ passes [] ts [] none.0 ∙ none.1
+-- of tokens that all have none, the fault is that of the end
+by_all : (end : Place) (ts : List PlacedToken) (may : Bool) → HaveNone [] ts → may_end_after ts ≡ may → first_fault end [] ts ≡ fault_at_end end may
+by_all end ts may none here = ap (first_fault end []) (sym (append-nil ts)) ∙ passes end [] ts [] none ∙ ap (fault_at_end end) here
 
-pub first-some : (ts : List Token) (stop : Stop) → IsFirst ts stop → first_fault [] ts ≡ Some stop
-first-some ts Ends found = ap (first_fault []) (sym (append-nil ts)) ∙ passes [] ts [] found.0 ∙ found.1
-first-some ts (Faulty at broken) (before, t, after, pieces, place, none, here) =
-    ap (first_fault []) pieces ∙ passes [] before (t ∷ after) none
-    ∙ ap (λ (rule : Option Rule). or_later rule t.at (first_fault (before ++ t ∷ []) after)) here ∙ ap (λ (n : ℕ). Some (Faulty n broken)) place
+pub faultless-none : (end : Place) (ts : List PlacedToken) → IsFaultless ts → first_fault end [] ts ≡ None
+faultless-none end ts none = by_all end ts true none.0 none.1
 
-pub none-faultless : (ts : List Token) → first_fault [] ts ≡ None → IsFaultless ts
-none-faultless ts none = subst (Found [] ts) none (is_found [] ts)
+pub first-some : (end : Place) (ts : List PlacedToken) (found : VcdFault) → IsFirst end ts found → first_fault end [] ts ≡ Some found
+first-some end ts found (inl is) =
+    ap (first_fault end []) is.pieces ∙ passes end [] is.before (is.token ∷ is.after) is.none
+    ∙ ap (λ (fault : Option VcdFault). option_or fault (first_fault end (is.before ++ is.token ∷ []) is.after)) is.here
+first-some end ts found (inr is) = by_all end ts false is.none is.early ∙ ap Some is.here
 
-pub some-first : (ts : List Token) (stop : Stop) → first_fault [] ts ≡ Some stop → IsFirst ts stop
-some-first ts Ends some = subst (Found [] ts) some (is_found [] ts)
-some-first ts (Faulty at broken) some = subst (Found [] ts) some (is_found [] ts)
+pub none-faultless : (end : Place) (ts : List PlacedToken) → first_fault end [] ts ≡ None → IsFaultless ts
+none-faultless end ts none = subst (Found end [] ts) none (is_found end [] ts)
+
+by_found : (end : Place) (ts : List PlacedToken) (found : VcdFault) → Found end [] ts (Some found) → IsFirst end ts found
+by_found end ts found (inl is) = inl (record { before = is.before; token = is.token; after = is.after; pieces = is.pieces; none = is.none; here = is.here })
+by_found end ts found (inr is) = inr (record { none = is.none; early = is.early; here = is.here })
+
+pub some-first : (end : Place) (ts : List PlacedToken) (found : VcdFault) → first_fault end [] ts ≡ Some found → IsFirst end ts found
+some-first end ts found some = by_found end ts found (subst (Found end [] ts) some (is_found end [] ts))
 
 -- the same of the bytes of a file
 pub faultless-reading : (bytes : List ℕ) → IsFaultless (tokens bytes) → reading bytes ≡ Ok (sampled_of (dump_by (tokens bytes)))
-faultless-reading bytes none = ap (λ (fault : Option Stop). sampled_by bytes (unless fault (dump_by (tokens bytes)))) (faultless-none (tokens bytes) none)
+faultless-reading bytes none = ap (λ (fault : Option VcdFault). unless fault (sampled_of (dump_by (tokens bytes)))) (faultless-none (end_of bytes) (tokens bytes) none)
 
-pub first-reading : (bytes : List ℕ) (stop : Stop) → IsFirst (tokens bytes) stop → reading bytes ≡ Err (fault_told bytes stop)
-first-reading bytes stop found = ap (λ (fault : Option Stop). sampled_by bytes (unless fault (dump_by (tokens bytes)))) (first-some (tokens bytes) stop found)
+pub first-reading : (bytes : List ℕ) (found : VcdFault) → IsFirst (end_of bytes) (tokens bytes) found → reading bytes ≡ Err found
+first-reading bytes found is = ap (λ (fault : Option VcdFault). unless fault (sampled_of (dump_by (tokens bytes)))) (first-some (end_of bytes) (tokens bytes) found is)
 
-by_ok : (bytes : List ℕ) (dump : Dump) (fault : Option Stop) (recording : Sampled) → sampled_by bytes (unless fault dump) ≡ Ok recording → (fault ≡ None) × (sampled_of dump ≡ recording)
-by_ok bytes dump None recording read = (refl, cc)
-by_ok bytes dump (Some stop) recording read = absurd (let wrong : Err (fault_told bytes stop) ≡ Ok recording = read in cc)
+by_ok : (said recording : Sampled) (fault : Option VcdFault) → unless fault said ≡ Ok recording → (fault ≡ None) × (said ≡ recording)
+by_ok said recording None read = (refl, cc)
+by_ok said recording (Some found) read = absurd (let wrong : Err found ≡ Ok recording = read in cc)
 
 pub reading-faultless : (bytes : List ℕ) (recording : Sampled) → reading bytes ≡ Ok recording → IsFaultless (tokens bytes) × (sampled_of (dump_by (tokens bytes)) ≡ recording)
 reading-faultless bytes recording read =
-    let parts = by_ok bytes (dump_by (tokens bytes)) (first_fault [] (tokens bytes)) recording read in (none-faultless (tokens bytes) parts.0, parts.1)
+    let found = by_ok (sampled_of (dump_by (tokens bytes))) recording (first_fault (end_of bytes) [] (tokens bytes)) read in
+    (none-faultless (end_of bytes) (tokens bytes) found.0, found.1)
 
-by_err : (bytes : List ℕ) (dump : Dump) (fault : Option Stop) (found : VcdFault) → sampled_by bytes (unless fault dump) ≡ Err found → (stop : Stop) × (fault ≡ Some stop) × (fault_told bytes stop ≡ found)
-by_err bytes dump None found read = absurd (let wrong : Ok (sampled_of dump) ≡ Err found = read in cc)
-by_err bytes dump (Some stop) found read = (stop, refl, let same : Err (fault_told bytes stop) ≡ Err found = read in cc)
+by_err : (said : Sampled) (fault : Option VcdFault) (found : VcdFault) → unless fault said ≡ Err found → fault ≡ Some found
+by_err said None found read = absurd (let wrong : Ok said ≡ Err found = read in cc)
+by_err said (Some same) found read = let equal : same ≡ found = cc in ap Some equal
 
-pub reading-first : (bytes : List ℕ) (found : VcdFault) → reading bytes ≡ Err found → (stop : Stop) × IsFirst (tokens bytes) stop × (fault_told bytes stop ≡ found)
-reading-first bytes found read =
-    let parts = by_err bytes (dump_by (tokens bytes)) (first_fault [] (tokens bytes)) found read in (parts.0, some-first (tokens bytes) parts.0 parts.1, parts.2)
+pub reading-first : (bytes : List ℕ) (found : VcdFault) → reading bytes ≡ Err found → IsFirst (end_of bytes) (tokens bytes) found
+reading-first bytes found read = some-first (end_of bytes) (tokens bytes) found (by_err (sampled_of (dump_by (tokens bytes))) (first_fault (end_of bytes) [] (tokens bytes)) found read)
 
-by_result : (said : Result Sampled VcdFault) → ((recording : Sampled) × (said ≡ Ok recording)) ⊎ ((found : VcdFault) × (said ≡ Err found))
-by_result (Ok recording) = inl (recording, refl)
-by_result (Err found) = inr (found, refl)
+by_answer : (said : Sampled) (fault : Option VcdFault) → ((recording : Sampled) × (unless fault said ≡ Ok recording)) ⊎ ((found : VcdFault) × (unless fault said ≡ Err found))
+by_answer said None = inl (said, refl)
+by_answer said (Some found) = inr (found, refl)
 
--- there is an answer, and one alone
 pub some_answer : (bytes : List ℕ) → ((recording : Sampled) × (reading bytes ≡ Ok recording)) ⊎ ((found : VcdFault) × (reading bytes ≡ Err found))
-some_answer bytes = by_result (reading bytes)
+some_answer bytes = by_answer (sampled_of (dump_by (tokens bytes))) (first_fault (end_of bytes) [] (tokens bytes))
 
 pub one_answer : (bytes : List ℕ) (recording : Sampled) (found : VcdFault) → reading bytes ≡ Ok recording → reading bytes ≡ Err found → ⊥
 one_answer bytes recording found read refused = let wrong : Ok recording ≡ Err found = sym read ∙ refused in cc

@@ -10,7 +10,9 @@ use Rattle.psl_tree.specs.declared.atom.Edge.TheVariants.{Value, Rise, Fall}
 use Rattle.psl_tree.specs.declared.name.Name.{Name}
 use Rattle.psl_tree.specs.Holds.{edge_number, is_same_atom, holds_among}
 use Rattle.psl_tree.specs.Trees.{Test}
-use Rattle.vcd_reader.specs.Sampled.{Sampled, AtomInRange, indices, atoms_of_bit, atoms_of_name, atoms_of, atom_at}
+use Rattle.psl_tree.specs.Letters.{atoms_of_bit, atoms_of_name, atoms_of}
+use Rattle.psl_tree.specs.Names.{AtomInRange, indices}
+use Rattle.vcd_reader.specs.Sampled.{Sampled, atom_at}
 
 -- whether some x with q passed the test p, where each such x passes it as b says
 abbrev first_or : Bool → Bool → Bool → Bool

@@ -1,81 +1,81 @@
 -- The value of a signal at a time, by the changes that are kept of it.
 use Rattle.std.proofs.Common.{◌≡◌, ℕ, suc, zero, ◌+◌, ◌<◌, ◌≤◌, Bool, true, false, cond, nat_le, nat_lt, eqb, List, [], ◌∷◌, length, get_or, Option, None, Some, refl, sym, ap, subst, ◌∙◌, arith}
 use Rattle.std.proofs.lemmas.Bool.{ltb-true, ltb-false, ne_eqb, eqb-true, eqb-false, le-ltb, le-leb, lt-leb, cond-true, cond-false}
-use Rattle.vcd_reader.specs.Events.{Event, At, Change, before_higher, last_change, is_last, falls, times_after, never_fall}
+use Rattle.vcd_reader.specs.Events.{Event, At, Gets, before_higher, last_change, is_last, falls, times_after, never_fall}
 
 -- a change that is kept: how many samples were begun before it, and its letters
 pub record Kept : Type 0 where
-  pub begun : ℕ
+  pub sample : ℕ
   pub value : List ℕ
 
 -- the changes of a signal, after so many samples and a last time
 abbrev pub kept : ℕ → Option ℕ → ℕ → List Event → List Kept
-kept begun last signal [] = []
-kept begun last signal (At time ∷ es) = cond (is_last last time) (kept begun last signal es) (kept (suc begun) (Some time) signal es)
-kept begun last signal (Change other value ∷ es) = cond (eqb other signal) (record { begun = begun; value = value } ∷ kept begun last signal es) (kept begun last signal es)
+kept samples last signal [] = []
+kept samples last signal (At time ∷ es) = cond (is_last last time) (kept samples last signal es) (kept (suc samples) (Some time) signal es)
+kept samples last signal (Gets other value ∷ es) = cond (eqb other signal) (record { sample = samples; value = value } ∷ kept samples last signal es) (kept samples last signal es)
 
 -- the last change before which at most so many samples were begun
 abbrev pub latest : Option (List ℕ) → ℕ → List Kept → Option (List ℕ)
 latest old most [] = old
-latest old most (x ∷ xs) = latest (cond (nat_le x.begun most) (Some x.value) old) most xs
+latest old most (x ∷ xs) = latest (cond (nat_le x.sample most) (Some x.value) old) most xs
 
 -- how many times stand before the next one that is higher than this, each once
 abbrev pub times_upto : Option ℕ → ℕ → List Event → ℕ
 times_upto last time [] = 0
 times_upto last time (At other ∷ es) = cond (nat_lt time other) 0 (cond (is_last last other) (times_upto last time es) (suc (times_upto (Some other) time es)))
-times_upto last time (Change signal value ∷ es) = times_upto last time es
+times_upto last time (Gets signal value ∷ es) = times_upto last time es
 
 -- the time is not lower than the last one
 abbrev pub IsUpto : Option ℕ → ℕ → Type 0
 IsUpto None time = Unit {0}
 IsUpto (Some last) time = last ≤ time
 
-by_later : (is : Bool) (old : Option (List ℕ)) (most begun : ℕ) (value : List ℕ) (xs : List Kept) → nat_le begun most ≡ false → latest old most xs ≡ old → latest old most (cond is (record { begun = begun; value = value } ∷ xs) xs) ≡ old
-by_later true old most begun value xs later same = ap (λ (o : Option (List ℕ)). latest o most xs) (cond-false (nat_le begun most) (Some value) old later) ∙ same
-by_later false old most begun value xs later same = same
+by_later : (is : Bool) (old : Option (List ℕ)) (most samples : ℕ) (value : List ℕ) (xs : List Kept) → nat_le samples most ≡ false → latest old most xs ≡ old → latest old most (cond is (record { sample = samples; value = value } ∷ xs) xs) ≡ old
+by_later true old most samples value xs later same = ap (λ (o : Option (List ℕ)). latest o most xs) (cond-false (nat_le samples most) (Some value) old later) ∙ same
+by_later false old most samples value xs later same = same
 
 either : (is : Bool) (old : Option (List ℕ)) (most : ℕ) (xs ys : List Kept) → latest old most xs ≡ old → latest old most ys ≡ old → latest old most (cond is xs ys) ≡ old
 either true old most xs ys first second = first
 either false old most xs ys first second = second
 
 -- changes that come later do not count
-latest-later : (old : Option (List ℕ)) (most begun : ℕ) (last : Option ℕ) (signal : ℕ) (es : List Event) → most < begun → latest old most (kept begun last signal es) ≡ old
-latest-later old most begun last signal [] later = refl
-latest-later old most begun last signal (At time ∷ es) later =
-    either (is_last last time) old most (kept begun last signal es) (kept (suc begun) (Some time) signal es) (latest-later old most begun last signal es later) (latest-later old most (suc begun) (Some time) signal es (omega arith))
-latest-later old most begun last signal (Change other value ∷ es) later =
-    by_later (eqb other signal) old most begun value (kept begun last signal es) (lt-leb begun most later) (latest-later old most begun last signal es later)
+latest-later : (old : Option (List ℕ)) (most samples : ℕ) (last : Option ℕ) (signal : ℕ) (es : List Event) → most < samples → latest old most (kept samples last signal es) ≡ old
+latest-later old most samples last signal [] later = refl
+latest-later old most samples last signal (At time ∷ es) later =
+    either (is_last last time) old most (kept samples last signal es) (kept (suc samples) (Some time) signal es) (latest-later old most samples last signal es later) (latest-later old most (suc samples) (Some time) signal es (omega arith))
+latest-later old most samples last signal (Gets other value ∷ es) later =
+    by_later (eqb other signal) old most samples value (kept samples last signal es) (lt-leb samples most later) (latest-later old most samples last signal es later)
 
 -- a time that is higher than one not lower than the last is not the last
 not_last : (last : Option ℕ) (time other : ℕ) → IsUpto last time → time < other → is_last last other ≡ false
 not_last None time other upto higher = refl
 not_last (Some l) time other upto higher = ne_eqb l other (λ same. omega (arith, upto, higher, same))
 
-by_time : (higher same : Bool) (old : Option (List ℕ)) (begun signal other n m : ℕ) (before : List Event) (xs ys : List Kept) → (higher ≡ true → same ≡ false) → (higher ≡ true → latest old begun ys ≡ old) →
-    (higher ≡ false → same ≡ true → last_change old signal before ≡ latest old (begun + m) xs) → (higher ≡ false → last_change old signal before ≡ latest old (suc begun + n) ys) →
-    last_change old signal (cond higher [] (At other ∷ before)) ≡ latest old (begun + cond higher 0 (cond same m (suc n))) (cond same xs ys)
-by_time true true old begun signal other n m before xs ys differ later equal next = absurd (let no : true ≡ false = differ refl in cc)
-by_time true false old begun signal other n m before xs ys differ later equal next = sym (later refl) ∙ ap (λ (k : ℕ). latest old k ys) (omega arith)
-by_time false true old begun signal other n m before xs ys differ later equal next = equal refl refl
-by_time false false old begun signal other n m before xs ys differ later equal next = next refl ∙ ap (λ (k : ℕ). latest old k ys) (omega arith)
+by_time : (higher same : Bool) (old : Option (List ℕ)) (samples signal other n m : ℕ) (before : List Event) (xs ys : List Kept) → (higher ≡ true → same ≡ false) → (higher ≡ true → latest old samples ys ≡ old) →
+    (higher ≡ false → same ≡ true → last_change old signal before ≡ latest old (samples + m) xs) → (higher ≡ false → last_change old signal before ≡ latest old (suc samples + n) ys) →
+    last_change old signal (cond higher [] (At other ∷ before)) ≡ latest old (samples + cond higher 0 (cond same m (suc n))) (cond same xs ys)
+by_time true true old samples signal other n m before xs ys differ later equal next = absurd (let no : true ≡ false = differ refl in cc)
+by_time true false old samples signal other n m before xs ys differ later equal next = sym (later refl) ∙ ap (λ (k : ℕ). latest old k ys) (omega arith)
+by_time false true old samples signal other n m before xs ys differ later equal next = equal refl refl
+by_time false false old samples signal other n m before xs ys differ later equal next = next refl ∙ ap (λ (k : ℕ). latest old k ys) (omega arith)
 
-by_change : (is : Bool) (old : Option (List ℕ)) (begun most signal : ℕ) (value : List ℕ) (before : List Event) (xs : List Kept) → begun ≤ most →
-    ((o : Option (List ℕ)) → last_change o signal before ≡ latest o most xs) → last_change (cond is (Some value) old) signal before ≡ latest old most (cond is (record { begun = begun; value = value } ∷ xs) xs)
-by_change true old begun most signal value before xs low same = same (Some value) ∙ ap (λ (o : Option (List ℕ)). latest o most xs) (sym (cond-true (nat_le begun most) (Some value) old (le-leb begun most low)))
-by_change false old begun most signal value before xs low same = same old
+by_change : (is : Bool) (old : Option (List ℕ)) (samples most signal : ℕ) (value : List ℕ) (before : List Event) (xs : List Kept) → samples ≤ most →
+    ((o : Option (List ℕ)) → last_change o signal before ≡ latest o most xs) → last_change (cond is (Some value) old) signal before ≡ latest old most (cond is (record { sample = samples; value = value } ∷ xs) xs)
+by_change true old samples most signal value before xs low same = same (Some value) ∙ ap (λ (o : Option (List ℕ)). latest o most xs) (sym (cond-true (nat_le samples most) (Some value) old (le-leb samples most low)))
+by_change false old samples most signal value before xs low same = same old
 
 -- the last change before the next higher time is the latest of those kept
-pub last_change-kept : (old : Option (List ℕ)) (time begun : ℕ) (last : Option ℕ) (signal : ℕ) (es : List Event) → IsUpto last time →
-    last_change old signal (before_higher time es) ≡ latest old (begun + times_upto last time es) (kept begun last signal es)
-last_change-kept old time begun last signal [] upto = refl
-last_change-kept old time begun last signal (At other ∷ es) upto =
-    by_time (nat_lt time other) (is_last last other) old begun signal other (times_upto (Some other) time es) (times_upto last time es) (before_higher time es) (kept begun last signal es) (kept (suc begun) (Some other) signal es)
+pub last_change-kept : (old : Option (List ℕ)) (time samples : ℕ) (last : Option ℕ) (signal : ℕ) (es : List Event) → IsUpto last time →
+    last_change old signal (before_higher time es) ≡ latest old (samples + times_upto last time es) (kept samples last signal es)
+last_change-kept old time samples last signal [] upto = refl
+last_change-kept old time samples last signal (At other ∷ es) upto =
+    by_time (nat_lt time other) (is_last last other) old samples signal other (times_upto (Some other) time es) (times_upto last time es) (before_higher time es) (kept samples last signal es) (kept (suc samples) (Some other) signal es)
     (λ higher. not_last last time other upto (ltb-true time other higher))
-    (λ higher. latest-later old begun (suc begun) (Some other) signal es (omega arith))
-    (λ low same. last_change-kept old time begun last signal es upto)
-    (λ low. last_change-kept old time (suc begun) (Some other) signal es (ltb-false time other low))
-last_change-kept old time begun last signal (Change other value ∷ es) upto =
-    by_change (eqb other signal) old begun (begun + times_upto last time es) signal value (before_higher time es) (kept begun last signal es) (omega arith) (λ o. last_change-kept o time begun last signal es upto)
+    (λ higher. latest-later old samples (suc samples) (Some other) signal es (omega arith))
+    (λ low same. last_change-kept old time samples last signal es upto)
+    (λ low. last_change-kept old time (suc samples) (Some other) signal es (ltb-false time other low))
+last_change-kept old time samples last signal (Gets other value ∷ es) upto =
+    by_change (eqb other signal) old samples (samples + times_upto last time es) signal value (before_higher time es) (kept samples last signal es) (omega arith) (λ o. last_change-kept o time samples last signal es upto)
 
 -- two tests, the second where the first fails
 pub both : (a b : Bool) → cond a false b ≡ true → (a ≡ false) × (b ≡ true)
@@ -91,7 +91,7 @@ by_lower false false last other n m is equal low none =
 -- where times do not fall, none of them is at or below the last, other than itself
 none_upto : (last : ℕ) (es : List Event) → never_fall (Some last) es ≡ true → times_upto (Some last) last es ≡ 0
 none_upto last [] steady = refl
-none_upto last (Change signal value ∷ es) steady = none_upto last es steady
+none_upto last (Gets signal value ∷ es) steady = none_upto last es steady
 none_upto last (At other ∷ es) steady =
     let parts = both (nat_lt other last) (never_fall (Some other) es) steady in
     by_lower (nat_lt last other) (eqb last other) last other (times_upto (Some last) last es) (times_upto (Some other) last es) refl refl parts.0
@@ -110,7 +110,7 @@ by_listed false last other k before times equal low old new in_range =
 -- the times after a last one are higher
 above_last : (last : ℕ) (es : List Event) (k : ℕ) → never_fall (Some last) es ≡ true → k < length (times_after (Some last) es) → last < get_or (times_after (Some last) es) k 0
 above_last last [] k steady in_range = absurd (omega arith)
-above_last last (Change signal value ∷ es) k steady in_range = above_last last es k steady in_range
+above_last last (Gets signal value ∷ es) k steady in_range = above_last last es k steady in_range
 above_last last (At other ∷ es) k steady in_range =
     let parts = both (nat_lt other last) (never_fall (Some other) es) steady in
     by_listed (eqb last other) last other k (times_after (Some last) es) (times_after (Some other) es) refl parts.0
@@ -142,7 +142,7 @@ by_counted false other k before times old new again none each next in_range = up
 -- the time at a place of the list has so many times up to it
 pub times_upto-get_or : (last : Option ℕ) (es : List Event) (k : ℕ) → never_fall last es ≡ true → k < length (times_after last es) → times_upto last (get_or (times_after last es) k 0) es ≡ suc k
 times_upto-get_or last [] k steady in_range = absurd (omega arith)
-times_upto-get_or last (Change signal value ∷ es) k steady in_range = times_upto-get_or last es k steady in_range
+times_upto-get_or last (Gets signal value ∷ es) k steady in_range = times_upto-get_or last es k steady in_range
 times_upto-get_or last (At other ∷ es) k steady in_range =
     let parts = both (falls last other) (never_fall (Some other) es) steady in
     by_counted (is_last last other) other k (times_after last es) (times_after (Some other) es) (λ x. times_upto last x es) (λ x. times_upto (Some other) x es)

@@ -3,6 +3,7 @@ use Rattle.std.specs.Prelude.{ℕ, ◌-◌, nat_lt, Bool, true, false, ◌||◌,
 use Rattle.std.specs.List.{flat_map}
 use Rattle.std.specs.Str.{bytes_eq}
 use Rattle.psl_tree.specs.declared.name.Name.{Name}
+use Rattle.vcd_reader.specs.declared.definitions.TheConstants.{MOST_BITS, MOST_SIZE}
 use Rattle.vcd_reader.specs.declared.signal.Declaration.{Declaration}
 use Rattle.vcd_reader.specs.declared.signal.Signal.{Signal}
 use Rattle.vcd_reader.specs.Labels.{place_of}
@@ -21,10 +22,10 @@ nothing_declared = record { codes = []; signals = []; names = []; scopes = [] }
 
 -- how many bits one signal has at most, and all signals together
 abbrev pub size_most : ℕ
-size_most = 1_000_000
+size_most = MOST_SIZE
 
 abbrev pub bits_most : ℕ
-bits_most = 1_000_000
+bits_most = MOST_BITS
 
 -- a type whose values are not read
 abbrev pub is_unread_type : List ℕ → Bool

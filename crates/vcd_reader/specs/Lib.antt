@@ -1,4 +1,4 @@
-pub mod Decimal
+pub mod Changes
 pub mod Declarations
 pub mod Events
 pub mod Faults
@@ -13,7 +13,5 @@ pub mod Running
 pub mod Sampled
 pub mod Shapes
 pub mod Short
-pub mod Shots
 pub mod Standing
 pub mod Told
-pub mod Tokens

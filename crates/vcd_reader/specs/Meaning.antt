@@ -1,52 +1,45 @@
 -- What the bytes of a file say: a recording, or the first fault.
-use Rattle.std.specs.Prelude.{ℕ, cond, List, [], ◌∷◌, ◌++◌, map, length, Option, None, Some, Result, Ok, Err}
+use Rattle.std.specs.Prelude.{ℕ, Bool, cond, List, [], ◌∷◌, ◌++◌, map, length, Option, None, Some, Result, Ok, Err}
 use Rattle.std.specs.List.{range_with_len}
-use Rattle.std.specs.Option.{option_to_list}
+use Rattle.std.specs.Option.{option_map, option_or, option_to_list}
 use Rattle.psl_base.specs.Places.{place_at}
+use Rattle.psl_base.specs.Tokens.{PlacedToken, tokens}
 use Rattle.psl_base.specs.declared.place.Place.{Place}
 use Rattle.psl_tree.specs.declared.name.Name.{Name}
 use Rattle.vcd_reader.specs.declared.fault.VcdFault.{VcdFault}
-use Rattle.vcd_reader.specs.declared.fault.VcdFault.TheVariants as fault
-use Rattle.vcd_reader.specs.declared.stop.Rule.{Rule}
-use Rattle.vcd_reader.specs.declared.stop.Rule.TheVariants as rule
-use Rattle.vcd_reader.specs.declared.stop.Stop.{Stop}
-use Rattle.vcd_reader.specs.declared.stop.Stop.TheVariants.{Ends, Faulty}
+use Rattle.vcd_reader.specs.declared.fault.VcdFault.TheVariants.{EndsInside}
 use Rattle.vcd_reader.specs.Events.{Event, value_at, times_of}
 use Rattle.vcd_reader.specs.Rules.{rule_at, may_end}
 use Rattle.vcd_reader.specs.Sampled.{Sampled}
 use Rattle.vcd_reader.specs.Standing.{Standing, standing_by, event_of}
-use Rattle.vcd_reader.specs.Tokens.{Token, tokens}
 
--- the fault of a token, by the tokens before it
-abbrev pub rule_after : Standing → Token → Option Rule
+-- the fault of a token, which wants its place, by what the tokens before it say
+abbrev pub rule_after : Standing → PlacedToken → Option (Place → VcdFault)
 rule_after standing t = rule_at standing.declared standing.part standing.opened t.text
 
-abbrev pub fault_at : List Token → Token → Option Rule
-fault_at before t = rule_after (standing_by before) t
+-- the fault of a token, by the tokens before it
+abbrev pub fault_at : List PlacedToken → PlacedToken → Option VcdFault
+fault_at before t = option_map (λ fault. fault t.place) (rule_after (standing_by before) t)
 
--- the end counts as a last token, which has no fault but to come too early
-abbrev pub end_after : Standing → Option Stop
-end_after standing = cond (may_end standing.part standing.opened) None (Some Ends)
+-- whether a text may end behind some tokens
+abbrev pub may_end_after : List PlacedToken → Bool
+may_end_after before = may_end (standing_by before).part (standing_by before).opened
 
-abbrev pub fault_at_end : List Token → Option Stop
-fault_at_end before = end_after (standing_by before)
+-- the end of a text counts as a last token, which has no fault but to come too early
+abbrev pub fault_at_end : Place → Bool → Option VcdFault
+fault_at_end end may = cond may None (Some (EndsInside end))
 
--- a token's fault, or else a later one
-abbrev pub or_later : Option Rule → ℕ → Option Stop → Option Stop
-or_later None at later = later
-or_later (Some broken) at later = Some (Faulty at broken)
-
--- the first fault of tokens that stand behind others
-abbrev pub first_fault : List Token → List Token → Option Stop
-first_fault before [] = fault_at_end before
-first_fault before (t ∷ ts) = or_later (fault_at before t) t.at (first_fault (before ++ t ∷ []) ts)
+-- the first fault of tokens that stand behind others, in a text that ends at a place
+abbrev pub first_fault : Place → List PlacedToken → List PlacedToken → Option VcdFault
+first_fault end before [] = fault_at_end end (may_end_after before)
+first_fault end before (t ∷ ts) = option_or (fault_at before t) (first_fault end (before ++ t ∷ []) ts)
 
 -- the event that a token says, by what the tokens before it say
-abbrev pub event_after : Standing → Token → Option Event
+abbrev pub event_after : Standing → PlacedToken → Option Event
 event_after standing t = event_of standing.declared standing.part standing.opened t.text
 
 -- the events that tokens say which stand behind others
-abbrev pub events_after : List Token → List Token → List Event
+abbrev pub events_after : List PlacedToken → List PlacedToken → List Event
 events_after before [] = []
 events_after before (t ∷ ts) = option_to_list (event_after (standing_by before) t) ++ events_after (before ++ t ∷ []) ts
 
@@ -60,16 +53,12 @@ abbrev pub dump_of : Standing → List Event → Dump
 dump_of standing events = record { names = standing.declared.names; signals = length standing.declared.codes; events = events }
 
 -- what the tokens say
-abbrev pub dump_by : List Token → Dump
+abbrev pub dump_by : List PlacedToken → Dump
 dump_by ts = dump_of (standing_by ts) (events_after [] ts)
 
 abbrev pub unless : {A B : Type 0} → Option B → A → Result A B
 unless None value = Ok value
 unless (Some failed) value = Err failed
-
--- what tokens say, or their first fault
-abbrev pub said_by : List Token → Result Dump Stop
-said_by ts = unless (first_fault [] ts) (dump_by ts)
 
 -- one sample for each distinct time that is listed, in order, and at it of each signal its last change
 -- before the next higher time
@@ -79,30 +68,10 @@ sampled_of dump = record {
   samples = map (λ time. map (λ signal. value_at dump.events signal time) (range_with_len 0 dump.signals)) (times_of dump.events);
 }
 
--- a fault with its place
-abbrev pub fault_with : Rule → Place → VcdFault
-fault_with rule.UnknownKeyword place = fault.UnknownKeyword place
-fault_with rule.MissingEnd place = fault.MissingEnd place
-fault_with rule.BadVar place = fault.BadVar place
-fault_with rule.CodeSizeDiffers place = fault.CodeSizeDiffers place
-fault_with rule.ScopeNotOpen place = fault.ScopeNotOpen place
-fault_with rule.BadTime place = fault.BadTime place
-fault_with rule.TimeFalls place = fault.TimeFalls place
-fault_with rule.CodeNotDeclared place = fault.CodeNotDeclared place
-fault_with rule.BadValue place = fault.BadValue place
-fault_with rule.VectorTooLong place = fault.VectorTooLong place
-fault_with rule.ChangeBeforeDefinitionsEnd place = fault.ChangeBeforeDefinitionsEnd place
-fault_with rule.TooManySamples place = fault.TooManySamples place
-fault_with rule.TooManySignals place = fault.TooManySignals place
-
-abbrev pub fault_told : List ℕ → Stop → VcdFault
-fault_told bytes Ends = fault.EndsInside (place_at bytes (length bytes))
-fault_told bytes (Faulty at broken) = fault_with broken (place_at bytes at)
-
-abbrev pub sampled_by : List ℕ → Result Dump Stop → Result Sampled VcdFault
-sampled_by bytes (Ok dump) = Ok (sampled_of dump)
-sampled_by bytes (Err stop) = Err (fault_told bytes stop)
+-- the place of a text's end
+abbrev pub end_of : List ℕ → Place
+end_of bytes = place_at bytes (length bytes)
 
 -- what the bytes of a file say: a recording, or its first fault
 abbrev pub reading : List ℕ → Result Sampled VcdFault
-reading bytes = sampled_by bytes (said_by (tokens bytes))
+reading bytes = unless (first_fault (end_of bytes) [] (tokens bytes)) (sampled_of (dump_by (tokens bytes)))

@@ -1,12 +1,14 @@
 -- The range of indices at the end of a reference (IEEE 1364, clause 18.2.3.7).
-use Rattle.std.specs.Prelude.{ℕ, ◌+◌, ◌-◌, ◌^◌, ◌==◌, ◌&&◌, nat_lt, cond, List, [], ◌∷◌, length, take, drop, slice_index, Option, None, Some}
+use Rattle.std.specs.Prelude.{ℕ, ◌+◌, ◌-◌, ◌==◌, ◌&&◌, nat_lt, cond, List, [], ◌∷◌, length, take, drop, slice_index, Option, None, Some}
 use Rattle.std.specs.List.{position_from}
 use Rattle.std.specs.Option.{option_map, option_and_then}
-use Rattle.vcd_reader.specs.Decimal.{decimal_upto}
+use Rattle.psl_base.specs.Decimals.{decimal_upto}
+use Rattle.psl_tree.specs.Ranges.{index_count}
+use Rattle.vcd_reader.specs.declared.ranges.TheConstants.{MOST_INDEX}
 
 -- the highest index
 abbrev pub index_most : ℕ
-index_most = 2 ^ 31 - 1
+index_most = MOST_INDEX
 
 -- the place of the last `[` of a text, before which so many bytes stand, or an older one
 abbrev pub last_bracket : Option ℕ → ℕ → List ℕ → Option ℕ
@@ -31,10 +33,6 @@ indices_of text =
 -- the range `[m:l]` at a text's end, and where it begins: numbers have no `[`, so it is the last one
 abbrev pub range_at_end : List ℕ → Option (ℕ × (ℕ × ℕ))
 range_at_end text = option_and_then (λ at. option_map (λ range. (at, range)) (indices_of (drop (at + 1) text))) (last_bracket None 0 text)
-
--- how many indices there are from one to another
-abbrev pub index_count : ℕ → ℕ → ℕ
-index_count left right = (left - right) + (right - left) + 1
 
 -- what a reference says: the text without its range, and the range
 pub record Reference : Type 0 where

@@ -1,10 +1,12 @@
--- The faults of a recording, each a test of a token and of what the tokens before it say (IEEE 1364,
+-- The faults of a recording's text, each a test of a token and of what the tokens before it say (IEEE 1364,
 -- clause 18.2). Of several at one token the one that stands first in this file is named.
 use Rattle.std.specs.Prelude.{ℕ, nat_lt, nat_le, ◌==◌, Bool, true, false, not, ◌&&◌, ◌||◌, cond, List, [], ◌∷◌, length, drop, Option, None, Some, is_none}
+use Rattle.psl_base.specs.declared.place.Place.{Place}
 use Rattle.vcd_reader.specs.declared.shape.Shape.{Shape}
 use Rattle.vcd_reader.specs.declared.shape.Shape.TheVariants.{End, Header, Scope, Upscope, Var, EndDefinitions, Dump, Unknown, Time, Vector, Unread, Scalar, Other}
-use Rattle.vcd_reader.specs.declared.stop.Rule.{Rule}
-use Rattle.vcd_reader.specs.declared.stop.Rule.TheVariants.{UnknownKeyword, MissingEnd, BadVar, CodeSizeDiffers, ScopeNotOpen, BadTime, TimeFalls, CodeNotDeclared, BadValue, VectorTooLong, ChangeBeforeDefinitionsEnd, TooManySamples, TooManySignals}
+use Rattle.vcd_reader.specs.declared.body.TheConstants.{SAMPLE_LIMIT}
+use Rattle.vcd_reader.specs.declared.fault.VcdFault.{VcdFault}
+use Rattle.vcd_reader.specs.declared.fault.VcdFault.TheVariants.{UnknownKeyword, MissingEnd, BadVar, CodeSizeDiffers, ScopeNotOpen, BadTime, TimeFalls, CodeNotDeclared, BadValue, VectorTooLong, ChangeBeforeDefinitionsEnd, TooManySamples, TooManySignals}
 use Rattle.vcd_reader.specs.Declarations.{Declared, is_size, of_signal, declared_with, bits_of, bits_most}
 use Rattle.vcd_reader.specs.Events.{is_last, falls}
 use Rattle.vcd_reader.specs.Labels.{is_code, place_of, is_new}
@@ -13,7 +15,7 @@ use Rattle.vcd_reader.specs.Standing.{Told, Part, Defining, Telling, Open, Ready
 
 -- how many samples a recording has at most
 abbrev pub sample_limit : ℕ
-sample_limit = 1_000_000
+sample_limit = SAMPLE_LIMIT
 
 -- UnknownKeyword: begins with `$` where a section or a change is wanted, and is none that may stand in
 -- that part. A word that begins a block is another fault in the definitions.
@@ -148,7 +150,7 @@ is_early part opened text = false
 -- TooManySamples: a time that would begin a sample past the limit
 abbrev pub is_past_samples : Told → Option ℕ → Bool
 is_past_samples told None = false
-is_past_samples told (Some time) = not (is_last told.last time) && nat_le sample_limit told.begun
+is_past_samples told (Some time) = not (is_last told.last time) && nat_le sample_limit told.samples
 
 abbrev pub begins_too_many : Part → Open → List ℕ → Bool
 begins_too_many (Telling told) Ready text = of_time (is_past_samples told) (shape_of text) text
@@ -159,8 +161,8 @@ abbrev pub declares_too_many : Declared → Open → List ℕ → Bool
 declares_too_many declared (InReference variable joined) text = is_end text && nat_lt bits_most (bits_of (declared_with declared variable joined).signals)
 declares_too_many declared opened text = false
 
--- the first fault of a token, where it has one
-abbrev pub rule_at : Declared → Part → Open → List ℕ → Option Rule
+-- the first fault of a token, where it has one: it wants its place
+abbrev pub rule_at : Declared → Part → Open → List ℕ → Option (Place → VcdFault)
 rule_at declared part opened text =
     cond (is_unknown_keyword part opened text) (Some UnknownKeyword)
     (cond (is_missing_end part opened text) (Some MissingEnd)

@@ -1,100 +1,97 @@
 -- A recording, read token by token from what was read before: what the code is proved against. That this
 -- is what the definitions say is the law of the reading.
-use Rattle.std.specs.Prelude.{◌≡◌, ℕ, Bool, true, false, nat_lt, cond, List, [], ◌∷◌, ◌++◌, length, replicate, slice_index_or, slice_set, drop, Option, None, Some, Result, Ok, Err}
+use Rattle.std.specs.Prelude.{◌≡◌, ◌⊎◌, ℕ, Bool, true, false, nat_lt, cond, List, [], ◌∷◌, ◌++◌, length, replicate, slice_index_or, slice_set, drop, Option, None, Some, Result, Ok, Err}
+use Rattle.psl_base.specs.Tokens.{PlacedToken, TokensLeft}
+use Rattle.psl_base.specs.declared.place.Place.{Place}
+use Rattle.vcd_reader.specs.declared.changes.Change.{Change}
+use Rattle.vcd_reader.specs.declared.fault.VcdFault.{VcdFault}
+use Rattle.vcd_reader.specs.declared.fault.VcdFault.TheVariants.{EndsInside, TooManySignals, NoMemory}
 use Rattle.vcd_reader.specs.declared.shape.Shape.{Shape}
 use Rattle.vcd_reader.specs.declared.shape.Shape.TheVariants.{Scalar}
-use Rattle.vcd_reader.specs.declared.stop.Halt.{Halt}
-use Rattle.vcd_reader.specs.declared.stop.Halt.TheVariants.{NoMemory, Stopped}
-use Rattle.vcd_reader.specs.declared.stop.Rule.{Rule}
-use Rattle.vcd_reader.specs.declared.stop.Rule.TheVariants.{TooManySignals}
-use Rattle.vcd_reader.specs.declared.stop.Stop.{Stop}
-use Rattle.vcd_reader.specs.declared.stop.Stop.TheVariants.{Ends, Faulty}
-use Rattle.vcd_reader.specs.declared.track.Shot.{Shot}
 use Rattle.vcd_reader.specs.Declarations.{Declared, signal_at, bits_of, bits_most}
 use Rattle.vcd_reader.specs.Labels.{place_of}
 use Rattle.vcd_reader.specs.Rules.{rule_at, may_end}
 use Rattle.vcd_reader.specs.Shapes.{shape_of}
 use Rattle.vcd_reader.specs.Standing.{Told, nothing_told, Part, Defining, Telling, Open, Ready, WantsScopeType, WantsScopeName, WantsScopeEnd, WantsUpscopeEnd, WantsDefinitionsEnd, WantsType, WantsReference, WantsVectorCode, declared_after, part_after, opened_after}
-use Rattle.vcd_reader.specs.Tokens.{Token}
 
 -- what is kept of the body: what was told, and of each signal its changes
 pub record Held : Type 0 where
   pub told : Told
-  pub tracks : List (List Shot)
+  pub changes : List (List Change)
 
 -- nothing yet of so many signals
 abbrev pub nothing_held : ℕ → Held
-nothing_held signals = record { told = nothing_told; tracks = replicate signals [] }
+nothing_held signals = record { told = nothing_told; changes = replicate signals [] }
 
 -- the changes with one more of a signal
-abbrev pub with_shot : List (List Shot) → ℕ → Shot → List (List Shot)
-with_shot tracks signal shot = slice_set tracks signal (slice_index_or tracks signal [] ++ shot ∷ [])
+abbrev pub with_change : List (List Change) → ℕ → Change → List (List Change)
+with_change changes signal change = slice_set changes signal (slice_index_or changes signal [] ++ change ∷ [])
 
 -- the changes after one of a code's signal, where that is read
-abbrev pub tracks_with : Declared → List (List Shot) → Shot → Option ℕ → List (List Shot)
-tracks_with declared tracks shot None = tracks
-tracks_with declared tracks shot (Some number) = cond (signal_at declared number).unread tracks (with_shot tracks number shot)
+abbrev pub changes_with : Declared → List (List Change) → Change → Option ℕ → List (List Change)
+changes_with declared changes change None = changes
+changes_with declared changes change (Some number) = cond (signal_at declared number).unread changes (with_change changes number change)
 
-abbrev pub tracks_by : Declared → Told → List (List Shot) → Shape → ℕ → List ℕ → List (List Shot)
-tracks_by declared told tracks Scalar at text = tracks_with declared tracks (record { begun = told.begun; start = at; len = 1 }) (place_of declared.codes (drop 1 text))
-tracks_by declared told tracks shape at text = tracks
+abbrev pub changes_by : Declared → Told → List (List Change) → Shape → ℕ → List ℕ → List (List Change)
+changes_by declared told changes Scalar at text = changes_with declared changes (record { sample = told.samples; start = at; len = 1 }) (place_of declared.codes (drop 1 text))
+changes_by declared told changes shape at text = changes
 
 -- the changes of each signal after a token
-abbrev pub tracks_after : Declared → Part → List (List Shot) → Open → ℕ → List ℕ → List (List Shot)
-tracks_after declared Defining tracks WantsDefinitionsEnd at text = replicate (length declared.codes) []
-tracks_after declared (Telling told) tracks Ready at text = tracks_by declared told tracks (shape_of text) at text
-tracks_after declared (Telling told) tracks (WantsVectorCode start value) at text =
-    tracks_with declared tracks (record { begun = told.begun; start = start; len = length value }) (place_of declared.codes text)
-tracks_after declared part tracks opened at text = tracks
+abbrev pub changes_after : Declared → Part → List (List Change) → Open → ℕ → List ℕ → List (List Change)
+changes_after declared Defining changes WantsDefinitionsEnd at text = replicate (length declared.codes) []
+changes_after declared (Telling told) changes Ready at text = changes_by declared told changes (shape_of text) at text
+changes_after declared (Telling told) changes (WantsVectorCode start value) at text =
+    changes_with declared changes (record { sample = told.samples; start = start; len = length value }) (place_of declared.codes text)
+changes_after declared part changes opened at text = changes
 
 -- what is known after the last token
 pub record Outcome : Type 0 where
   pub declared : Declared
   pub part : Part
-  pub tracks : List (List Shot)
+  pub changes : List (List Change)
 
-abbrev pub go_on : {A : Type 0} → Option Rule → ℕ → Result A Stop → Result A Stop
-go_on None at rest = rest
-go_on (Some broken) at rest = Err (Faulty at broken)
+-- a token's fault, raised at its place, or else what comes later
+abbrev pub raised : {A : Type 0} → Option (Place → VcdFault) → Place → Result A VcdFault → Result A VcdFault
+raised None place later = later
+raised (Some fault) place later = Err (fault place)
 
--- what tokens say, from what was read before
-abbrev pub run : Declared → Part → List (List Shot) → Open → List Token → Result Outcome Stop
-run declared part tracks opened [] = cond (may_end part opened) (Ok (record { declared = declared; part = part; tracks = tracks })) (Err Ends)
-run declared part tracks opened (t ∷ ts) =
-    go_on (rule_at declared part opened t.text) t.at
-    (run (declared_after declared part opened t.text) (part_after part opened t.text) (tracks_after declared part tracks opened t.at t.text) (opened_after opened t.at t.text) ts)
+-- what tokens say, from what was read before; the text ends at a place
+abbrev pub run_to : Place → Declared → Part → List (List Change) → Open → List PlacedToken → Result Outcome VcdFault
+run_to end declared part changes opened [] =
+    cond (may_end part opened) (Ok (record { declared = declared; part = part; changes = changes })) (Err (EndsInside end))
+run_to end declared part changes opened (t ∷ ts) =
+    raised (rule_at declared part opened t.text) t.place
+    (run_to end (declared_after declared part opened t.text) (part_after part opened t.text) (changes_after declared part changes opened t.at t.text) (opened_after opened t.at t.text) ts)
+
+-- what the tokens say that are left
+abbrev pub run : Declared → Part → List (List Change) → Open → TokensLeft → Result Outcome VcdFault
+run declared part changes opened left = run_to left.end declared part changes opened left.tokens
 
 -- the definitions, from what is open there
-abbrev pub defining : Declared → Open → List Token → Result Outcome Stop
-defining declared opened ts = run declared Defining [] opened ts
+abbrev pub defining : Declared → Open → TokensLeft → Result Outcome VcdFault
+defining declared opened left = run declared Defining [] opened left
 
 -- the body, from what is open there
-abbrev pub telling : Declared → Held → Open → List Token → Result Outcome Stop
-telling declared held opened ts = run declared (Telling held.told) held.tracks opened ts
+abbrev pub telling : Declared → Held → Open → TokensLeft → Result Outcome VcdFault
+telling declared held opened left = run declared (Telling held.told) held.changes opened left
 
--- where a reading halts, the tokens have this fault; want of memory may come at any time
-abbrev pub Halts : Halt → Result Outcome Stop → Type 0
-Halts NoMemory said = Unit {0}
-Halts (Stopped stop) said = said ≡ Err stop
-
--- the same of a part that takes no memory
-abbrev pub Stops : Halt → Result Outcome Stop → Type 0
-Stops NoMemory said = ⊥
-Stops (Stopped stop) said = said ≡ Err stop
+-- where a reading ends with a fault, the tokens have it; want of memory may come at any time
+abbrev pub Halts : VcdFault → Result Outcome VcdFault → Type 0
+Halts fault said = (fault ≡ NoMemory) ⊎ (said ≡ Err fault)
 
 -- what is read from here is what is read from there
-abbrev pub Goes : {A : Type 0} → Result A Halt → Result Outcome Stop → Result Outcome Stop → Type 0
+abbrev pub Goes : {A : Type 0} → Result A VcdFault → Result Outcome VcdFault → Result Outcome VcdFault → Type 0
 Goes (Ok value) before after = before ≡ after
-Goes (Err halt) before after = Halts halt before
+Goes (Err fault) before after = Halts fault before
 
-abbrev pub GoesOn : {A : Type 0} → Result A Halt → Result Outcome Stop → Result Outcome Stop → Type 0
+-- the same of a part that takes no memory
+abbrev pub GoesOn : {A : Type 0} → Result A VcdFault → Result Outcome VcdFault → Result Outcome VcdFault → Type 0
 GoesOn (Ok value) before after = before ≡ after
-GoesOn (Err halt) before after = Stops halt before
+GoesOn (Err fault) before after = before ≡ Err fault
 
--- where a `$var` is refused, the bits of all codes pass the limit with it
-abbrev pub PassesBits : ℕ → Declared → Halt → Type 0
-PassesBits at declared NoMemory = Unit {0}
-PassesBits at declared (Stopped stop) = (stop ≡ Faulty at TooManySignals) × (nat_lt bits_most (bits_of declared.signals) ≡ true)
+-- where a `$var` that ends at a place is refused, the bits of all codes pass the limit with it
+abbrev pub PassesBits : Place → Declared → VcdFault → Type 0
+PassesBits place declared fault = (fault ≡ NoMemory) ⊎ ((fault ≡ TooManySignals place) × (nat_lt bits_most (bits_of declared.signals) ≡ true))
 
 -- a section wants a token there that is not `$end`
 abbrev pub wants_part : Open → Bool

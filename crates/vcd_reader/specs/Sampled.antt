@@ -1,12 +1,11 @@
 -- A recording as values at samples, and the letters that it stands for.
-use Rattle.std.specs.Prelude.{ℕ, ◌-◌, ◌==◌, nat_lt, Bool as Truth, false, not, ◌&&◌, ◌||◌, cond, List, [], ◌∷◌, map, length, slice_index, slice_index_or, filter, Option, None, Some}
-use Rattle.std.specs.List.{range_with_len, flat_map}
+use Rattle.std.specs.Prelude.{ℕ, ◌-◌, ◌==◌, nat_lt, Bool as Truth, false, ◌||◌, cond, List, [], map, length, slice_index, slice_index_or, Option, None, Some}
+use Rattle.std.specs.List.{range_with_len}
+use Rattle.psl_tree.specs.Letters as letters
 use Rattle.psl_tree.specs.declared.atom.Atom.{Atom}
-use Rattle.psl_tree.specs.declared.atom.Edge.{Edge}
-use Rattle.psl_tree.specs.declared.atom.Edge.TheVariants.{Value, Rise, Fall}
 use Rattle.psl_tree.specs.declared.letter.Letter.{Letter}
-use Rattle.psl_tree.specs.declared.letter.Letter.TheVariants.{Holds}
 use Rattle.psl_tree.specs.declared.name.Name.{Name}
+pub use Rattle.psl_tree.specs.Letters.{atoms_of_bit, atoms_of_name, atoms_of}
 pub use Rattle.psl_tree.specs.Names.{indices, AtomInRange, AreAlike}
 
 -- what contracts see of a recording
@@ -40,34 +39,13 @@ value_in recording sample signal = slice_index_or (slice_index_or recording.samp
 abbrev pub bit_at : Sampled → ℕ → ℕ → ℕ → Truth
 bit_at recording sample signal bit = bit_of (value_in recording sample signal) bit
 
--- whether the bit is 1, or went from 0 to 1, or from 1 to 0; at the first sample no bit went anywhere
-abbrev pub edge_at : Edge → Sampled → ℕ → ℕ → ℕ → Truth
-edge_at Value recording sample signal bit = bit_at recording sample signal bit
-edge_at Rise recording sample signal bit =
-    nat_lt 0 sample && (not (bit_at recording (sample - 1) signal bit) && bit_at recording sample signal bit)
-edge_at Fall recording sample signal bit =
-    nat_lt 0 sample && (bit_at recording (sample - 1) signal bit && not (bit_at recording sample signal bit))
-
 -- whether an atom holds at a sample
 abbrev pub atom_at : Sampled → ℕ → Atom → Truth
-atom_at recording sample atom = edge_at atom.edge recording sample atom.signal atom.bit
-
--- what can be asked of a bit
-abbrev pub atoms_of_bit : ℕ → ℕ → List Atom
-atoms_of_bit signal bit =
-    record { signal = signal; bit = bit; edge = Value } ∷ record { signal = signal; bit = bit; edge = Rise } ∷ record { signal = signal; bit = bit; edge = Fall } ∷ []
-
--- what can be asked of the bits of a name
-abbrev pub atoms_of_name : Name → List Atom
-atoms_of_name name = flat_map (atoms_of_bit name.signal) (range_with_len 0 (indices name))
-
--- all atoms of the names
-abbrev pub atoms_of : List Name → List Atom
-atoms_of names = flat_map atoms_of_name names
+atom_at recording sample atom = letters.atom_at (bit_at recording) sample atom
 
 -- the letter of a sample: the atoms that hold there
 abbrev pub letter_at : Sampled → ℕ → Letter
-letter_at recording sample = Holds (filter (atom_at recording sample) (atoms_of recording.names))
+letter_at recording sample = letters.letter_at (bit_at recording) recording.names sample
 
 -- the word that a recording stands for: one letter for each sample, in order
 abbrev pub letters_of : Sampled → List Letter

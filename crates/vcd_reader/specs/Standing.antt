@@ -3,23 +3,23 @@
 use Rattle.std.specs.Prelude.{ℕ, ◌+◌, ◌-◌, ◌^◌, Bool, true, false, cond, List, ◌++◌, take, drop, Option, None, Some, unwrap_or}
 use Rattle.std.specs.List.{fold}
 use Rattle.std.specs.Option.{option_map}
+use Rattle.psl_base.specs.Decimals.{decimal_upto}
+use Rattle.psl_base.specs.Tokens.{PlacedToken}
 use Rattle.vcd_reader.specs.declared.shape.Shape.{Shape}
 use Rattle.vcd_reader.specs.declared.shape.Shape.TheVariants.{End, Comment, Header, Scope, Upscope, Var, EndDefinitions, Dump, Unknown, Time, Vector, Unread, Scalar, Other}
-use Rattle.vcd_reader.specs.Decimal.{decimal_upto}
 use Rattle.vcd_reader.specs.Declarations.{Declared, Variable, nothing_declared, declared_with, with_scope, without_scope, signal_at, is_unread_type, size_most}
-use Rattle.vcd_reader.specs.Events.{Event, At, Change, is_last}
+use Rattle.vcd_reader.specs.Events.{Event, At, Gets, is_last}
 use Rattle.vcd_reader.specs.Labels.{place_of}
 use Rattle.vcd_reader.specs.Shapes.{shape_of, is_end}
-use Rattle.vcd_reader.specs.Tokens.{Token}
 
 -- the last time, how many samples were begun, and whether a block of changes is open
 pub record Told : Type 0 where
   pub last : Option ℕ
-  pub begun : ℕ
+  pub samples : ℕ
   pub in_block : Bool
 
 abbrev pub nothing_told : Told
-nothing_told = record { last = None; begun = 0; in_block = false }
+nothing_told = record { last = None; samples = 0; in_block = false }
 
 -- the part of the text: the definitions, or the body and what it told
 pub data Part : Type 0 where
@@ -103,7 +103,7 @@ declared_after declared (Telling told) opened text = declared
 -- a time more: one that equals the last begins no sample
 abbrev pub told_time : Told → Option ℕ → Told
 told_time told None = told
-told_time told (Some time) = record told { last = Some time; begun = cond (is_last told.last time) told.begun (told.begun + 1) }
+told_time told (Some time) = record told { last = Some time; samples = cond (is_last told.last time) told.samples (told.samples + 1) }
 
 abbrev pub told_by : Told → Shape → List ℕ → Told
 told_by told Time text = told_time told (time_of text)
@@ -120,7 +120,7 @@ part_after part opened text = part
 -- a change of a code's signal, where that is read
 abbrev pub change_of : Declared → List ℕ → Option ℕ → Option Event
 change_of declared value None = None
-change_of declared value (Some number) = cond (signal_at declared number).unread None (Some (Change number value))
+change_of declared value (Some number) = cond (signal_at declared number).unread None (Some (Gets number value))
 
 abbrev pub told_event : Declared → Shape → List ℕ → Option Event
 told_event declared Time text = option_map At (time_of text)
@@ -142,7 +142,7 @@ pub record Standing : Type 0 where
 abbrev pub at_first : Standing
 at_first = record { declared = nothing_declared; part = Defining; opened = Ready }
 
-abbrev pub standing_after : Standing → Token → Standing
+abbrev pub standing_after : Standing → PlacedToken → Standing
 standing_after standing t = record {
   declared = declared_after standing.declared standing.part standing.opened t.text;
   part = part_after standing.part standing.opened t.text;
@@ -150,5 +150,5 @@ standing_after standing t = record {
 }
 
 -- what some tokens say, from the first one on
-abbrev pub standing_by : List Token → Standing
+abbrev pub standing_by : List PlacedToken → Standing
 standing_by tokens = fold standing_after at_first tokens

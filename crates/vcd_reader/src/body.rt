@@ -1,20 +1,18 @@
 ghost use Rattle.std.specs.Prelude.{◌≡◌, List, ◌+◌, ◌<◌, ◌≤◌, ◌^◌, ◌∷◌, drop, length, Some, Ok, OnOk, IfOk, IfErr};
-ghost use Rattle.psl_base.specs.Places.{file_limit};
+ghost use Rattle.psl_base.specs.Tokens.{TokensLeft, ◌▸◌};
 ghost use Rattle.vcd_reader.specs.Declarations.{Declared};
 ghost use Rattle.vcd_reader.specs.Events.{is_last, falls};
 ghost use Rattle.vcd_reader.specs.Rules.{sample_limit};
-ghost use Rattle.vcd_reader.specs.Running.{Held, telling, nothing_held, tracks_with, Goes, GoesOn, Halts};
+ghost use Rattle.vcd_reader.specs.Running.{Held, telling, nothing_held, changes_with, Goes, GoesOn, Halts};
 ghost use Rattle.vcd_reader.specs.Shapes.{shape_of};
 ghost use Rattle.vcd_reader.specs.Standing.{Ready, Telling, WantsUnreadCode, WantsVectorCode};
-ghost use Rattle.vcd_reader.specs.Tokens.{Token, token_of};
 
-use crate::decimal::decimal;
+use crate::VcdFault;
+use crate::changes::{Change, Changes};
 use crate::definitions::Definitions;
 use crate::sections::{comment, wanted};
 use crate::shape::{Shape, shape_of};
-use crate::stop::{Halt, Rule, Stop};
-use crate::tokens::{Tokens, Word};
-use crate::track::{Shot, Track};
+use psl_base::{Cursor, NoMemory, Token, decimal};
 use std::alloc::Global;
 use std::marker::Model;
 
@@ -25,9 +23,9 @@ pub const SAMPLE_LIMIT: u32 = 1_000_000;
 #[derive(Drop)]
 pub struct Body {
     last: Option<u64>,
-    begun: u32,
+    samples: u32,
     in_block: bool,
-    tracks: Vec<Track>,
+    changes: Vec<Changes>,
 }
 
 impl Model for Body {
@@ -37,166 +35,174 @@ impl Model for Body {
 
     ghost Value = { Held };
 
-    ghost view = { λ body. record { told = record { last = body.last; begun = body.begun; in_block = body.in_block }; tracks = body.tracks.items } };
+    ghost view = { λ body. record { told = record { last = body.last; samples = body.samples; in_block = body.in_block }; changes = body.changes.items } };
 
-    ghost invariant = { λ body. (body.begun ≤ sample_limit) × All (λ track. All (λ shot. shot.begun ≤ body.begun) track) body.tracks.items };
+    ghost invariant = { λ body. (body.samples ≤ sample_limit) × All (λ list. All (λ change. change.sample ≤ body.samples) list) body.changes.items };
 }
 
 impl Body {
     /// What the tokens say, which stand after the definitions.
-    pub fn read(alloc: Global, found: &Definitions, tokens: &mut Tokens) -> Result<Body, Halt>
-        ensures ok { IfOk result (λ body. telling found.now (nothing_held (length found.now.codes)) Ready tokens.old ≡ Ok (record { declared = found.now; part = Telling body.told; tracks = body.tracks })) }
-        ensures err { IfErr result (λ halt. Halts halt (telling found.now (nothing_held (length found.now.codes)) Ready tokens.old)) }
+    pub fn read(alloc: Global, found: &Definitions, cursor: &mut Cursor) -> Result<Body, VcdFault>
+        ensures ok { IfOk result (λ body. telling found.now (nothing_held (length found.now.codes)) Ready cursor.old ≡ Ok (record { declared = found.now; part = Telling body.told; changes = body.changes })) }
+        ensures err { IfErr result (λ fault. Halts fault (telling found.now (nothing_held (length found.now.codes)) Ready cursor.old)) }
     {
-        let mut body = Body::new(alloc, found.len(), tokens.room())?;
-        while let Some(word) = tokens.next() {
-            body.take(found, word, tokens)?;
+        let mut body = Body::new(alloc, found.len(), cursor.room())?;
+        while let Some(token) = cursor.next() {
+            body.take(found, &token, cursor)?;
         }
         if body.in_block {
-            return Err(Halt::Stopped(Stop::Ends));
+            return Err(VcdFault::EndsInside(cursor.end()));
         }
         Ok(body)
     }
 
     /// The changes of each signal, and how many samples were begun.
-    pub fn into_parts(self) -> (Vec<Track>, u32)
-        ensures tracks { result.0.items ≡ self.tracks }
-        ensures samples { result.1 ≡ self.told.begun }
+    pub fn into_parts(self) -> (Vec<Changes>, u32)
+        ensures changes { result.0.items ≡ self.changes }
+        ensures samples { result.1 ≡ self.told.samples }
     {
-        let Body { tracks, begun, .. } = self;
-        (tracks, begun)
+        let Body {
+            changes,
+            samples,
+            ..
+        } = self;
+        (changes, samples)
     }
 
     /// Nothing yet of so many signals, of which so many bytes tell.
-    fn new(alloc: Global, signals: usize, bytes: usize) -> Result<Body, Halt>
-        ensures ok { IfOk result (λ body. body ≡ nothing_held signals) }
-        ensures err { IfErr result (λ halt. halt ≡ Halt.NoMemory) }
+    fn new(alloc: Global, signals: usize, bytes: usize) -> Result<Body, NoMemory>
+        ensures { IfOk result (λ body. body ≡ nothing_held signals) }
     {
-        let mut tracks = Vec::new(alloc);
-        let changes = changes_expected(signals, bytes);
+        let mut changes = Vec::new(alloc);
+        let room = changes_expected(signals, bytes);
         for _ in 0..signals {
-            if tracks.push(Track::with_room(alloc, changes)).is_err() {
-                return Err(Halt::NoMemory);
-            }
+            changes.push(Changes::with_room(alloc, room))?;
         }
         Ok(Body {
             last: None,
-            begun: 0,
+            samples: 0,
             in_block: false,
-            tracks,
+            changes,
         })
     }
 
     /// Reads what begins with a token: a time, a change, a comment, or a bound of a block.
-    fn take(&mut self, found: &Definitions, word: Word, tokens: &mut Tokens) -> Result<(), Halt>
-        requires signals { length self.old.tracks ≡ length found.now.codes }
-        requires place { word.at + length word.text.now ≤ file_limit }
-        ensures goes { Goes result (telling found.now self.old Ready (token_of word.entry ∷ tokens.old)) (telling found.now self.new Ready tokens.new) }
-        ensures tracks { length self.new.tracks ≡ length self.old.tracks }
-        ensures fewer { OnOk result (length tokens.new ≤ length tokens.old) }
+    fn take(
+        &mut self,
+        found: &Definitions,
+        token: &Token,
+        cursor: &mut Cursor,
+    ) -> Result<(), VcdFault>
+        requires signals { length self.old.changes ≡ length found.now.codes }
+        ensures goes { Goes result (telling found.now self.old Ready (token.now ▸ cursor.old)) (telling found.now self.new Ready cursor.new) }
+        ensures changes { length self.new.changes ≡ length self.old.changes }
+        ensures fewer { OnOk result (length cursor.new.tokens ≤ length cursor.old.tokens) }
     {
-        match shape_of(word.text) {
-            Shape::Scalar => self.scalar(found, word),
-            Shape::Vector => self.vector(found, word, tokens),
-            Shape::Time => self.time(word),
-            Shape::Unread => unread(found, tokens),
-            Shape::Comment => comment(tokens),
-            Shape::Dump => self.begin_block(word),
-            Shape::End => self.end_block(word),
-            Shape::Other => Err(Halt::at(word.at, Rule::BadValue)),
+        match shape_of(token.text()) {
+            Shape::Scalar => self.scalar(found, token),
+            Shape::Vector => self.vector(found, token, cursor),
+            Shape::Time => self.time(token),
+            Shape::Unread => unread(found, cursor),
+            Shape::Comment => comment(cursor),
+            Shape::Dump => self.begin_block(token),
+            Shape::End => self.end_block(token),
+            Shape::Other => Err(VcdFault::BadValue(token.place())),
             Shape::Unknown
             | Shape::Header
             | Shape::Scope
             | Shape::Upscope
             | Shape::Var
-            | Shape::EndDefinitions => Err(Halt::at(word.at, Rule::UnknownKeyword)),
+            | Shape::EndDefinitions => Err(VcdFault::UnknownKeyword(token.place())),
         }
     }
 
     /// A word that begins a block of changes.
-    fn begin_block(&mut self, word: Word) -> Result<(), Halt>
-        requires { shape_of word.text.now ≡ Shape.Dump }
-        ensures goes { (d : Declared) (tokens : List Token) → GoesOn result (telling d self.old Ready (token_of word.entry ∷ tokens)) (telling d self.new Ready tokens) }
-        ensures tracks { self.new.tracks ≡ self.old.tracks }
+    fn begin_block(&mut self, token: &Token) -> Result<(), VcdFault>
+        requires { shape_of token.now.text ≡ Shape.Dump }
+        ensures goes { (d : Declared) (left : TokensLeft) → GoesOn result (telling d self.old Ready (token.now ▸ left)) (telling d self.new Ready left) }
+        ensures changes { self.new.changes ≡ self.old.changes }
     {
         if self.in_block {
-            return Err(Halt::at(word.at, Rule::MissingEnd));
+            return Err(VcdFault::MissingEnd(token.place()));
         }
         self.in_block = true;
         Ok(())
     }
 
     /// The end of a block of changes.
-    fn end_block(&mut self, word: Word) -> Result<(), Halt>
-        requires { shape_of word.text.now ≡ Shape.End }
-        ensures goes { (d : Declared) (tokens : List Token) → GoesOn result (telling d self.old Ready (token_of word.entry ∷ tokens)) (telling d self.new Ready tokens) }
-        ensures tracks { self.new.tracks ≡ self.old.tracks }
+    fn end_block(&mut self, token: &Token) -> Result<(), VcdFault>
+        requires { shape_of token.now.text ≡ Shape.End }
+        ensures goes { (d : Declared) (left : TokensLeft) → GoesOn result (telling d self.old Ready (token.now ▸ left)) (telling d self.new Ready left) }
+        ensures changes { self.new.changes ≡ self.old.changes }
     {
         if !self.in_block {
-            return Err(Halt::at(word.at, Rule::UnknownKeyword));
+            return Err(VcdFault::UnknownKeyword(token.place()));
         }
         self.in_block = false;
         Ok(())
     }
 
     /// A time: a higher one than the last begins a sample.
-    fn time(&mut self, word: Word) -> Result<(), Halt>
-        requires { shape_of word.text.now ≡ Shape.Time }
-        ensures goes { (d : Declared) (tokens : List Token) → GoesOn result (telling d self.old Ready (token_of word.entry ∷ tokens)) (telling d self.new Ready tokens) }
-        ensures tracks { self.new.tracks ≡ self.old.tracks }
+    fn time(&mut self, token: &Token) -> Result<(), VcdFault>
+        requires { shape_of token.now.text ≡ Shape.Time }
+        ensures goes { (d : Declared) (left : TokensLeft) → GoesOn result (telling d self.old Ready (token.now ▸ left)) (telling d self.new Ready left) }
+        ensures changes { self.new.changes ≡ self.old.changes }
     {
         if self.in_block {
-            return Err(Halt::at(word.at, Rule::MissingEnd));
+            return Err(VcdFault::MissingEnd(token.place()));
         }
-        let Some(time) = decimal(u64::MAX, tail(word.text)) else {
-            return Err(Halt::at(word.at, Rule::BadTime));
+        let Some(time) = decimal(u64::MAX, tail(token.text())) else {
+            return Err(VcdFault::BadTime(token.place()));
         };
         if falls(self.last, time) {
-            return Err(Halt::at(word.at, Rule::TimeFalls));
+            return Err(VcdFault::TimeFalls(token.place()));
         }
         if same(self.last, time) {
             return Ok(());
         }
-        if self.begun >= SAMPLE_LIMIT {
-            return Err(Halt::at(word.at, Rule::TooManySamples));
+        if self.samples >= SAMPLE_LIMIT {
+            return Err(VcdFault::TooManySamples(token.place()));
         }
         self.last = Some(time);
-        self.begun += 1;
+        self.samples += 1;
         Ok(())
     }
 
     /// A change of one letter.
-    fn scalar(&mut self, found: &Definitions, word: Word) -> Result<(), Halt>
-        requires shape { shape_of word.text.now ≡ Shape.Scalar }
-        requires signals { length self.old.tracks ≡ length found.now.codes }
-        requires place { word.at < 2 ^ 32 }
-        ensures goes { (tokens : List Token) → Goes result (telling found.now self.old Ready (token_of word.entry ∷ tokens)) (telling found.now self.new Ready tokens) }
-        ensures tracks { length self.new.tracks ≡ length self.old.tracks }
+    fn scalar(&mut self, found: &Definitions, token: &Token) -> Result<(), VcdFault>
+        requires shape { shape_of token.now.text ≡ Shape.Scalar }
+        requires signals { length self.old.changes ≡ length found.now.codes }
+        ensures goes { (left : TokensLeft) → Goes result (telling found.now self.old Ready (token.now ▸ left)) (telling found.now self.new Ready left) }
+        ensures changes { length self.new.changes ≡ length self.old.changes }
     {
-        let Some(number) = found.find(tail(word.text)) else {
-            return Err(Halt::at(word.at, Rule::CodeNotDeclared));
+        let Some(number) = found.find(tail(token.text())) else {
+            return Err(VcdFault::CodeNotDeclared(token.place()));
         };
-        self.change(found, number, word.at, 1)
+        Ok(self.change(found, number, token.at(), 1)?)
     }
 
     /// A change of a vector, whose code is the next token.
-    fn vector(&mut self, found: &Definitions, word: Word, tokens: &mut Tokens) -> Result<(), Halt>
-        requires shape { shape_of word.text.now ≡ Shape.Vector }
-        requires signals { length self.old.tracks ≡ length found.now.codes }
-        requires place { word.at + length word.text.now ≤ file_limit }
-        ensures goes { Goes result (telling found.now self.old (WantsVectorCode (word.entry.at + 1) (drop 1 word.entry.text.now)) tokens.old) (telling found.now self.new Ready tokens.new) }
-        ensures tracks { length self.new.tracks ≡ length self.old.tracks }
-        ensures fewer { OnOk result (length tokens.new ≤ length tokens.old) }
+    fn vector(
+        &mut self,
+        found: &Definitions,
+        token: &Token,
+        cursor: &mut Cursor,
+    ) -> Result<(), VcdFault>
+        requires shape { shape_of token.now.text ≡ Shape.Vector }
+        requires signals { length self.old.changes ≡ length found.now.codes }
+        ensures goes { Goes result (telling found.now self.old (WantsVectorCode (token.now.at + 1) (drop 1 token.now.text)) cursor.old) (telling found.now self.new Ready cursor.new) }
+        ensures changes { length self.new.changes ≡ length self.old.changes }
+        ensures fewer { OnOk result (length cursor.new.tokens ≤ length cursor.old.tokens) }
     {
-        let code = wanted(tokens)?;
-        let Some(number) = found.find(code.text) else {
-            return Err(Halt::at(code.at, Rule::CodeNotDeclared));
+        let code = wanted(cursor)?;
+        let Some(number) = found.find(code.text()) else {
+            return Err(VcdFault::CodeNotDeclared(code.place()));
         };
-        let letters = tail(word.text);
+        let letters = tail(token.text());
         if found.narrower(number, letters.len()) {
-            return Err(Halt::at(code.at, Rule::VectorTooLong));
+            return Err(VcdFault::VectorTooLong(code.place()));
         }
-        self.change(found, number, word.at + 1, letters.len())
+        Ok(self.change(found, number, token.at() + 1, letters.len())?)
     }
 
     /// A change of a signal, whose letters stand there in the text. It counts where the signal is read.
@@ -206,26 +212,24 @@ impl Body {
         number: usize,
         start: usize,
         len: usize,
-    ) -> Result<(), Halt>
+    ) -> Result<(), NoMemory>
         requires within { number < length found.now.codes }
-        requires signals { length self.old.tracks ≡ length found.now.codes }
+        requires signals { length self.old.changes ≡ length found.now.codes }
         requires start { start < 2 ^ 32 }
         requires len { len < 2 ^ 32 }
-        ensures ok { OnOk result (self.new ≡ record self.old { tracks = tracks_with found.now self.old.tracks (record { begun = self.old.told.begun; start = start; len = len }) (Some number) }) }
-        ensures err { IfErr result (λ halt. halt ≡ Halt.NoMemory) }
-        ensures tracks { length self.new.tracks ≡ length self.old.tracks }
+        ensures ok { OnOk result (self.new ≡ record self.old { changes = changes_with found.now self.old.changes (record { sample = self.old.told.samples; start = start; len = len }) (Some number) }) }
+        ensures changes { length self.new.changes ≡ length self.old.changes }
     {
         if found.unread(number) {
             return Ok(());
         }
-        let shot = Shot {
-            begun: self.begun,
+        let change = Change {
+            sample: self.samples,
             start: start as u32,
             len: len as u32,
         };
-        let track = &mut self.tracks[number];
-        track.push(shot)?;
-        Ok(())
+        let changes = &mut self.changes[number];
+        changes.push(change)
     }
 }
 
@@ -239,13 +243,13 @@ fn changes_expected(signals: usize, bytes: usize) -> usize {
 }
 
 /// The code of a change that is not read.
-fn unread(found: &Definitions, tokens: &mut Tokens) -> Result<(), Halt>
-    ensures goes { (held : Held) → GoesOn result (telling found.now held WantsUnreadCode tokens.old) (telling found.now held Ready tokens.new) }
-    ensures fewer { OnOk result (length tokens.new ≤ length tokens.old) }
+fn unread(found: &Definitions, cursor: &mut Cursor) -> Result<(), VcdFault>
+    ensures goes { (held : Held) → GoesOn result (telling found.now held WantsUnreadCode cursor.old) (telling found.now held Ready cursor.new) }
+    ensures fewer { OnOk result (length cursor.new.tokens ≤ length cursor.old.tokens) }
 {
-    let code = wanted(tokens)?;
-    if found.find(code.text).is_none() {
-        return Err(Halt::at(code.at, Rule::CodeNotDeclared));
+    let code = wanted(cursor)?;
+    if found.find(code.text()).is_none() {
+        return Err(VcdFault::CodeNotDeclared(code.place()));
     }
     Ok(())
 }

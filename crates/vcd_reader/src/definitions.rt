@@ -1,35 +1,34 @@
 ghost use Rattle.std.specs.Prelude.{◌≡◌, ℕ, List, ◌+◌, ◌<◌, ◌≤◌, ◌^◌, ◌∷◌, ◌==◌, ◌&&◌, not, true, false, nat_lt, length, cond, Some, All, OnOk, IfOk, IfErr, IfSome};
 ghost use Rattle.psl_base.specs.Places.{file_limit};
+ghost use Rattle.psl_base.specs.Tokens.{◌▸◌};
 ghost use Rattle.vcd_reader.specs.Declarations.{Declared, Variable, variable_of, is_unread_type, is_size, of_signal, signal_at, nothing_declared, declared_with, with_signal, with_name, bits_of, bits_most};
 ghost use Rattle.vcd_reader.specs.Labels.{place_of, is_new, is_code};
-ghost use Rattle.vcd_reader.specs.Running.{defining, telling, nothing_held, Goes, Halts, Stops, PassesBits};
+ghost use Rattle.vcd_reader.specs.Running.{defining, telling, nothing_held, Goes, Halts, PassesBits};
 ghost use Rattle.vcd_reader.specs.Sampled.{AreAlike};
 ghost use Rattle.vcd_reader.specs.Shapes.{shape_of, is_end};
 ghost use Rattle.vcd_reader.specs.Standing.{Ready, WantsScopeType, WantsType, WantsSize, WantsCode, WantsReference, InReference};
-ghost use Rattle.vcd_reader.specs.Tokens.{Token};
 
-use crate::decimal::decimal;
+use crate::VcdFault;
+use crate::codes::CodeTable;
 use crate::names::name;
 use crate::sections::{comment, end, part, wanted};
 use crate::shape::{self, Shape, shape_of};
 use crate::signal::{Declaration, Signal};
-use crate::stop::{Halt, Rule};
-use crate::texts::Distinct;
-use crate::tokens::Tokens;
+use psl_base::{Cursor, NoMemory, Token, decimal};
 use psl_tree::Names;
 use std::alloc::Global;
 use std::marker::Model;
 
 /// How many bits all signals have together at most.
-const BITS: u64 = 1_000_000;
+const MOST_BITS: u64 = 1_000_000;
 
 /// How many bits one signal has at most.
-const SIZE: u64 = 1_000_000;
+const MOST_SIZE: u64 = 1_000_000;
 
 /// What the definitions of a recording declare.
 #[derive(Drop)]
 pub struct Definitions<'a> {
-    codes: Distinct<'a>,
+    codes: CodeTable<'a>,
     signals: Vec<Signal>,
     names: Names,
     scopes: Vec<&'a [u8]>,
@@ -50,14 +49,14 @@ impl<'a> Model for Definitions<'a> {
 
 impl<'a> Definitions<'a> {
     /// What the tokens declare, up to the end of the definitions. The tokens after it are left.
-    pub fn read(alloc: Global, tokens: &mut Tokens<'a>) -> Result<Definitions<'a>, Halt>
-        requires { length tokens.old ≤ file_limit }
-        ensures ok { IfOk result (λ found. defining nothing_declared Ready tokens.old ≡ telling found (nothing_held (length found.codes)) Ready tokens.new) }
-        ensures err { IfErr result (λ halt. Halts halt (defining nothing_declared Ready tokens.old)) }
+    pub fn read(alloc: Global, cursor: &mut Cursor<'a>) -> Result<Definitions<'a>, VcdFault>
+        requires { length cursor.old.tokens ≤ file_limit }
+        ensures ok { IfOk result (λ found. defining nothing_declared Ready cursor.old ≡ telling found (nothing_held (length found.codes)) Ready cursor.new) }
+        ensures err { IfErr result (λ fault. Halts fault (defining nothing_declared Ready cursor.old)) }
     {
         let mut found = Definitions::new(alloc)?;
         loop {
-            let ended = found.section(alloc, tokens)?;
+            let ended = found.section(alloc, cursor)?;
             if ended {
                 return Ok(found);
             }
@@ -65,13 +64,11 @@ impl<'a> Definitions<'a> {
     }
 
     /// Nothing is declared yet.
-    fn new(alloc: Global) -> Result<Definitions<'a>, Halt>
-        ensures ok { IfOk result (λ found. found ≡ nothing_declared) }
-        ensures err { IfErr result (λ halt. halt ≡ Halt.NoMemory) }
+    fn new(alloc: Global) -> Result<Definitions<'a>, NoMemory>
+        ensures { IfOk result (λ found. found ≡ nothing_declared) }
     {
-        let codes = Distinct::new(alloc)?;
         Ok(Definitions {
-            codes,
+            codes: CodeTable::new(alloc)?,
             signals: Vec::new(alloc),
             names: Names::new(alloc),
             scopes: Vec::new(alloc),
@@ -122,101 +119,100 @@ impl<'a> Definitions<'a> {
     }
 
     /// Reads one section, and tells whether it is the end of the definitions.
-    fn section(&mut self, alloc: Global, tokens: &mut Tokens<'a>) -> Result<bool, Halt>
-        requires { length self.old.codes + length tokens.old ≤ file_limit }
-        ensures ok { IfOk result (λ ended. defining self.old Ready tokens.old ≡ cond ended (telling self.new (nothing_held (length self.new.codes)) Ready tokens.new) (defining self.new Ready tokens.new)) }
-        ensures err { IfErr result (λ halt. Halts halt (defining self.old Ready tokens.old)) }
-        ensures fewer { OnOk result (length tokens.new < length tokens.old) }
-        ensures room { OnOk result (length self.new.codes + length tokens.new ≤ length self.old.codes + length tokens.old) }
+    fn section(&mut self, alloc: Global, cursor: &mut Cursor<'a>) -> Result<bool, VcdFault>
+        requires { length self.old.codes + length cursor.old.tokens ≤ file_limit }
+        ensures ok { IfOk result (λ ended. defining self.old Ready cursor.old ≡ cond ended (telling self.new (nothing_held (length self.new.codes)) Ready cursor.new) (defining self.new Ready cursor.new)) }
+        ensures err { IfErr result (λ fault. Halts fault (defining self.old Ready cursor.old)) }
+        ensures fewer { OnOk result (length cursor.new.tokens < length cursor.old.tokens) }
+        ensures room { OnOk result (length self.new.codes + length cursor.new.tokens ≤ length self.old.codes + length cursor.old.tokens) }
     {
-        let word = wanted(tokens)?;
-        match shape_of(word.text) {
-            Shape::Comment | Shape::Header => comment(tokens)?,
-            Shape::Scope => self.scope(tokens)?,
-            Shape::Upscope => self.upscope(word.at, tokens)?,
-            Shape::Var => self.variable(alloc, tokens)?,
+        let token = wanted(cursor)?;
+        match shape_of(token.text()) {
+            Shape::Comment | Shape::Header => comment(cursor)?,
+            Shape::Scope => self.scope(cursor)?,
+            Shape::Upscope => self.upscope(&token, cursor)?,
+            Shape::Var => self.variable(alloc, cursor)?,
             Shape::EndDefinitions => {
-                end(tokens)?;
+                end(cursor)?;
                 return Ok(true);
             }
             Shape::End | Shape::Unknown => {
-                return Err(Halt::at(word.at, Rule::UnknownKeyword));
+                return Err(VcdFault::UnknownKeyword(token.place()));
             }
             Shape::Dump
             | Shape::Time
             | Shape::Vector
             | Shape::Unread
             | Shape::Scalar
-            | Shape::Other => return Err(Halt::at(word.at, Rule::ChangeBeforeDefinitionsEnd)),
+            | Shape::Other => return Err(VcdFault::ChangeBeforeDefinitionsEnd(token.place())),
         }
         Ok(false)
     }
 
     /// Reads the rest of a `$scope`.
-    fn scope(&mut self, tokens: &mut Tokens<'a>) -> Result<(), Halt>
-        ensures goes { Goes result (defining self.old WantsScopeType tokens.old) (defining self.new Ready tokens.new) }
-        ensures fewer { OnOk result (length tokens.new < length tokens.old) }
+    fn scope(&mut self, cursor: &mut Cursor<'a>) -> Result<(), VcdFault>
+        ensures goes { Goes result (defining self.old WantsScopeType cursor.old) (defining self.new Ready cursor.new) }
+        ensures fewer { OnOk result (length cursor.new.tokens < length cursor.old.tokens) }
         ensures codes { self.new.codes ≡ self.old.codes }
     {
-        part(tokens)?;
-        let name = part(tokens)?;
-        end(tokens)?;
-        if self.scopes.push(name.text).is_err() {
-            return Err(Halt::NoMemory);
-        }
+        part(cursor)?;
+        let name = part(cursor)?;
+        end(cursor)?;
+        self.scopes.push(name.text())?;
         Ok(())
     }
 
-    /// Reads the rest of an `$upscope`, which stands behind so many bytes.
-    fn upscope(&mut self, at: usize, tokens: &mut Tokens<'a>) -> Result<(), Halt>
-        ensures goes { (text : List ℕ) → shape_of text ≡ Shape.Upscope → Goes result (defining self.old Ready (record { at = at; text = text } ∷ tokens.old)) (defining self.new Ready tokens.new) }
-        ensures fewer { OnOk result (length tokens.new < length tokens.old) }
+    /// Reads the rest of an `$upscope`.
+    fn upscope(&mut self, upscope: &Token, cursor: &mut Cursor<'a>) -> Result<(), VcdFault>
+        requires { shape_of upscope.now.text ≡ Shape.Upscope }
+        ensures goes { Goes result (defining self.old Ready (upscope.now ▸ cursor.old)) (defining self.new Ready cursor.new) }
+        ensures fewer { OnOk result (length cursor.new.tokens < length cursor.old.tokens) }
         ensures codes { self.new.codes ≡ self.old.codes }
     {
         let depth = self.scopes.len();
         if depth == 0 {
-            return Err(Halt::at(at, Rule::ScopeNotOpen));
+            return Err(VcdFault::ScopeNotOpen(upscope.place()));
         }
-        end(tokens)?;
+        end(cursor)?;
         self.scopes.truncate(depth - 1);
         Ok(())
     }
 
     /// Reads the rest of a `$var`.
-    fn variable(&mut self, alloc: Global, tokens: &mut Tokens<'a>) -> Result<(), Halt>
+    fn variable(&mut self, alloc: Global, cursor: &mut Cursor<'a>) -> Result<(), VcdFault>
         requires { length self.old.codes ≤ file_limit }
-        ensures goes { Goes result (defining self.old WantsType tokens.old) (defining self.new Ready tokens.new) }
-        ensures fewer { OnOk result (length tokens.new < length tokens.old) }
+        ensures goes { Goes result (defining self.old WantsType cursor.old) (defining self.new Ready cursor.new) }
+        ensures fewer { OnOk result (length cursor.new.tokens < length cursor.old.tokens) }
         ensures codes { OnOk result (length self.new.codes ≤ length self.old.codes + 1) }
     {
-        let kind = part(tokens)?;
-        let unread = unread_type(kind.text);
-        let size = size(unread, tokens)?;
-        let code = self.code(unread, size, tokens)?;
-        let (text, at) = joined(alloc, tokens)?;
+        let kind = part(cursor)?;
+        let unread = unread_type(kind.text());
+        let size = size(unread, cursor)?;
+        let code = self.code(unread, size, cursor)?;
+        let (text, end) = joined(alloc, cursor)?;
         self.declare(
             alloc,
             Declaration { unread, size, code },
             text.as_slice(),
-            at,
+            &end,
         )
     }
 
     /// The code of a `$var` with this size.
-    fn code(&self, unread: bool, size: u32, tokens: &mut Tokens<'a>) -> Result<&'a [u8], Halt>
-        ensures ok { IfOk result (λ code. defining self.now (WantsCode unread size) tokens.old ≡ defining self.now (WantsReference (record { unread = unread; size = size; code = code.now })) tokens.new) }
+    fn code(&self, unread: bool, size: u32, cursor: &mut Cursor<'a>) -> Result<&'a [u8], VcdFault>
+        ensures ok { IfOk result (λ code. defining self.now (WantsCode unread size) cursor.old ≡ defining self.now (WantsReference (record { unread = unread; size = size; code = code.now })) cursor.new) }
         ensures same { IfOk result (λ code. of_signal (λ signal. not (signal.size == size)) self.now (place_of self.now.codes code.now) ≡ false) }
-        ensures err { IfErr result (λ halt. Stops halt (defining self.now (WantsCode unread size) tokens.old)) }
-        ensures fewer { OnOk result (length tokens.new < length tokens.old) }
+        ensures err { IfErr result (λ fault. defining self.now (WantsCode unread size) cursor.old ≡ Err fault) }
+        ensures fewer { OnOk result (length cursor.new.tokens < length cursor.old.tokens) }
     {
-        let word = wanted(tokens)?;
-        if shape::end(word.text) || !code(word.text) {
-            return Err(Halt::at(word.at, Rule::BadVar));
+        let token = wanted(cursor)?;
+        if shape::end(token.text()) || !code(token.text()) {
+            return Err(VcdFault::BadVar(token.place()));
         }
-        if self.differs(word.text, size) {
-            return Err(Halt::at(word.at, Rule::CodeSizeDiffers));
+        if self.differs(token.text(), size) {
+            return Err(VcdFault::CodeSizeDiffers(token.place()));
         }
-        Ok(word.text)
+        Ok(token.text())
     }
 
     /// Whether a code is declared with another size.
@@ -229,67 +225,64 @@ impl<'a> Definitions<'a> {
         }
     }
 
-    /// A `$var` more, whose `$end` stands behind so many bytes.
+    /// A `$var` more, which ends with this `$end`.
     fn declare(
         &mut self,
         alloc: Global,
         declaration: Declaration<'a>,
         text: &[u8],
-        at: usize,
-    ) -> Result<(), Halt>
+        end: &Token,
+    ) -> Result<(), VcdFault>
         requires few { length self.old.codes ≤ file_limit }
         requires size { is_size declaration.unread (Some declaration.size) ≡ true }
         requires same { of_signal (λ signal. not (signal.size == declaration.size)) self.old (place_of self.old.codes declaration.code.now) ≡ false }
         ensures ok { OnOk result (self.new ≡ declared_with self.old (variable_of declaration.entry) text.now) }
         ensures bits { OnOk result (nat_lt bits_most (bits_of self.new.signals) ≡ false) }
-        ensures err { IfErr result (λ halt. PassesBits at (declared_with self.old (variable_of declaration.entry) text.now) halt) }
+        ensures err { IfErr result (PassesBits end.now.place (declared_with self.old (variable_of declaration.entry) text.now)) }
     {
         match self.codes.find(declaration.code) {
-            Some(number) => self.name(alloc, number, declaration.size, text),
+            Some(number) => Ok(self.name(alloc, number, declaration.size, text)?),
             None => {
                 let number = self.codes.len();
-                self.signal(declaration, at)?;
-                self.name(alloc, number, declaration.size, text)
+                self.signal(declaration, end)?;
+                Ok(self.name(alloc, number, declaration.size, text)?)
             }
         }
     }
 
     /// A signal more, of a new code.
-    fn signal(&mut self, declaration: Declaration<'a>, at: usize) -> Result<(), Halt>
+    fn signal(&mut self, declaration: Declaration<'a>, end: &Token) -> Result<(), VcdFault>
         requires new { is_new self.old.codes declaration.code.now ≡ true }
         requires few { length self.old.codes ≤ file_limit }
         requires size { is_size declaration.unread (Some declaration.size) ≡ true }
         ensures ok { OnOk result (self.new ≡ with_signal self.old (variable_of declaration.entry)) }
-        ensures err { IfErr result (λ halt. PassesBits at (with_signal self.old (variable_of declaration.entry)) halt) }
+        ensures err { IfErr result (PassesBits end.now.place (with_signal self.old (variable_of declaration.entry))) }
     {
-        let bits = self.bits as u64 + declaration.size as u64;
-        if bits > BITS {
-            return Err(Halt::at(at, Rule::TooManySignals));
+        let bits = u64::from(self.bits) + u64::from(declaration.size);
+        if bits > MOST_BITS {
+            return Err(VcdFault::TooManySignals(end.place()));
         }
         let signal = Signal {
             size: declaration.size,
             unread: declaration.unread,
         };
         let number = self.signals.len();
-        if self.signals.push(signal).is_err() {
-            return Err(Halt::NoMemory);
-        }
+        self.signals.push(signal)?;
         if self.codes.add(declaration.code).is_err() {
             self.signals.truncate(number);
-            return Err(Halt::NoMemory);
+            return Err(VcdFault::NoMemory);
         }
         self.bits = bits as u32;
         Ok(())
     }
 
     /// A name more of a signal of this size, where that is read.
-    fn name(&mut self, alloc: Global, number: usize, size: u32, text: &[u8]) -> Result<(), Halt>
+    fn name(&mut self, alloc: Global, number: usize, size: u32, text: &[u8]) -> Result<(), NoMemory>
         requires within { number < length self.old.signals }
         requires few { number < 2 ^ 32 }
         requires size { (signal_at self.old number).size ≡ size }
         ensures ok { OnOk result (self.new ≡ with_name self.old number size text.now) }
         ensures bits { bits_of self.new.signals ≤ bits_most }
-        ensures err { IfErr result (λ halt. halt ≡ Halt.NoMemory) }
     {
         if self.signals[number].unread {
             return Ok(());
@@ -304,46 +297,47 @@ impl<'a> Definitions<'a> {
 fn unread_type(text: &[u8]) -> bool
     ensures { result ≡ is_unread_type text.now }
 {
-    text == "real".as_bytes() || text == "realtime".as_bytes() || text == "string".as_bytes()
+    shape::is(text, b"real") || shape::is(text, b"realtime") || shape::is(text, b"string")
 }
 
 /// Whether a text is made of bytes of a code.
 fn code(text: &[u8]) -> bool
     ensures { result ≡ is_code text.now }
 {
-    text.iter().all(|byte| *byte >= 33 && *byte <= 126)
+    text.iter().all(|byte| matches!(byte, b'!'..=b'~'))
 }
 
 /// The size of a `$var`.
-fn size(unread: bool, tokens: &mut Tokens) -> Result<u32, Halt>
-    ensures ok { IfOk result (λ size. (d : Declared) → defining d (WantsSize unread) tokens.old ≡ defining d (WantsCode unread size) tokens.new) }
+fn size(unread: bool, cursor: &mut Cursor) -> Result<u32, VcdFault>
+    ensures ok { IfOk result (λ size. (d : Declared) → defining d (WantsSize unread) cursor.old ≡ defining d (WantsCode unread size) cursor.new) }
     ensures is { IfOk result (λ size. is_size unread (Some size) ≡ true) }
-    ensures err { IfErr result (λ halt. (d : Declared) → Stops halt (defining d (WantsSize unread) tokens.old)) }
-    ensures fewer { OnOk result (length tokens.new < length tokens.old) }
+    ensures err { IfErr result (λ fault. (d : Declared) → defining d (WantsSize unread) cursor.old ≡ Err fault) }
+    ensures fewer { OnOk result (length cursor.new.tokens < length cursor.old.tokens) }
 {
-    let word = wanted(tokens)?;
-    let Some(size) = decimal(SIZE, word.text) else {
-        return Err(Halt::at(word.at, Rule::BadVar));
+    let token = wanted(cursor)?;
+    let Some(size) = decimal(MOST_SIZE, token.text()) else {
+        return Err(VcdFault::BadVar(token.place()));
     };
     if !unread && size == 0 {
-        return Err(Halt::at(word.at, Rule::BadVar));
+        return Err(VcdFault::BadVar(token.place()));
     }
     Ok(size as u32)
 }
 
-/// A reference, its tokens joined, and how many bytes stand before the `$end` behind it.
-fn joined(alloc: Global, tokens: &mut Tokens) -> Result<(Vec<u8>, usize), Halt>
-    ensures ok { IfOk result (λ found. (t : Token) × (t.at ≡ found.1) × (is_end t.text ≡ true) × ((d : Declared) (v : Variable) → defining d (WantsReference v) tokens.old ≡ defining d (InReference v found.0.items) (t ∷ tokens.new))) }
-    ensures err { IfErr result (λ halt. (d : Declared) (v : Variable) → Halts halt (defining d (WantsReference v) tokens.old)) }
-    ensures fewer { OnOk result (length tokens.new < length tokens.old) }
+/// A reference, its tokens joined, and the `$end` behind it.
+fn joined<'a>(alloc: Global, cursor: &mut Cursor<'a>) -> Result<(Vec<u8>, Token<'a>), VcdFault>
+    ensures ok { IfOk result (λ found. (d : Declared) (v : Variable) → defining d (WantsReference v) cursor.old ≡ defining d (InReference v found.0.items) (found.1 ▸ cursor.new)) }
+    ensures end { IfOk result (λ found. is_end found.1.text ≡ true) }
+    ensures err { IfErr result (λ fault. (d : Declared) (v : Variable) → Halts fault (defining d (WantsReference v) cursor.old)) }
+    ensures fewer { OnOk result (length cursor.new.tokens < length cursor.old.tokens) }
 {
-    let first = part(tokens)?;
-    let mut text = Vec::from_slice(alloc, first.text)?;
+    let first = part(cursor)?;
+    let mut text = Vec::from_slice(alloc, first.text())?;
     loop {
-        let word = wanted(tokens)?;
-        if shape::end(word.text) {
-            return Ok((text, word.at));
+        let token = wanted(cursor)?;
+        if shape::end(token.text()) {
+            return Ok((text, token));
         }
-        text.extend_from_slice(word.text)?;
+        text.extend_from_slice(token.text())?;
     }
 }

@@ -1,7 +1,7 @@
 ghost use Rattle.std.specs.Prelude.{◌≡◌};
 
 use psl_base::{NoMemory, Place, ReadAllFault};
-use std::alloc::AllocError;
+use std::alloc::{AllocError, AllocFailed};
 use thiserror::Error;
 
 /// Why a recording was not read. A fault of the text has the place of its token, and the end of the text counts
@@ -95,6 +95,16 @@ impl From<AllocError> for VcdFault {
     ghost from_gives = { λ _ fault. fault ≡ MemoryFault };
 
     fn from(_refused: AllocError) -> VcdFault {
+        VcdFault::NoMemory
+    }
+}
+
+impl<T: Drop> From<AllocFailed<T>> for VcdFault {
+    ghost use Rattle.vcd_reader.specs.declared.fault.VcdFault.TheVariants.{NoMemory as MemoryFault};
+
+    ghost from_gives = { λ _ fault. fault ≡ MemoryFault };
+
+    fn from(_refused: AllocFailed<T>) -> VcdFault {
         VcdFault::NoMemory
     }
 }

@@ -3,7 +3,8 @@
 #![tactic(auto)]
 
 mod body;
-mod decimal;
+mod changes;
+mod codes;
 mod definitions;
 mod fault;
 mod laws;
@@ -14,14 +15,8 @@ mod recording;
 mod sections;
 mod shape;
 mod signal;
-mod stop;
-#[cfg(test)]
-mod table;
 #[cfg(test)]
 mod tests;
-mod texts;
-mod tokens;
-mod track;
 
 pub use body::SAMPLE_LIMIT;
 pub use fault::VcdFault;

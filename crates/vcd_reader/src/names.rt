@@ -1,9 +1,8 @@
-ghost use Rattle.std.specs.Prelude.{◌≡◌, ◌<◌, map, IfOk, IfErr};
+ghost use Rattle.std.specs.Prelude.{◌≡◌, ◌<◌, map, IfOk};
 ghost use Rattle.vcd_reader.specs.Declarations.{path_of, name_of};
 
 use crate::ranges::reference;
-use crate::stop::Halt;
-use psl_base::Text;
+use psl_base::{NoMemory, Text, add_bytes};
 use psl_tree::Name;
 use std::alloc::Global;
 
@@ -14,10 +13,9 @@ pub fn name(
     signal: u32,
     size: u32,
     text: &[u8],
-) -> Result<Name, Halt>
+) -> Result<Name, NoMemory>
     requires { 0 < size }
-    ensures ok { IfOk result (λ name. name ≡ name_of (map (λ scope. scope.now) scopes.now) signal size text.now) }
-    ensures err { IfErr result (λ halt. halt ≡ Halt.NoMemory) }
+    ensures { IfOk result (λ name. name ≡ name_of (map (λ scope. scope.now) scopes.now) signal size text.now) }
 {
     let (len, range) = reference(text, size);
     let path = path(alloc, scopes, &text[..len])?;
@@ -30,17 +28,14 @@ pub fn name(
 }
 
 /// The scopes and a text, joined by dots.
-fn path(alloc: Global, scopes: &[&[u8]], text: &[u8]) -> Result<Vec<u8>, Halt>
-    ensures ok { IfOk result (λ path. path.items ≡ path_of (map (λ scope. scope.now) scopes.now) text.now) }
-    ensures err { IfErr result (λ halt. halt ≡ Halt.NoMemory) }
+fn path(alloc: Global, scopes: &[&[u8]], text: &[u8]) -> Result<Vec<u8>, NoMemory>
+    ensures { IfOk result (λ path. path.items ≡ path_of (map (λ scope. scope.now) scopes.now) text.now) }
 {
     let mut path = Vec::new(alloc);
     for scope in scopes {
-        path.extend_from_slice(scope)?;
-        if path.push(b'.').is_err() {
-            return Err(Halt::NoMemory);
-        }
+        add_bytes(&mut path, scope)?;
+        path.push(b'.')?;
     }
-    path.extend_from_slice(text)?;
+    add_bytes(&mut path, text)?;
     Ok(path)
 }

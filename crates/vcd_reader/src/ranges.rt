@@ -1,13 +1,14 @@
 ghost use Rattle.std.specs.Prelude.{◌≡◌, ◌+◌, ◌-◌, ◌<◌, ◌≤◌, ◌==◌, length, take, Some, None, IfSome};
 ghost use Rattle.std.specs.List.{position_from};
 ghost use Rattle.std.specs.Option.{option_map};
-ghost use Rattle.vcd_reader.specs.Decimal.{decimal_upto};
-ghost use Rattle.vcd_reader.specs.Ranges.{last_bracket, indices_of, index_before_end, range_at_end, reference_of, index_count, index_most};
+ghost use Rattle.psl_base.specs.Decimals.{decimal_upto};
+ghost use Rattle.psl_tree.specs.Ranges as ranges;
+ghost use Rattle.vcd_reader.specs.Ranges.{last_bracket, indices_of, index_before_end, range_at_end, reference_of, index_most};
 
-use crate::decimal::decimal;
+use psl_base::decimal;
 
 /// The highest index of a bit.
-const INDEX_MOST: u64 = 2_147_483_647;
+const MOST_INDEX: u64 = 2_147_483_647;
 
 /// A range of indices, from the leftmost bit to the rightmost one.
 #[derive(Clone, Copy)]
@@ -33,7 +34,7 @@ pub fn reference(text: &[u8], size: u32) -> (usize, Range)
     let Some(range) = indices(&text[at + 1..]) else {
         return (text.len(), whole);
     };
-    if count(range) == size {
+    if index_count(range) == size {
         (at, range)
     } else {
         (text.len(), whole)
@@ -41,10 +42,10 @@ pub fn reference(text: &[u8], size: u32) -> (usize, Range)
 }
 
 /// How many indices a range has.
-fn count(range: Range) -> u32
+fn index_count(range: Range) -> u32
     requires left { range.left ≤ index_most }
     requires right { range.right ≤ index_most }
-    ensures { result ≡ index_count range.left range.right }
+    ensures { result ≡ ranges.index_count range.left range.right }
 {
     if range.left < range.right {
         range.right - range.left + 1
@@ -107,8 +108,6 @@ fn index(text: &[u8]) -> Option<u32>
     ensures is { result ≡ decimal_upto index_most text.now }
     ensures within { IfSome result (λ index. index ≤ index_most) }
 {
-    match decimal(INDEX_MOST, text) {
-        None => None,
-        Some(index) => Some(index as u32),
-    }
+    let index = decimal(MOST_INDEX, text)?;
+    Some(index as u32)
 }

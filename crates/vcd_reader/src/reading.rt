@@ -1,17 +1,15 @@
 ghost use Rattle.std.specs.Prelude.{◌≡◌, ◌<◌, ◌≤◌, ◌^◌, length, None, Ok, IfOk, IfErr, IsErrOf};
 ghost use Rattle.psl_base.specs.Places.{file_limit};
 ghost use Rattle.psl_base.specs.Shelf.{OnlyReads, IsLonger, Tells, HasTaken, ReadingFails, SelectsNoOther};
-ghost use Rattle.vcd_reader.specs.Meaning.{reading, fault_with};
+ghost use Rattle.vcd_reader.specs.Meaning.{reading};
 ghost use Rattle.vcd_reader.specs.Rows.{rows_of, IsSound};
-ghost use Rattle.vcd_reader.specs.Told.{Says, IsFirstFault, IsReadFault, HaltsReading, HaltsWithin, fault_by};
+ghost use Rattle.vcd_reader.specs.Told.{Says, IsFirstFault, IsReadFault};
 
 use crate::body::Body;
+use crate::changes::Changes;
 use crate::definitions::Definitions;
-use crate::stop::{Halt, Rule, Stop};
-use crate::tokens::Tokens;
-use crate::track::Track;
 use crate::{Recording, VcdFault};
-use psl_base::{Bytes, FILE_LIMIT, Place, Shelf, place_of, read_all};
+use psl_base::{Bytes, Cursor, FILE_LIMIT, Shelf, read_all};
 use psl_tree::Names;
 use std::alloc::Global;
 
@@ -46,56 +44,20 @@ fn read_bytes(alloc: Global, bytes: Bytes) -> Result<Recording, VcdFault>
     ensures ok { IfOk result (λ recording. reading bytes ≡ Ok recording) }
     ensures err { IfErr result (λ fault. IsReadFault bytes fault) }
 {
-    match read_parts(alloc, bytes.as_slice()) {
-        Ok((names, tracks, samples)) => Ok(Recording::of(names, bytes, tracks, samples)),
-        Err(halt) => Err(fault_of(bytes.as_slice(), halt)),
-    }
+    let (names, changes, samples) = read_parts(alloc, bytes.as_slice())?;
+    Ok(Recording::of(names, bytes, changes, samples))
 }
 
 /// The names, the changes and the number of samples that the bytes say.
-fn read_parts(alloc: Global, bytes: &[u8]) -> Result<(Names, Vec<Track>, u32), Halt>
+fn read_parts(alloc: Global, bytes: &[u8]) -> Result<(Names, Vec<Changes>, u32), VcdFault>
     requires { length bytes.now ≤ file_limit }
     ensures ok { IfOk result (λ parts. reading bytes.now ≡ Ok (record { names = parts.0; samples = rows_of bytes.now parts.2 parts.1.items })) }
     ensures sound { IfOk result (λ parts. IsSound parts.0 bytes.now parts.2 parts.1.items) }
-    ensures err { IfErr result (λ halt. HaltsReading bytes.now halt) }
+    ensures err { IfErr result (λ fault. IsReadFault bytes.now fault) }
 {
-    let mut tokens = Tokens::new(bytes);
-    let found = Definitions::read(alloc, &mut tokens)?;
-    let body = Body::read(alloc, &found, &mut tokens)?;
-    let (tracks, samples) = body.into_parts();
-    Ok((found.into_names(), tracks, samples))
-}
-
-/// The fault of a text whose reading halts.
-fn fault_of(bytes: &[u8], halt: Halt) -> VcdFault
-    requires limit { length bytes.now ≤ file_limit }
-    requires within { HaltsWithin bytes.now halt }
-    ensures { result ≡ fault_by bytes.now halt }
-{
-    match halt {
-        Halt::NoMemory => VcdFault::NoMemory,
-        Halt::Stopped(Stop::Ends) => VcdFault::EndsInside(place_of(bytes, bytes.len())),
-        Halt::Stopped(Stop::Faulty(at, rule)) => fault_with(rule, place_of(bytes, at)),
-    }
-}
-
-/// A fault with its place.
-fn fault_with(rule: Rule, place: Place) -> VcdFault
-    ensures { result ≡ fault_with rule place }
-{
-    match rule {
-        Rule::UnknownKeyword => VcdFault::UnknownKeyword(place),
-        Rule::MissingEnd => VcdFault::MissingEnd(place),
-        Rule::BadVar => VcdFault::BadVar(place),
-        Rule::CodeSizeDiffers => VcdFault::CodeSizeDiffers(place),
-        Rule::ScopeNotOpen => VcdFault::ScopeNotOpen(place),
-        Rule::BadTime => VcdFault::BadTime(place),
-        Rule::TimeFalls => VcdFault::TimeFalls(place),
-        Rule::CodeNotDeclared => VcdFault::CodeNotDeclared(place),
-        Rule::BadValue => VcdFault::BadValue(place),
-        Rule::VectorTooLong => VcdFault::VectorTooLong(place),
-        Rule::ChangeBeforeDefinitionsEnd => VcdFault::ChangeBeforeDefinitionsEnd(place),
-        Rule::TooManySamples => VcdFault::TooManySamples(place),
-        Rule::TooManySignals => VcdFault::TooManySignals(place),
-    }
+    let mut cursor = Cursor::new(bytes);
+    let found = Definitions::read(alloc, &mut cursor)?;
+    let body = Body::read(alloc, &found, &mut cursor)?;
+    let (changes, samples) = body.into_parts();
+    Ok((found.into_names(), changes, samples))
 }

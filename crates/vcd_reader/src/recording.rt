@@ -1,14 +1,11 @@
 ghost use Rattle.std.specs.Prelude.{◌≡◌, ◌<◌, ◌≤◌, ◌+◌, length, Any};
-ghost use Rattle.psl_tree.specs.Atoms.{AtomsOfBoolean};
-ghost use Rattle.psl_tree.specs.Holds.{holds};
-ghost use Rattle.psl_tree.specs.Trees.{boolean_of};
 ghost use Rattle.vcd_reader.specs.Rules.{sample_limit};
-ghost use Rattle.vcd_reader.specs.Sampled.{letter_before, letter_of, reads_one, bit_at, atom_at, letter_at, AtomInRange, AreAlike};
-ghost use Rattle.vcd_reader.specs.Shots.{letters_in};
+ghost use Rattle.vcd_reader.specs.Sampled.{letter_before, letter_of, reads_one, bit_at, atom_at, AtomInRange, AreAlike};
+ghost use Rattle.vcd_reader.specs.Changes.{letters_in};
 
-use crate::track::{Shot, Track};
+use crate::changes::{Change, Changes};
 use psl_base::Bytes;
-use psl_tree::{Atom, Bool, Edge, Names};
+use psl_tree::{Atom, Edge, Names};
 use std::marker::Model;
 
 /// The values that signals have at samples, with the signals' names. It is kept as lists of changes,
@@ -17,7 +14,7 @@ use std::marker::Model;
 pub struct Recording {
     names: Names,
     bytes: Bytes,
-    tracks: Vec<Track>,
+    changes: Vec<Changes>,
     samples: u32,
 }
 
@@ -27,23 +24,23 @@ impl Model for Recording {
 
     ghost Value = { Sampled };
 
-    ghost view = { λ recording. record { names = recording.names; samples = rows_of recording.bytes recording.samples recording.tracks.items } };
+    ghost view = { λ recording. record { names = recording.names; samples = rows_of recording.bytes recording.samples recording.changes.items } };
 
-    ghost invariant = { λ recording. IsSound recording.names recording.bytes recording.samples recording.tracks.items };
+    ghost invariant = { λ recording. IsSound recording.names recording.bytes recording.samples recording.changes.items };
 }
 
 impl Recording {
     ghost use Rattle.vcd_reader.specs.Rows.{rows_of, IsSound};
 
     /// A recording of its parts.
-    pub(crate) fn of(names: Names, bytes: Bytes, tracks: Vec<Track>, samples: u32) -> Recording
-        requires { IsSound names bytes samples tracks.items }
-        ensures { result ≡ record { names = names; samples = rows_of bytes samples tracks.items } }
+    pub(crate) fn of(names: Names, bytes: Bytes, changes: Vec<Changes>, samples: u32) -> Recording
+        requires { IsSound names bytes samples changes.items }
+        ensures { result ≡ record { names = names; samples = rows_of bytes samples changes.items } }
     {
         Recording {
             names,
             bytes,
-            tracks,
+            changes,
             samples,
         }
     }
@@ -99,42 +96,27 @@ impl Recording {
         }
     }
 
-    /// Whether a Boolean holds on the letter of a sample, counted from 0.
-    pub fn holds(&self, sample: u32, test: &Bool) -> bool
-        requires sample { sample < length self.now.samples }
-        requires atoms { AtomsOfBoolean (AtomInRange self.now.names) (boolean_of test.now) }
-        ensures { result ≡ holds (letter_at self.now sample) (boolean_of test.now) }
-    {
-        match test {
-            Bool::Const(value) => *value,
-            Bool::Test(atom) => self.bit(sample, atom),
-            Bool::Not(part) => !self.holds(sample, part),
-            Bool::And(left, right) => self.holds(sample, left) && self.holds(sample, right),
-            Bool::Or(left, right) => self.holds(sample, left) || self.holds(sample, right),
-        }
-    }
-
     /// Whether a bit of a signal is 1 at a sample.
     fn is_one(&self, sample: u32, signal: u32, bit: u32, hint: &mut usize) -> bool
         requires sample { sample < length self.now.samples }
         requires signal { Any (λ name. name.signal ≡ signal) self.now.names }
         ensures { result ≡ bit_at self.now sample signal bit }
     {
-        let track = &self.tracks[signal as usize];
-        match track.at(sample + 1, hint) {
+        let changes = &self.changes[signal as usize];
+        match changes.at(sample + 1, hint) {
             None => false,
-            Some(shot) => one(letter(letters(self.bytes.as_slice(), shot), bit)),
+            Some(change) => one(letter(letters(self.bytes.as_slice(), change), bit)),
         }
     }
 }
 
 /// The letters of a change.
-fn letters(bytes: &[u8], shot: Shot) -> &[u8]
-    requires { shot.start + shot.len ≤ length bytes.now }
-    ensures { result.now ≡ letters_in bytes.now shot }
+fn letters(bytes: &[u8], change: Change) -> &[u8]
+    requires { change.start + change.len ≤ length bytes.now }
+    ensures { result.now ≡ letters_in bytes.now change }
 {
-    let start = shot.start as usize;
-    &bytes[start..start + shot.len as usize]
+    let start = change.start as usize;
+    &bytes[start..start + change.len as usize]
 }
 
 /// The letter of a bit, counted from the right.

@@ -1,62 +1,62 @@
-ghost use Rattle.std.specs.Prelude.{◌≡◌, ◌<◌, ◌≤◌, [], ◌∷◌, true, false, length, OnOk, IfOk, IfErr, List, Option};
+ghost use Rattle.std.specs.Prelude.{◌≡◌, ◌<◌, ◌≤◌, [], true, false, length, OnOk, IfOk, IfErr, List};
+ghost use Rattle.psl_base.specs.Tokens.{PlacedToken, ◌▸◌};
 ghost use Rattle.vcd_reader.specs.Declarations.{Declared};
-ghost use Rattle.vcd_reader.specs.Running.{run, Stops, GoesOn, wants_part, wants_end};
+ghost use Rattle.vcd_reader.specs.Running.{run, GoesOn, wants_part, wants_end};
 ghost use Rattle.vcd_reader.specs.Shapes.{is_end};
 ghost use Rattle.vcd_reader.specs.Standing.{Part, Open, Ready, InComment};
-ghost use Rattle.vcd_reader.specs.Tokens.{Token, token_of};
-ghost use Rattle.vcd_reader.specs.declared.track.Shot.{Shot};
+ghost use Rattle.vcd_reader.specs.declared.changes.Change.{Change};
 
-use crate::shape;
-use crate::stop::{Halt, Rule, Stop};
-use crate::tokens::{Tokens, Word};
+use crate::{VcdFault, shape};
+use psl_base::{Cursor, Token};
 
 /// The next token, where the text may not end.
-pub fn wanted<'a>(tokens: &mut Tokens<'a>) -> Result<Word<'a>, Halt>
-    ensures ok { IfOk result (λ word. tokens.old ≡ token_of word ∷ tokens.new) }
-    ensures err { IfErr result (λ halt. (halt ≡ Halt.Stopped Stop.Ends) × (tokens.old ≡ [])) }
-    ensures fewer { OnOk result (length tokens.new < length tokens.old) }
+pub fn wanted<'a>(cursor: &mut Cursor<'a>) -> Result<Token<'a>, VcdFault>
+    ensures ok { IfOk result (λ token. cursor.old ≡ token ▸ cursor.new) }
+    ensures end { IfErr result (λ _. cursor.old.tokens ≡ []) }
+    ensures err { IfErr result (λ fault. fault ≡ VcdFault.EndsInside cursor.old.end) }
+    ensures fewer { OnOk result (length cursor.new.tokens < length cursor.old.tokens) }
 {
-    match tokens.next() {
-        Some(word) => Ok(word),
-        None => Err(Halt::Stopped(Stop::Ends)),
+    match cursor.next() {
+        Some(token) => Ok(token),
+        None => Err(VcdFault::EndsInside(cursor.end())),
     }
 }
 
 /// A part of a declaration: a token that is not `$end`.
-pub fn part<'a>(tokens: &mut Tokens<'a>) -> Result<Word<'a>, Halt>
-    ensures ok { IfOk result (λ word. tokens.old ≡ token_of word ∷ tokens.new) }
-    ensures part { IfOk result (λ word. is_end word.text.now ≡ false) }
-    ensures err { IfErr result (λ halt. (d : Declared) (p : Part) (tracks : List (List Shot)) (o : Open) → wants_part o ≡ true → Stops halt (run d p tracks o tokens.old)) }
-    ensures fewer { OnOk result (length tokens.new < length tokens.old) }
+pub fn part<'a>(cursor: &mut Cursor<'a>) -> Result<Token<'a>, VcdFault>
+    ensures ok { IfOk result (λ token. cursor.old ≡ token ▸ cursor.new) }
+    ensures part { IfOk result (λ token. is_end token.text ≡ false) }
+    ensures err { IfErr result (λ fault. (d : Declared) (p : Part) (changes : List (List Change)) (o : Open) → wants_part o ≡ true → run d p changes o cursor.old ≡ Err fault) }
+    ensures fewer { OnOk result (length cursor.new.tokens < length cursor.old.tokens) }
 {
-    let word = wanted(tokens)?;
-    if shape::end(word.text) {
-        return Err(Halt::at(word.at, Rule::BadVar));
+    let token = wanted(cursor)?;
+    if shape::end(token.text()) {
+        return Err(VcdFault::BadVar(token.place()));
     }
-    Ok(word)
+    Ok(token)
 }
 
 /// The `$end` of a section.
-pub fn end(tokens: &mut Tokens) -> Result<(), Halt>
-    ensures ok { OnOk result ((t : Token) × (tokens.old ≡ t ∷ tokens.new) × (is_end t.text ≡ true)) }
-    ensures err { IfErr result (λ halt. (d : Declared) (p : Part) (tracks : List (List Shot)) (o : Open) → wants_end o ≡ true → Stops halt (run d p tracks o tokens.old)) }
-    ensures fewer { OnOk result (length tokens.new < length tokens.old) }
+pub fn end(cursor: &mut Cursor) -> Result<(), VcdFault>
+    ensures ok { OnOk result ((t : PlacedToken) × (cursor.old ≡ t ▸ cursor.new) × (is_end t.text ≡ true)) }
+    ensures err { IfErr result (λ fault. (d : Declared) (p : Part) (changes : List (List Change)) (o : Open) → wants_end o ≡ true → run d p changes o cursor.old ≡ Err fault) }
+    ensures fewer { OnOk result (length cursor.new.tokens < length cursor.old.tokens) }
 {
-    let word = wanted(tokens)?;
-    if !shape::end(word.text) {
-        return Err(Halt::at(word.at, Rule::MissingEnd));
+    let token = wanted(cursor)?;
+    if !shape::end(token.text()) {
+        return Err(VcdFault::MissingEnd(token.place()));
     }
     Ok(())
 }
 
 /// Passes over the tokens of a comment or a header, up to the first `$end`.
-pub fn comment(tokens: &mut Tokens) -> Result<(), Halt>
-    ensures goes { (d : Declared) (p : Part) (tracks : List (List Shot)) → GoesOn result (run d p tracks InComment tokens.old) (run d p tracks Ready tokens.new) }
-    ensures fewer { OnOk result (length tokens.new < length tokens.old) }
+pub fn comment(cursor: &mut Cursor) -> Result<(), VcdFault>
+    ensures goes { (d : Declared) (p : Part) (changes : List (List Change)) → GoesOn result (run d p changes InComment cursor.old) (run d p changes Ready cursor.new) }
+    ensures fewer { OnOk result (length cursor.new.tokens < length cursor.old.tokens) }
 {
     loop {
-        let word = wanted(tokens)?;
-        if shape::end(word.text) {
+        let token = wanted(cursor)?;
+        if shape::end(token.text()) {
             return Ok(());
         }
     }

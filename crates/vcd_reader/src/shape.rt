@@ -1,5 +1,6 @@
 ghost use Rattle.std.specs.Prelude.{◌≡◌};
 ghost use Rattle.std.specs.List.{list_all};
+ghost use Rattle.std.specs.Str.{bytes_eq};
 ghost use Rattle.vcd_reader.specs.Shapes.{is_end, is_header, is_dump, keyword_of, is_value, are_values, has_more, shape_of};
 
 /// What a token is by its text alone.
@@ -82,17 +83,17 @@ fn keyword(text: &[u8]) -> Shape
 {
     if end(text) {
         Shape::End
-    } else if text == "$comment".as_bytes() {
+    } else if is(text, b"$comment") {
         Shape::Comment
     } else if header(text) {
         Shape::Header
-    } else if text == "$scope".as_bytes() {
+    } else if is(text, b"$scope") {
         Shape::Scope
-    } else if text == "$upscope".as_bytes() {
+    } else if is(text, b"$upscope") {
         Shape::Upscope
-    } else if text == "$var".as_bytes() {
+    } else if is(text, b"$var") {
         Shape::Var
-    } else if text == "$enddefinitions".as_bytes() {
+    } else if is(text, b"$enddefinitions") {
         Shape::EndDefinitions
     } else if dump(text) {
         Shape::Dump
@@ -101,26 +102,30 @@ fn keyword(text: &[u8]) -> Shape
     }
 }
 
+/// Whether a token is a word.
+pub fn is(text: &[u8], word: &[u8]) -> bool
+    ensures { result ≡ bytes_eq text.now word.now }
+{
+    text == word
+}
+
 /// Whether a token is `$end`.
 pub fn end(text: &[u8]) -> bool
     ensures { result ≡ is_end text.now }
 {
-    text == "$end".as_bytes()
+    is(text, b"$end")
 }
 
 fn header(text: &[u8]) -> bool
     ensures { result ≡ is_header text.now }
 {
-    text == "$date".as_bytes() || text == "$version".as_bytes() || text == "$timescale".as_bytes()
+    is(text, b"$date") || is(text, b"$version") || is(text, b"$timescale")
 }
 
 fn dump(text: &[u8]) -> bool
     ensures { result ≡ is_dump text.now }
 {
-    text == "$dumpvars".as_bytes()
-        || text == "$dumpall".as_bytes()
-        || text == "$dumpon".as_bytes()
-        || text == "$dumpoff".as_bytes()
+    is(text, b"$dumpvars") || is(text, b"$dumpall") || is(text, b"$dumpon") || is(text, b"$dumpoff")
 }
 
 /// Whether a byte is a letter of a value.

@@ -6,7 +6,8 @@ use Rattle.std.specs.List.{list_all}
 use Rattle.std.proofs.lemmas.Bool.{le-leb, and_from, cond-true}
 use Rattle.std.proofs.lemmas.Fmt.{decimal_nonempty, digits_decimal, digits_value-decimal}
 use Rattle.std.proofs.lemmas.Str.Parse.{IsNumeralModel, numerals_by_fold}
-use Rattle.vcd_reader.specs.Decimal.{is_digit, are_digits, number_after}
+use Rattle.psl_base.specs.Bytes.{is_digit}
+use Rattle.psl_base.specs.Decimals.{are_digits, number_after}
 use Rattle.vcd_reader.specs.Standing.{time_of, time_most}
 
 -- each byte is a digit

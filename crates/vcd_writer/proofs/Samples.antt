@@ -4,19 +4,19 @@ use Rattle.std.specs.Prelude.{decimal, nat_le}
 use Rattle.std.specs.List.{list_all, flat_map, range_with_len}
 use Rattle.std.proofs.Math.Bool.{and-false}
 use Rattle.std.proofs.lemmas.Bool.{lt-leb, le-ltb, ne_eqb, and_from, leb-true}
+use Rattle.psl_base.specs.Bytes.{is_digit}
+use Rattle.psl_base.specs.Tokens.{PlacedToken, token_at, tokens_from}
 use Rattle.vcd_writer.proofs.Numerals.{form-all, form-time}
 use Rattle.vcd_writer.proofs.Standings.{Goes, goes-on}
 use Rattle.vcd_writer.proofs.Tokens.{is_solid, true-left, true-right, word-token}
 use Rattle.vcd_writer.specs.Generator.{request_at, answer_at}
 use Rattle.vcd_writer.specs.Made.{digit, line, definitions, sample_lines, samples_from, made_names}
 use Rattle.vcd_reader.specs.declared.shape.Shape.TheVariants.{Time, Scalar}
-use Rattle.vcd_reader.specs.Decimal.{is_digit}
 use Rattle.vcd_reader.specs.Declarations.{Declared}
-use Rattle.vcd_reader.specs.Events.{Event, At, Change, is_last, falls}
+use Rattle.vcd_reader.specs.Events.{Event, At, Gets, is_last, falls}
 use Rattle.vcd_reader.specs.Rules.{rule_at, sample_limit}
 use Rattle.vcd_reader.specs.Shapes.{shape_of, keyword_of}
 use Rattle.vcd_reader.specs.Standing.{Standing, Told, Telling, Ready, at_first, time_of}
-use Rattle.vcd_reader.specs.Tokens.{Token, tokens_from}
 
 -- what the definitions declare
 abbrev pub declared : Declared
@@ -33,7 +33,7 @@ time_before zero = None
 time_before (suc sample) = Some sample
 
 abbrev told_before : ℕ → Told
-told_before sample = record { last = time_before sample; begun = sample; in_block = false }
+told_before sample = record { last = time_before sample; samples = sample; in_block = false }
 
 -- before the lines of a sample, and among them
 abbrev pub before_sample : ℕ → Standing
@@ -64,50 +64,50 @@ time-rule sample text few shape says = rw (shape, says, is-last-not sample, neve
 
 -- what a sample's three tokens say
 abbrev pub sample_events : ℕ → ℕ → List Event
-sample_events seed sample = At sample ∷ Change 0 (digit (request_at seed sample) ∷ []) ∷ Change 1 (digit (answer_at seed sample) ∷ []) ∷ []
+sample_events seed sample = At sample ∷ Gets 0 (digit (request_at seed sample) ∷ []) ∷ Gets 1 (digit (answer_at seed sample) ∷ []) ∷ []
 
 abbrev pub events_from : ℕ → ℕ → ℕ → List Event
 events_from seed first count = flat_map (sample_events seed) (range_with_len first count)
 
 -- the time of a sample is read
-time-goes : (sample at : ℕ) (text : List ℕ) → sample < sample_limit → shape_of text ≡ Time → time_of text ≡ Some sample
-    → Goes (before_sample sample) (record { at = at; text = text } ∷ []) (At sample ∷ []) (before_sample (suc sample))
-time-goes sample at text few shape says =
-    (time-rule sample text few shape says, ([], rw (shape, says) refl, (refl, rw (shape, says, is-last-not sample) (ap (λ (n : ℕ). record { declared = declared; part = Telling (record { last = Some sample; begun = n; in_block = false }); opened = Ready }) (let one : sample + 1 ≡ suc sample = omega arith in one)))))
+time-goes : (whole : List ℕ) (sample at : ℕ) (text : List ℕ) → sample < sample_limit → shape_of text ≡ Time → time_of text ≡ Some sample
+    → Goes (before_sample sample) (token_at whole at text ∷ []) (At sample ∷ []) (before_sample (suc sample))
+time-goes whole sample at text few shape says =
+    (time-rule sample text few shape says, ([], rw (shape, says) refl, (refl, rw (shape, says, is-last-not sample) (ap (λ (n : ℕ). record { declared = declared; part = Telling (record { last = Some sample; samples = n; in_block = false }); opened = Ready }) (let one : sample + 1 ≡ suc sample = omega arith in one)))))
 
 -- a value of one of the signals is read
-value-goes : (sample at : ℕ) (value : Bool) → Goes (before_sample sample) (record { at = at; text = digit value ∷ 33 ∷ [] } ∷ []) (Change 0 (digit value ∷ []) ∷ []) (before_sample sample)
+value-goes : (whole : List ℕ) (sample at : ℕ) (value : Bool) → Goes (before_sample sample) (token_at whole at (digit value ∷ 33 ∷ []) ∷ []) (Gets 0 (digit value ∷ []) ∷ []) (before_sample sample)
 unfolding shape_of
-value-goes sample at false = (refl, ([], refl, (refl, refl)))
-value-goes sample at true = (refl, ([], refl, (refl, refl)))
+value-goes whole sample at false = (refl, ([], refl, (refl, refl)))
+value-goes whole sample at true = (refl, ([], refl, (refl, refl)))
 
-other-goes : (sample at : ℕ) (value : Bool) → Goes (before_sample sample) (record { at = at; text = digit value ∷ 34 ∷ [] } ∷ []) (Change 1 (digit value ∷ []) ∷ []) (before_sample sample)
+other-goes : (whole : List ℕ) (sample at : ℕ) (value : Bool) → Goes (before_sample sample) (token_at whole at (digit value ∷ 34 ∷ []) ∷ []) (Gets 1 (digit value ∷ []) ∷ []) (before_sample sample)
 unfolding shape_of
-other-goes sample at false = (refl, ([], refl, (refl, refl)))
-other-goes sample at true = (refl, ([], refl, (refl, refl)))
+other-goes whole sample at false = (refl, ([], refl, (refl, refl)))
+other-goes whole sample at true = (refl, ([], refl, (refl, refl)))
 
 -- the three tokens of a sample
-abbrev sample_tokens : ℕ → ℕ → ℕ → ℕ → ℕ → List Token
-sample_tokens seed sample a b c =
-    record { at = a; text = 35 ∷ decimal sample } ∷ record { at = b; text = digit (request_at seed sample) ∷ 33 ∷ [] }
-    ∷ record { at = c; text = digit (answer_at seed sample) ∷ 34 ∷ [] } ∷ []
+abbrev sample_tokens : List ℕ → ℕ → ℕ → ℕ → ℕ → ℕ → List PlacedToken
+sample_tokens whole seed sample a b c =
+    token_at whole a (35 ∷ decimal sample) ∷ token_at whole b (digit (request_at seed sample) ∷ 33 ∷ [])
+    ∷ token_at whole c (digit (answer_at seed sample) ∷ 34 ∷ []) ∷ []
 
 small : (sample : ℕ) → sample < sample_limit → sample < 2 ^ 64
 small sample few = omega arith
 
-sample-goes : (seed sample a b c : ℕ) → sample < sample_limit
-    → Goes (before_sample sample) (sample_tokens seed sample a b c) (sample_events seed sample) (before_sample (suc sample))
-sample-goes seed sample a b c few =
-    goes-on (before_sample sample) (before_sample (suc sample)) (before_sample (suc sample)) (record { at = a; text = 35 ∷ decimal sample } ∷ []) (record { at = b; text = digit (request_at seed sample) ∷ 33 ∷ [] } ∷ record { at = c; text = digit (answer_at seed sample) ∷ 34 ∷ [] } ∷ []) (At sample ∷ []) (Change 0 (digit (request_at seed sample) ∷ []) ∷ Change 1 (digit (answer_at seed sample) ∷ []) ∷ [])
-    (time-goes sample a (35 ∷ decimal sample) few (shape-time (decimal sample)) (form-time sample (small sample few)))
-    (goes-on (before_sample (suc sample)) (before_sample (suc sample)) (before_sample (suc sample)) (record { at = b; text = digit (request_at seed sample) ∷ 33 ∷ [] } ∷ []) (record { at = c; text = digit (answer_at seed sample) ∷ 34 ∷ [] } ∷ []) (Change 0 (digit (request_at seed sample) ∷ []) ∷ []) (Change 1 (digit (answer_at seed sample) ∷ []) ∷ [])
-    (value-goes (suc sample) b (request_at seed sample)) (other-goes (suc sample) c (answer_at seed sample)))
+sample-goes : (whole : List ℕ) (seed sample a b c : ℕ) → sample < sample_limit
+    → Goes (before_sample sample) (sample_tokens whole seed sample a b c) (sample_events seed sample) (before_sample (suc sample))
+sample-goes whole seed sample a b c few =
+    goes-on (before_sample sample) (before_sample (suc sample)) (before_sample (suc sample)) (token_at whole a (35 ∷ decimal sample) ∷ []) (token_at whole b (digit (request_at seed sample) ∷ 33 ∷ []) ∷ token_at whole c (digit (answer_at seed sample) ∷ 34 ∷ []) ∷ []) (At sample ∷ []) (Gets 0 (digit (request_at seed sample) ∷ []) ∷ Gets 1 (digit (answer_at seed sample) ∷ []) ∷ [])
+    (time-goes whole sample a (35 ∷ decimal sample) few (shape-time (decimal sample)) (form-time sample (small sample few)))
+    (goes-on (before_sample (suc sample)) (before_sample (suc sample)) (before_sample (suc sample)) (token_at whole b (digit (request_at seed sample) ∷ 33 ∷ []) ∷ []) (token_at whole c (digit (answer_at seed sample) ∷ 34 ∷ []) ∷ []) (Gets 0 (digit (request_at seed sample) ∷ []) ∷ []) (Gets 1 (digit (answer_at seed sample) ∷ []) ∷ [])
+    (value-goes whole (suc sample) b (request_at seed sample)) (other-goes whole (suc sample) c (answer_at seed sample)))
 
 -- ---- the lines
 
-line-token : (at : ℕ) (word rest : List ℕ) → 0 < length word → list_all is_solid word ≡ true
-    → tokens_from at (line word ++ rest) ≡ record { at = at; text = word } ∷ tokens_from (at + length word + 1) rest
-line-token at word rest long solid = ap (tokens_from at) (append_assoc word (10 ∷ []) rest) ∙ word-token at word rest long solid
+line-token : (whole : List ℕ) (at : ℕ) (word rest : List ℕ) → 0 < length word → list_all is_solid word ≡ true
+    → tokens_from whole at (line word ++ rest) ≡ token_at whole at word ∷ tokens_from whole (at + length word + 1) rest
+line-token whole at word rest long solid = ap (tokens_from whole at) (append_assoc word (10 ∷ []) rest) ∙ word-token whole at word rest long solid
 
 digit-solid : (byte : ℕ) → is_digit byte ≡ true → is_solid byte ≡ true
 digit-solid byte is =
@@ -127,9 +127,9 @@ value-solid true code solid = and_from (is_solid code) true solid refl
 three-lines : (xs ys zs rest : List ℕ) → ((xs ++ ys) ++ zs) ++ rest ≡ xs ++ (ys ++ (zs ++ rest))
 three-lines xs ys zs rest = append_assoc (xs ++ ys) zs rest ∙ append_assoc xs ys (zs ++ rest)
 
-lines-tokens : (seed sample at : ℕ) (rest : List ℕ) → sample < 2 ^ 64
-    → (b : ℕ) × (c : ℕ) × (d : ℕ) × (tokens_from at (sample_lines seed sample ++ rest) ≡ sample_tokens seed sample at b c ++ tokens_from d rest)
-lines-tokens seed sample at rest few =
+lines-tokens : (whole : List ℕ) (seed sample at : ℕ) (rest : List ℕ) → sample < 2 ^ 64
+    → (b : ℕ) × (c : ℕ) × (d : ℕ) × (tokens_from whole at (sample_lines seed sample ++ rest) ≡ sample_tokens whole seed sample at b c ++ tokens_from whole d rest)
+lines-tokens whole seed sample at rest few =
     let time = 35 ∷ decimal sample in
     let first = digit (request_at seed sample) ∷ 33 ∷ [] in
     let second = digit (answer_at seed sample) ∷ 34 ∷ [] in
@@ -139,32 +139,32 @@ lines-tokens seed sample at rest few =
       b,
       c,
       d,
-      ap (tokens_from at) (three-lines (line time) (line first) (line second) rest)
-          ∙ line-token at time (line first ++ (line second ++ rest)) (omega arith) (digits-solid (decimal sample) (form-all sample few))
-          ∙ ap (λ (ts : List Token). record { at = at; text = time } ∷ ts)
-          (line-token b first (line second ++ rest) (omega arith) (value-solid (request_at seed sample) 33 refl)
-          ∙ ap (λ (ts : List Token). record { at = b; text = first } ∷ ts) (line-token c second rest (omega arith) (value-solid (answer_at seed sample) 34 refl))),
+      ap (tokens_from whole at) (three-lines (line time) (line first) (line second) rest)
+          ∙ line-token whole at time (line first ++ (line second ++ rest)) (omega arith) (digits-solid (decimal sample) (form-all sample few))
+          ∙ ap (λ (ts : List PlacedToken). token_at whole at time ∷ ts)
+          (line-token whole b first (line second ++ rest) (omega arith) (value-solid (request_at seed sample) 33 refl)
+          ∙ ap (λ (ts : List PlacedToken). token_at whole b first ∷ ts) (line-token whole c second rest (omega arith) (value-solid (answer_at seed sample) 34 refl))),
     )
 
-pub lines-go : (seed at first count : ℕ) → first + count ≤ sample_limit
-    → Goes (before_sample first) (tokens_from at (samples_from seed first count)) (events_from seed first count) (before_sample (first + count))
-lines-go seed at first zero few = (refl, ap before_sample (let same : first ≡ first + zero = omega arith in same))
-lines-go seed at first (suc count) few =
+pub lines-go : (whole : List ℕ) (seed at first count : ℕ) → first + count ≤ sample_limit
+    → Goes (before_sample first) (tokens_from whole at (samples_from seed first count)) (events_from seed first count) (before_sample (first + count))
+lines-go whole seed at first zero few = (refl, ap before_sample (let same : first ≡ first + zero = omega arith in same))
+lines-go whole seed at first (suc count) few =
     let here : first < sample_limit = omega arith in
-    let found = lines-tokens seed first at (samples_from seed (first + 1) count) (small first here) in
+    let found = lines-tokens whole seed first at (samples_from seed (first + 1) count) (small first here) in
     let later : first + 1 + count ≤ sample_limit = omega arith in
-    let rest = lines-go seed found.2 (first + 1) count later in
+    let rest = lines-go whole seed found.2 (first + 1) count later in
     let start : before_sample (suc first) ≡ before_sample (first + 1) = ap before_sample (let same : suc first ≡ first + 1 = omega arith in same) in
     let end : before_sample (first + 1 + count) ≡ before_sample (first + suc count) = ap before_sample (let same : first + 1 + count ≡ first + suc count = omega arith in same) in
-    subst (λ (ts : List Token). Goes (before_sample first) ts (events_from seed first (suc count)) (before_sample (first + suc count))) (sym found.3)
-    (goes-on (before_sample first) (before_sample (suc first)) (before_sample (first + suc count)) (sample_tokens seed first at found.0 found.1) _ (sample_events seed first) (events_from seed (first + 1) count)
-    (sample-goes seed first at found.0 found.1 here)
-    (subst (λ (s : Standing). Goes s (tokens_from found.2 (samples_from seed (first + 1) count)) (events_from seed (first + 1) count) (before_sample (first + suc count))) (sym start)
-    (subst (λ (s : Standing). Goes (before_sample (first + 1)) (tokens_from found.2 (samples_from seed (first + 1) count)) (events_from seed (first + 1) count) s) end rest)))
+    subst (λ (ts : List PlacedToken). Goes (before_sample first) ts (events_from seed first (suc count)) (before_sample (first + suc count))) (sym found.3)
+    (goes-on (before_sample first) (before_sample (suc first)) (before_sample (first + suc count)) (sample_tokens whole seed first at found.0 found.1) _ (sample_events seed first) (events_from seed (first + 1) count)
+    (sample-goes whole seed first at found.0 found.1 here)
+    (subst (λ (s : Standing). Goes s (tokens_from whole found.2 (samples_from seed (first + 1) count)) (events_from seed (first + 1) count) (before_sample (first + suc count))) (sym start)
+    (subst (λ (s : Standing). Goes (before_sample (first + 1)) (tokens_from whole found.2 (samples_from seed (first + 1) count)) (events_from seed (first + 1) count) s) end rest)))
 
 -- the definitions
-pub definitions-go : (rest : List ℕ) (events : List Event) (end : Standing) → Goes (before_sample 0) (tokens_from 67 rest) events end
-    → Goes at_first (tokens_from 0 (definitions ++ rest)) events end
+pub definitions-go : (whole : List ℕ) (rest : List ℕ) (events : List Event) (end : Standing) → Goes (before_sample 0) (tokens_from whole 67 rest) events end
+    → Goes at_first (tokens_from whole 0 (definitions ++ rest)) events end
 unfolding shape_of keyword_of
-definitions-go rest events end goes =
+definitions-go whole rest events end goes =
     (refl, (events, refl, (refl, (events, refl, (refl, (events, refl, (refl, (events, refl, (refl, (events, refl, (refl, (events, refl, (refl, (events, refl, (refl, (events, refl, (refl, (events, refl, (refl, (events, refl, (refl, (events, refl, (refl, (events, refl, (refl, (events, refl, (refl, (events, refl, goes))))))))))))))))))))))))))))

@@ -2,8 +2,7 @@ ghost use Rattle.std.specs.Prelude.{◌≡◌, ◌∷◌, [], ◌++◌, suc, IfO
 ghost use Rattle.vcd_writer.specs.Generator.{number_after, number_at, bit_16, request_at, answer_at};
 ghost use Rattle.vcd_writer.specs.Made.{definitions, digit, line, made_text, sample_lines, samples_from};
 
-use itoa::Buffer;
-use psl_base::{Bytes, NoMemory};
+use psl_base::{Bytes, NoMemory, add_bytes, add_number};
 use std::alloc::Global;
 
 const DEFINITIONS: &[u8] =
@@ -20,7 +19,7 @@ pub fn make_recording(alloc: Global, seed: u32, samples: u32) -> Result<Bytes, N
     ensures { IfOk result (λ text. text ≡ made_text seed samples) }
 {
     let mut text = Vec::new(alloc);
-    add(&mut text, DEFINITIONS)?;
+    add_bytes(&mut text, DEFINITIONS)?;
     let mut number = seed;
     let mut answer = false;
     for sample in 0..samples {
@@ -50,10 +49,10 @@ fn bit_16(number: u32) -> bool
 fn add_sample(text: &mut Vec<u8>, sample: u32, request: bool, answer: bool) -> Result<(), NoMemory>
     ensures { OnOk result (text.new.items ≡ text.old.items ++ (line (35 ∷ decimal sample) ++ line (digit request ∷ 33 ∷ []) ++ line (digit answer ∷ 34 ∷ []))) }
 {
-    add(text, b"#")?;
-    add(text, Buffer::new().format(sample).as_bytes())?;
-    add(text, b"\n")?;
-    add(text, value_lines(request, answer))
+    add_bytes(text, b"#")?;
+    add_number(text, u64::from(sample))?;
+    add_bytes(text, b"\n")?;
+    add_bytes(text, value_lines(request, answer))
 }
 
 /// The lines of a value of `req` and of one of `ack`.
@@ -65,14 +64,5 @@ fn value_lines(request: bool, answer: bool) -> &'static [u8]
         (false, true) => b"0!\n1\"\n",
         (true, false) => b"1!\n0\"\n",
         (true, true) => b"1!\n1\"\n",
-    }
-}
-
-fn add(text: &mut Vec<u8>, piece: &[u8]) -> Result<(), NoMemory>
-    ensures { OnOk result (text.new.items ≡ text.old.items ++ piece.now) }
-{
-    match text.extend_from_slice(piece) {
-        Ok(()) => Ok(()),
-        Err(_) => Err(NoMemory),
     }
 }

@@ -1,31 +1,31 @@
 use Rattle.std.proofs.Common.{◌∙◌, Result, sym, subst}
 use Rattle.std.proofs.lemmas.Result.{err_from_is_err_and}
-use Rattle.vcd_reader.specs.declared.stop.Stop.{Stop}
+use Rattle.vcd_reader.specs.declared.fault.VcdFault.{VcdFault}
 use Rattle.vcd_reader.specs.Running.{Outcome, Halts}
-use Rattle.vcd_reader.proofs.Joining.{says_recording, sound_recording, says_fault}
+use Rattle.vcd_reader.proofs.Joining.{says_recording, sound_recording, fault_read}
 use Rattle.vcd_reader.proofs.reading.read_parts.Goals as goal
 
 pub returns-in_err-found-clause-err : goal.returns-in_err-found-clause-err
 returns-in_err-found-clause-err c =
-    let halts = rw c.new-tokens.ensures.tokens at c.in_err-found.ensures.err in
+    let halts = rw c.new-cursor.ensures.all at c.in_err-found.ensures.err in
     let p = err_from_is_err_and c.from_residual.result c.from_residual.ensures.1 in
-    rw (p.1, p.2) (says_fault c.args.bytes.now c.in_err-found.field-0.0 halts)
+    rw (p.1, p.2) (fault_read c.args.bytes.now c.in_err-found.field-0.0 halts)
 
 pub returns-in_err-body-clause-err : goal.returns-in_err-body-clause-err
 returns-in_err-body-clause-err c =
-    let found = rw c.new-tokens.ensures.tokens at c.in_ok-found.ensures.ok in
-    let halts = subst (λ (said : Result Outcome Stop). Halts c.in_err-body.field-0.0 said) (sym found) c.in_err-body.ensures.err in
+    let found = rw c.new-cursor.ensures.all at c.in_ok-found.ensures.ok in
+    let halts = subst (λ (said : Result Outcome VcdFault). Halts c.in_err-body.field-0.0 said) (sym found) c.in_err-body.ensures.err in
     let p = err_from_is_err_and c.from_residual-in_err-body.result c.from_residual-in_err-body.ensures.1 in
-    rw (p.1, p.2) (says_fault c.args.bytes.now c.in_err-body.field-0.0 halts)
+    rw (p.1, p.2) (fault_read c.args.bytes.now c.in_err-body.field-0.0 halts)
 
 pub returns-clause-ok : goal.returns-clause-ok
 returns-clause-ok c =
-    let read = (rw c.new-tokens.ensures.tokens at c.in_ok-found.ensures.ok) ∙ c.in_ok-body.ensures.ok in
-    rw (c.into_names.ensures.names, c.into_parts-tracks.ensures.samples, c.into_parts-tracks.ensures.tracks) (says_recording c.args.bytes.now c.in_ok-found.found c.in_ok-body.body.told c.in_ok-body.body.tracks read)
+    let read = (rw c.new-cursor.ensures.all at c.in_ok-found.ensures.ok) ∙ c.in_ok-body.ensures.ok in
+    rw (c.into_names.ensures.names, c.into_parts-changes.ensures.samples, c.into_parts-changes.ensures.changes) (says_recording c.args.bytes.now c.in_ok-found.found c.in_ok-body.body.told c.in_ok-body.body.changes read)
 
 pub returns-clause-sound : goal.returns-clause-sound
 returns-clause-sound c =
-    let read = (rw c.new-tokens.ensures.tokens at c.in_ok-found.ensures.ok) ∙ c.in_ok-body.ensures.ok in
+    let read = (rw c.new-cursor.ensures.all at c.in_ok-found.ensures.ok) ∙ c.in_ok-body.ensures.ok in
     let within = rw c.into_names.ensures.names at c.into_names.ensures.within in
     let alike = rw c.into_names.ensures.names at c.into_names.ensures.alike in
-    rw (c.into_names.ensures.names, c.into_parts-tracks.ensures.samples, c.into_parts-tracks.ensures.tracks) (sound_recording c.args.bytes.now c.in_ok-found.found c.in_ok-body.body.told c.in_ok-body.body.tracks read within alike)
+    rw (c.into_names.ensures.names, c.into_parts-changes.ensures.samples, c.into_parts-changes.ensures.changes) (sound_recording c.args.bytes.now c.in_ok-found.found c.in_ok-body.body.told c.in_ok-body.body.changes read within alike)

@@ -1,15 +1,15 @@
 use Rattle.std.proofs.Common.{◌≡◌, ◌≤◌, List, length}
-use Rattle.vcd_reader.specs.declared.track.Shot.{Shot}
+use Rattle.vcd_reader.specs.declared.changes.Change.{Change}
 use Rattle.vcd_reader.specs.Declarations.{Declared}
 use Rattle.vcd_reader.specs.Running.{run}
 use Rattle.vcd_reader.specs.Standing.{Part, InComment}
 use Rattle.vcd_reader.proofs.sections.comment.Given as goal
 
-abbrev pub invariant-loop-word : goal.invariant-loop-word
-invariant-loop-word l = record {
-  same : (d : Declared) (p : Part) (tracks : List (List Shot)) → run d p tracks InComment l.initial.tokens ≡ run d p tracks InComment l.tokens;
-  fewer : length l.tokens ≤ length l.initial.tokens;
+abbrev pub invariant-loop-token : goal.invariant-loop-token
+invariant-loop-token l = record {
+  same : (d : Declared) (p : Part) (changes : List (List Change)) → run d p changes InComment l.initial.cursor ≡ run d p changes InComment l.cursor;
+  fewer : length l.cursor.tokens ≤ length l.initial.cursor.tokens;
 }
 
-abbrev pub decreases-loop-word : goal.decreases-loop-word
-decreases-loop-word l = length l.tokens
+abbrev pub decreases-loop-token : goal.decreases-loop-token
+decreases-loop-token l = length l.cursor.tokens

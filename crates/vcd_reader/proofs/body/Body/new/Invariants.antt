@@ -2,4 +2,4 @@ use Rattle.std.proofs.Common.{◌≡◌, [], replicate}
 use Rattle.vcd_reader.proofs.body.Body.new.Given as goal
 
 abbrev pub invariant-loop : goal.invariant-loop
-invariant-loop l = l.tracks.items ≡ replicate l.counter []
+invariant-loop l = l.changes.items ≡ replicate l.counter []

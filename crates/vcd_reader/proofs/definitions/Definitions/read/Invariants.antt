@@ -7,9 +7,9 @@ use Rattle.vcd_reader.proofs.definitions.Definitions.read.Given as goal
 
 abbrev pub invariant-loop-found : goal.invariant-loop-found
 invariant-loop-found l = record {
-  same : defining nothing_declared Ready l.initial.tokens ≡ defining l.found Ready l.tokens;
-  room : length l.found.codes + length l.tokens ≤ file_limit;
+  same : defining nothing_declared Ready l.initial.cursor ≡ defining l.found Ready l.cursor;
+  room : length l.found.codes + length l.cursor.tokens ≤ file_limit;
 }
 
 abbrev pub decreases-loop-found : goal.decreases-loop-found
-decreases-loop-found l = length l.tokens
+decreases-loop-found l = length l.cursor.tokens

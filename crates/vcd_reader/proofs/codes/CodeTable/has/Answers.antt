@@ -3,7 +3,7 @@ use Rattle.std.specs.List.{slice_get}
 use Rattle.std.specs.Option.{option_map}
 use Rattle.std.proofs.lemmas.Option.{slice_get-map, slice_get-get_or}
 use Rattle.vcd_reader.specs.Labels.{place_of}
-use Rattle.vcd_reader.proofs.texts.Distinct.has.Goals as goal
+use Rattle.vcd_reader.proofs.codes.CodeTable.has.Goals as goal
 
 pub returns-then-number-texts : goal.returns-then-number-texts
 returns-then-number-texts c = λ e.

@@ -17,14 +17,14 @@ const HINTS: usize = 65_536;
 /// or two, which are most of the codes of a recording, are found by a table, which has for each of them
 /// its number and 1 more, or 0. Those of three are looked for first where a second table points for them.
 #[derive(Drop)]
-pub struct Distinct<'a> {
+pub struct CodeTable<'a> {
     short: Vec<u32>,
     hints: Vec<u32>,
     places: HashMap<&'a [u8], usize>,
     texts: Vec<&'a [u8]>,
 }
 
-impl<'a> Model for Distinct<'a> {
+impl<'a> Model for CodeTable<'a> {
     ghost use Rattle.std.specs.Prelude.{List, ℕ, ◌≡◌, map};
     ghost use Rattle.std.specs.HashMap.{get_by};
     ghost use Rattle.std.specs.Str.{bytes_eq};
@@ -38,14 +38,14 @@ impl<'a> Model for Distinct<'a> {
     ghost invariant = { λ distinct. ((text : List ℕ) → get_by (λ key. bytes_eq text key.now) distinct.places ≡ place_of (map (λ other. other.now) distinct.texts.items) text) × IsShortTable distinct.short.items (map (λ other. other.now) distinct.texts.items) × AreDistinct (map (λ other. other.now) distinct.texts.items) };
 }
 
-impl<'a> Distinct<'a> {
+impl<'a> CodeTable<'a> {
     /// No texts.
-    pub fn new(alloc: Global) -> Result<Distinct<'a>, NoMemory>
+    pub fn new(alloc: Global) -> Result<CodeTable<'a>, NoMemory>
         ensures { IfOk result (λ distinct. distinct ≡ []) }
     {
         let short = zeros(alloc, SHORT)?;
         let hints = zeros(alloc, HINTS)?;
-        Ok(Distinct {
+        Ok(CodeTable {
             short,
             hints,
             places: HashMap::new(alloc),

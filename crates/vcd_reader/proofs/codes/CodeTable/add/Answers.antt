@@ -6,7 +6,7 @@ use Rattle.vcd_reader.proofs.Places.{place_of-push, distinct-push}
 use Rattle.vcd_reader.proofs.Short.{short-push}
 use Rattle.vcd_reader.specs.Labels.{is_new}
 use Rattle.vcd_reader.specs.Short.{AreBytes}
-use Rattle.vcd_reader.proofs.texts.Distinct.add.Goals as goal
+use Rattle.vcd_reader.proofs.codes.CodeTable.add.Goals as goal
 
 pub invariant_of-self-in-Ok : goal.invariant_of-self-in-Ok
 invariant_of-self-in-Ok c =

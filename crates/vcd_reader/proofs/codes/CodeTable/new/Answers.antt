@@ -1,7 +1,7 @@
 use Rattle.std.proofs.Common.{rules, ◌≡◌, [], None, Some}
 use Rattle.std.specs.List.{slice_get}
 use Rattle.vcd_reader.proofs.Short.{short-none}
-use Rattle.vcd_reader.proofs.texts.Distinct.new.Goals as goal
+use Rattle.vcd_reader.proofs.codes.CodeTable.new.Goals as goal
 
 pub invariant_of-result : goal.invariant_of-result
 invariant_of-result c = (
