@@ -4,6 +4,7 @@ use Rattle.command_line.specs.Numbers.{IsNumber}
 use Rattle.command_line.specs.Clap.{Takes, given, two_words}
 use Rattle.command_line.specs.declared.Command.{Command}
 use Rattle.command_line.specs.declared.Command.TheVariants.{Wave, Gen, Show}
+use Rattle.command_line.specs.declared.commands.TheConstants.{MOST_SEED}
 
 -- which command, with which values
 pub data Meaning : Type 0 where
@@ -21,7 +22,7 @@ pub record Reads (name first second : List ℕ) (words : List (List ℕ)) (one t
 
 -- the largest seed
 abbrev pub most_seed : ℕ
-most_seed = 2147483647
+most_seed = MOST_SEED
 
 -- The words are `wave UNIT RECORDING`, `gen SEED SAMPLES` or `show UNIT NAMES`. A seed is at most 2^31 - 1,
 -- and of samples there is one at least and at most the limit.

@@ -19,10 +19,8 @@ pub fn read_wave<'a>(alloc: Global, words: &'a [String]) -> Result<Command<'a>, 
     ensures command { IfOk result (λ command. (most : ℕ) → IsCommand most (map string_bytes words.entry.now) (meaning_of command)) }
     ensures usage { IfErr result (λ fault. fault ≡ WordsFault.Usage → IsUntaken (codes "wave") (codes "unit") (codes "recording") (map string_bytes words.entry.now)) }
 {
-    match two_words(alloc, words, "wave", "unit", "recording") {
-        Ok((unit, recording)) => Ok(Command::Wave { unit, recording }),
-        Err(fault) => Err(fault),
-    }
+    let (unit, recording) = two_words(alloc, words, "wave", "unit", "recording")?;
+    Ok(Command::Wave { unit, recording })
 }
 
 /// `show UNIT NAMES`
@@ -31,10 +29,8 @@ pub fn read_show<'a>(alloc: Global, words: &'a [String]) -> Result<Command<'a>, 
     ensures command { IfOk result (λ command. (most : ℕ) → IsCommand most (map string_bytes words.entry.now) (meaning_of command)) }
     ensures usage { IfErr result (λ fault. fault ≡ WordsFault.Usage → IsUntaken (codes "show") (codes "unit") (codes "names") (map string_bytes words.entry.now)) }
 {
-    match two_words(alloc, words, "show", "unit", "names") {
-        Ok((unit, names)) => Ok(Command::Show { unit, names }),
-        Err(fault) => Err(fault),
-    }
+    let (unit, names) = two_words(alloc, words, "show", "unit", "names")?;
+    Ok(Command::Show { unit, names })
 }
 
 /// `gen SEED SAMPLES`
@@ -47,10 +43,8 @@ pub fn read_gen<'a>(
     ensures command { IfOk result (λ command. IsCommand most_samples (map string_bytes words.entry.now) (meaning_of command)) }
     ensures usage { IfErr result (λ fault. fault ≡ WordsFault.Usage → IsUntaken (codes "gen") (codes "seed") (codes "samples") (map string_bytes words.entry.now) ⊎ IsUnnumbered most_samples (map string_bytes words.entry.now)) }
 {
-    match two_words(alloc, words, "gen", "seed", "samples") {
-        Ok((seed, samples)) => gen_of(seed, samples, most_samples),
-        Err(fault) => Err(fault),
-    }
+    let (seed, samples) = two_words(alloc, words, "gen", "seed", "samples")?;
+    gen_of(seed, samples, most_samples)
 }
 
 /// The command `gen` with these two words.

@@ -14,7 +14,7 @@ mod parsing;
 mod tests;
 
 use commands::{read_gen, read_show, read_wave};
-use std::alloc::Global;
+use std::alloc::{AllocError, Global};
 use thiserror::Error;
 
 /// What the program is asked to do. Names of files are as the words give them.
@@ -40,6 +40,16 @@ pub enum WordsFault {
     /// The allocator refused memory.
     #[error("out of memory")]
     NoMemory,
+}
+
+impl From<AllocError> for WordsFault {
+    ghost use Rattle.command_line.specs.declared.WordsFault.TheVariants.{NoMemory as MemoryFault};
+
+    ghost from_gives = { λ _ fault. fault ≡ MemoryFault };
+
+    fn from(_refused: AllocError) -> WordsFault {
+        WordsFault::NoMemory
+    }
 }
 
 /// The command that the words after the program's name say; `most_samples` is the limit on samples.

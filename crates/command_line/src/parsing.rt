@@ -24,14 +24,9 @@ pub fn two_words<'a>(
     ensures taken { IfOk result (λ found. Reads name.entry.now first.entry.now second.entry.now (map string_bytes words.entry.now) found.0.now found.1.now) }
     ensures usage { IfErr result (λ fault. fault ≡ WordsFault.Usage → spec.Takes (spec.two_words name.entry.now first.entry.now second.entry.now) (map string_bytes words.entry.now) → ⊥) }
 {
-    let command = match two_word_command(alloc, name, first, second) {
-        Ok(command) => command,
-        Err(_) => return Err(WordsFault::NoMemory),
-    };
-    match parse(command, words) {
-        Ok(matches) => Ok((word(&matches, first), word(&matches, second))),
-        Err(fault) => Err(fault),
-    }
+    let command = two_word_command(alloc, name, first, second)?;
+    let matches = parse(command, words)?;
+    Ok((word(&matches, first), word(&matches, second)))
 }
 
 /// The command `NAME FIRST SECOND`, as `clap` is told of it.
