@@ -14,8 +14,6 @@ mod parsing;
 mod properties;
 mod repetitions;
 mod sequences;
-#[cfg(test)]
-mod tests;
 mod units;
 
 pub use fault::ParseFault;
