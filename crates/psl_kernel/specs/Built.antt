@@ -1,9 +1,11 @@
 -- What is built for an expression, beside what the definitions say that it stands for.
-use Rattle.std.specs.Prelude.{Bool as Truth, ℕ, List, [], ◌∷◌, ◌++◌, Option, None, Some}
+use Rattle.std.specs.Prelude.{Bool as Truth, ℕ, List, [], ◌∷◌, ◌++◌, Option, None, Some, Result, Ok, Err, Box}
+use Rattle.std.specs.declared.alloc.Global.{Global}
 use Rattle.std.specs.Borrow.{Bor}
 use Rattle.std.specs.BTreeMap.{BTreeMap, get_by}
 use Rattle.std.specs.Cmp.Lexicographic.{slice_cmp}
 use Rattle.std.specs.Ordering.{nat_cmp}
+use Rattle.psl_base.specs.declared.items.NoMemory.{NoMemory}
 use Rattle.psl_lexer.specs.declared.token.Token.{Token}
 use Rattle.psl_grammar.specs.declared.tree.Expression as code_expression
 use Rattle.psl_tree.specs.declared.name.Name.{Name}
@@ -24,6 +26,15 @@ Gives (meanings.Sequence sequence) (OfProperty wanted) = ⊥
 Gives (meanings.Property formula) (OfBoolean wanted) = ⊥
 Gives (meanings.Property formula) (OfSequence wanted) = ⊥
 Gives (meanings.Property formula) (OfProperty wanted) = GivesFormula formula wanted
+
+-- what is built of a part of an expression, in a box, unless memory was refused
+abbrev pub BuiltPart : Type 0
+BuiltPart = Result (Box code_meaning.Meaning Global) NoMemory
+
+-- it is the wanted one
+abbrev pub GivesPart : BuiltPart → Meaning → Type 0
+GivesPart (Ok built) wanted = Gives built.value wanted
+GivesPart (Err refused) wanted = Unit {0}
 
 -- the same of what may be declared: there is one where one is wanted
 abbrev pub GivesOption : Option code_meaning.Meaning → Option Meaning → Type 0
@@ -57,6 +68,10 @@ IsDeclaredAs scope text found = (named : List Named) → IsScope scope named →
 abbrev pub IsMeaning : Declared → List Name → Truth → code_expression.Expression → code_meaning.Meaning → Type 0
 IsMeaning scope names in_sere x built = (named : List Named) → IsScope scope named → Gives built (meaning_of named names in_sere x)
 
+-- the same in a box
+abbrev pub IsPart : Declared → List Name → Truth → code_expression.Expression → BuiltPart → Type 0
+IsPart scope names in_sere x built = (named : List Named) → IsScope scope named → GivesPart built (meaning_of named names in_sere x)
+
 -- the same of a path
-abbrev pub IsSignalMeaning : Declared → List Name → List Token → Option Token → code_meaning.Meaning → Type 0
-IsSignalMeaning scope names path index built = (named : List Named) → IsScope scope named → Gives built (signal_meaning named names path index)
+abbrev pub IsSignalPart : Declared → List Name → List Token → Option Token → BuiltPart → Type 0
+IsSignalPart scope names path index built = (named : List Named) → IsScope scope named → GivesPart built (signal_meaning named names path index)

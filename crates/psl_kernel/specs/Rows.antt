@@ -1,6 +1,9 @@
 -- Rows of the table of derived forms, by the kinds of their operands, and what a builder of a row gives: the row of what
 -- its operands stand for, or that this has more than 4,096 constructors.
-use Rattle.std.specs.Prelude.{Bool as Truth, true, false, Option, None, Some, Result}
+use Rattle.std.specs.Prelude.{Bool as Truth, true, false, List, Option, None, Some, Result}
+use Rattle.psl_lexer.specs.declared.token.Token.{Token}
+use Rattle.psl_grammar.specs.declared.tree.Count as code_count
+use Rattle.psl_tree.specs.declared.name.Name.{Name}
 use Rattle.psl_tree.specs.Trees.{Boolean, Sequence, Formula, Empty, Concat, Fuse, Either, Both, Star, Strong, Not, And, Or, Suffix, Abort, SyncAbort}
 use Rattle.psl_meaning.specs.Sugar.{disjunction, implication, eventually, always}
 use Rattle.psl_sugar.specs.Booleans.{boolean_implication, boolean_iff}
@@ -10,13 +13,16 @@ use Rattle.psl_sugar.specs.Sequences.{both_of_any_length, within, repeated, goto
 use Rattle.psl_sugar.specs.declared.count.Count.{Count}
 use Rattle.psl_sugar.specs.declared.fault.SugarFault.{SugarFault}
 use Rattle.psl_sugar.specs.declared.operator.Strength.{Strength}
-use Rattle.psl_elaboration.specs.Kernel.{Meaning, OfBoolean, OfSequence, OfProperty, boolean_in, sequence_in, formula_in}
+use Rattle.psl_elaboration.specs.Kernel.{Meaning, OfBoolean, OfSequence, OfProperty, boolean_in, sequence_in, formula_in, repeated_meaning, optional_count, operated}
+use Rattle.psl_elaboration.specs.Kinds.{operator_before}
+use Rattle.psl_elaboration.specs.Operators.{repetition_operator, strength_of}
 use Rattle.psl_elaboration.specs.declared.operator.InfixOperator.{InfixOperator}
 use Rattle.psl_elaboration.specs.declared.operator.InfixOperator.TheVariants as operators
 use Rattle.psl_elaboration.specs.declared.operator.PrefixOperator.{PrefixOperator}
 use Rattle.psl_elaboration.specs.declared.operator.PrefixOperator.TheVariants as prefixes
-use Rattle.psl_kernel.specs.Built.{Gives}
+use Rattle.psl_kernel.specs.Built.{Gives, BuiltPart, GivesPart}
 use Rattle.psl_kernel.specs.declared.meaning.Meaning as code_meaning
+use Rattle.psl_kernel.specs.declared.nodes.Operands.{Operands}
 use Rattle.psl_kernel.specs.declared.connective.Connective.{Connective}
 use Rattle.psl_kernel.specs.declared.connective.Connective.TheVariants as connectives
 
@@ -166,6 +172,14 @@ MeaningRow row part result = (meaning : Meaning) → Gives part meaning → Give
 abbrev pub MeaningsRow : (Meaning → Meaning → Meaning) → code_meaning.Meaning → code_meaning.Meaning → code_meaning.Meaning → Type 0
 MeaningsRow row left right result = (first second : Meaning) → Gives left first → Gives right second → Gives result (row first second)
 
+-- the same of parts in boxes
+abbrev pub PartRow : (Meaning → Meaning) → BuiltPart → BuiltPart → Type 0
+PartRow row part result = (meaning : Meaning) → GivesPart part meaning → GivesPart result (row meaning)
+
+abbrev pub PartsRow : (Meaning → Meaning → Meaning) → BuiltPart → BuiltPart → BuiltPart → Type 0
+PartsRow row left right result =
+    (first second : Meaning) → GivesPart left first → GivesPart right second → GivesPart result (row first second)
+
 -- anything and a Boolean
 abbrev pub ClockRow : (Meaning → Boolean → Meaning) → code_meaning.Meaning → Result Boolean SugarFault → code_meaning.Meaning → Type 0
 ClockRow row part clock result =
@@ -180,3 +194,12 @@ ReadSequence read part result = (meaning : Meaning) → Gives part meaning → G
 
 abbrev pub ReadFormula : (Meaning → Formula) → code_meaning.Meaning → Result Formula SugarFault → Type 0
 ReadFormula read part result = (meaning : Meaning) → Gives part meaning → GivesFormula result (read meaning)
+
+-- a repetition of anything, as it is written behind it
+abbrev pub repetition_row : Token → Option code_count.Count → Meaning → Meaning
+repetition_row opening count part = OfSequence (repeated_meaning (repetition_operator opening.kind) (optional_count count) part)
+
+-- an operator as it is written between its operands
+abbrev pub operands_row : List Name → Truth → Operands → Meaning → Meaning → Meaning
+operands_row names in_sere operands =
+    operated names (operator_before in_sere operands.token.now.kind operands.right.now) (strength_of operands.token.now.kind) operands.left.now operands.right.now

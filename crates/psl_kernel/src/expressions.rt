@@ -1,165 +1,76 @@
 // Expressions.
-ghost use Rattle.std.specs.Prelude.{◌≡◌, IfOk};
-ghost use Rattle.psl_elaboration.specs.Kernel as kernel;
-ghost use Rattle.psl_elaboration.specs.LookUp.{reference};
-ghost use Rattle.psl_elaboration.specs.Operators as words;
-ghost use Rattle.psl_kernel.specs.Built.{Gives, IsMeaning, IsSignalMeaning};
-ghost use Rattle.psl_kernel.specs.Rows as rows;
+ghost use Rattle.psl_kernel.specs.Built.{IsMeaning, IsPart};
+ghost use Rattle.std.specs.Prelude.{IfOk};
 
-use crate::occurrences::{next_event, next_form};
-use crate::operators::{clocked_in, grouped, infix, prefixed};
-use crate::repetitions::{alone, optional_count, repeated};
-use crate::scope::declared_meaning;
-use crate::signals::{compared, literal, path_bits, path_edge};
+use crate::nodes::{
+    Operands, of_braces, of_clock, of_edge, of_group, of_literal, of_lone_repetition,
+    of_next_event, of_next_form, of_prefix, of_repetition, of_strong,
+};
 use crate::{Meaning, Scope};
 use psl_base::NoMemory;
-use psl_grammar::{Count, Expression, Path};
-use psl_kinds::operator_before;
-use psl_elaboration::InfixOperator;
-use psl_lexer::Token;
-use psl_names::{NameIndex, edge_of, path_text, prefix_operator, repetition_operator, strength_of};
-use psl_sugar::Strength;
+use psl_grammar::Expression;
+use psl_names::NameIndex;
 use std::alloc::Global;
 
-// Whether an operator is a comparison, and if so, whether it asks for equality.
-fn comparison(operator: InfixOperator) -> Option<bool>
-    ensures { result ≡ rows.comparison operator }
-{
-    match operator {
-        InfixOperator::Equal => Some(true),
-        InfixOperator::Unequal => Some(false),
-        _ => None,
+/// What is built of a part of an expression, in a box: a level of a deep tree then takes little stack.
+pub(crate) type Part = Result<Box<Meaning>, NoMemory>;
+
+/// What expressions are read over: the names that were declared before them in their list, and the signals.
+#[derive(Clone, Copy)]
+pub struct Elaborator<'s, 'd, 'n> {
+    pub alloc: Global,
+    pub scope: &'s Scope<'d>,
+    pub names: &'s NameIndex<'n>,
+}
+
+impl<'s, 'd, 'n> Elaborator<'s, 'd, 'n> {
+    /// What an expression stands for, in a sere or outside of one.
+    pub fn meaning_of(&self, in_sere: bool, expression: &Expression) -> Result<Meaning, NoMemory>
+        ensures { IfOk result (IsMeaning self.now.scope.now self.now.names.now in_sere expression.now) }
+    {
+        let built = self.part(in_sere, expression)?;
+        Ok(Box::into_inner(built))
     }
-}
 
-// An operator between its operands: a comparison reads their trees, any other what they stand for.
-fn operated(
-    alloc: Global,
-    names: &NameIndex,
-    operator: InfixOperator,
-    strength: Strength,
-    x: &Expression,
-    y: &Expression,
-    left: Meaning,
-    right: Meaning,
-) -> Meaning
-    ensures { rows.MeaningsRow (kernel.operated names.now operator strength x.now y.now) left right result }
-{
-    match comparison(operator) {
-        Some(is_equal) => Meaning::Boolean(compared(alloc, names, is_equal, x, y)),
-        None => infix(alloc, operator, strength, left, right),
-    }
-}
-
-// What a path stands for: a declared name for what it was declared as, and any other for a signal.
-fn signal(
-    alloc: Global,
-    scope: &Scope,
-    names: &NameIndex,
-    path: &Path,
-    index: &Option<Token>,
-) -> Result<Meaning, NoMemory>
-    ensures { IfOk result (IsSignalMeaning scope.now names.now path.now index.now) }
-{
-    if index.is_none() {
-        let text = path_text(alloc, path.as_slice())?;
-        if let Some(meaning) = declared_meaning(alloc, scope, text.as_slice())? {
-            return Ok(meaning);
-        }
-    }
-    Ok(Meaning::Boolean(path_bits(alloc, names, path, index)))
-}
-
-// `!` behind what it makes strong.
-fn strong(part: Meaning) -> Meaning
-    ensures { rows.MeaningRow (λ part. kernel.OfProperty (kernel.strong_in part)) part result }
-{
-    Meaning::Property(part.into_strong())
-}
-
-// In braces.
-fn braced(part: Meaning) -> Meaning
-    ensures { rows.MeaningRow (λ part. kernel.OfSequence (kernel.sequence_in part)) part result }
-{
-    Meaning::Sequence(part.into_sequence())
-}
-
-// A repetition behind its operand.
-fn repetition(alloc: Global, opening: &Token, count: &Option<Count>, part: Meaning) -> Meaning
-    ensures { rows.MeaningRow (λ part. kernel.OfSequence (kernel.repeated_meaning (words.repetition_operator opening.now.kind) (kernel.optional_count count.now) part)) part result }
-{
-    let operator = repetition_operator(opening.kind);
-    Meaning::Sequence(repeated(alloc, operator, optional_count(count), part))
-}
-
-// A repetition that stands alone.
-fn lone_repetition(alloc: Global, opening: &Token, count: &Option<Count>) -> Meaning
-    ensures { Gives result (kernel.OfSequence (kernel.alone_meaning (words.repetition_operator opening.now.kind) (kernel.optional_count count.now))) }
-{
-    let operator = repetition_operator(opening.kind);
-    Meaning::Sequence(alone(alloc, operator, optional_count(count)))
-}
-
-// `posedge` or `negedge` of a path.
-fn edge(
-    alloc: Global,
-    names: &NameIndex,
-    word: &Token,
-    path: &Path,
-    index: &Option<Token>,
-) -> Meaning
-    ensures { Gives result (kernel.OfBoolean (kernel.edge_meaning (words.edge_of word.now.kind) (reference names.now path.now index.now))) }
-{
-    Meaning::Boolean(path_edge(alloc, names, edge_of(word.kind), path, index))
-}
-
-/// What an expression stands for, after the declarations before it in its list, in a sere or outside of one.
-pub fn meaning_of(
-    alloc: Global,
-    scope: &Scope,
-    names: &NameIndex,
-    in_sere: bool,
-    expression: &Expression,
-) -> Result<Meaning, NoMemory>
-    ensures { IfOk result (IsMeaning scope.now names.now in_sere expression.now) }
-{
-    match expression {
-        Expression::Prefix(operator, x) => {
-            let x = meaning_of(alloc, scope, names, in_sere, x)?;
-            let strength = strength_of(operator.kind);
-            Ok(prefixed(alloc, prefix_operator(operator.kind), strength, x))
-        }
-        Expression::Infix(x, token, y) => {
-            let left = meaning_of(alloc, scope, names, in_sere, x)?;
-            let right = meaning_of(alloc, scope, names, in_sere, y)?;
-            let operator = operator_before(in_sere, token.kind, y);
-            let strength = strength_of(token.kind);
-            Ok(operated(alloc, names, operator, strength, x, y, left, right))
-        }
-        Expression::Postfix(x, _) => Ok(strong(meaning_of(alloc, scope, names, in_sere, x)?)),
-        Expression::Repeated(x, opening, count) => {
-            let x = meaning_of(alloc, scope, names, in_sere, x)?;
-            Ok(repetition(alloc, opening, count, x))
-        }
-        Expression::Clocked(x, _, clock) => {
-            let x = meaning_of(alloc, scope, names, in_sere, x)?;
-            let clock = meaning_of(alloc, scope, names, false, clock)?;
-            Ok(clocked_in(alloc, in_sere, x, clock.into_boolean()))
-        }
-        Expression::Grouped(_, x) => Ok(grouped(meaning_of(alloc, scope, names, false, x)?)),
-        Expression::Braced(_, x) => Ok(braced(meaning_of(alloc, scope, names, true, x)?)),
-        Expression::Repetition(opening, count) => Ok(lone_repetition(alloc, opening, count)),
-        Expression::Literal(token) => Ok(Meaning::Boolean(Ok(literal(token)))),
-        Expression::Signal(path, index) => signal(alloc, scope, names, path, index),
-        Expression::Edge(word, path, index) => Ok(edge(alloc, names, word, path, index)),
-        Expression::NextTimes(word, count, x) => {
-            let part = meaning_of(alloc, scope, names, false, x)?.into_formula();
-            Ok(Meaning::Property(next_form(alloc, word.kind, count, part)))
-        }
-        Expression::NextEvent(word, condition, count, x) => {
-            let test = meaning_of(alloc, scope, names, false, condition)?.into_boolean();
-            let part = meaning_of(alloc, scope, names, false, x)?.into_formula();
-            Ok(Meaning::Property(next_event(alloc, word.kind, test, count, part)))
+    // The same in a box. A statement may be 2,045 levels deep, so an arm hands its parts on as they came: what reads
+    // them does not recurse, and so it is not on the stack while the walk goes deeper.
+    fn part(&self, in_sere: bool, expression: &Expression) -> Part
+        ensures { IsPart self.now.scope.now self.now.names.now in_sere expression.now result }
+    {
+        let alloc = self.alloc;
+        match expression {
+            Expression::Prefix(operator, x) => of_prefix(alloc, operator, self.part(in_sere, x)),
+            Expression::Infix(x, token, y) => {
+                let left = self.part(in_sere, x);
+                let right = self.part(in_sere, y);
+                let operands = Operands {
+                    left: x,
+                    token,
+                    right: y,
+                };
+                self.infix(in_sere, operands, left, right)
+            }
+            Expression::Postfix(x, _) => of_strong(alloc, self.part(in_sere, x)),
+            Expression::Repeated(x, opening, count) => {
+                of_repetition(alloc, opening, count, self.part(in_sere, x))
+            }
+            Expression::Clocked(x, _, clock) => {
+                let x = self.part(in_sere, x);
+                of_clock(alloc, in_sere, x, self.part(false, clock))
+            }
+            Expression::Grouped(_, x) => of_group(alloc, self.part(false, x)),
+            Expression::Braced(_, x) => of_braces(alloc, self.part(true, x)),
+            Expression::Repetition(opening, count) => of_lone_repetition(alloc, opening, count),
+            Expression::Literal(token) => of_literal(alloc, token),
+            Expression::Signal(path, index) => self.signal(path, index),
+            Expression::Edge(word, path, index) => of_edge(alloc, self.names, word, path, index),
+            Expression::NextTimes(word, count, x) => {
+                of_next_form(alloc, word, count, self.part(false, x))
+            }
+            Expression::NextEvent(word, condition, count, x) => {
+                let condition = self.part(false, condition);
+                of_next_event(alloc, word, condition, count, self.part(false, x))
+            }
         }
     }
 }

@@ -7,6 +7,7 @@ mod connective;
 mod expressions;
 mod formulas;
 mod meaning;
+mod nodes;
 mod occurrences;
 mod operators;
 mod repetitions;
@@ -16,7 +17,7 @@ mod signals;
 #[cfg(test)]
 mod tests;
 
-pub use expressions::meaning_of;
+pub use expressions::Elaborator;
 pub use meaning::Meaning;
 pub use operators::clocked;
 pub use scope::{Scope, declare, no_names};

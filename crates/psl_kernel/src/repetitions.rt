@@ -6,8 +6,8 @@ ghost use Rattle.psl_elaboration.specs.Kernel as kernel;
 ghost use Rattle.psl_kernel.specs.Rows.{LetterRow, ReadSequence, SequenceRow, star_row, goto_row, occurrences_row};
 
 use crate::Meaning;
-use psl_grammar::Count as WrittenCount;
 use psl_elaboration::RepetitionOperator;
+use psl_grammar::Count as WrittenCount;
 use psl_names::{is_endless, number_of};
 use psl_sugar::{Count, MeasuredBool, MeasuredSere, SugarFault};
 use std::alloc::Global;

@@ -8,8 +8,8 @@ ghost use Rattle.psl_elaboration.specs.declared.found.Reference.TheVariants as r
 ghost use Rattle.psl_kernel.specs.Placed.{IsPlaced};
 
 use psl_base::NoMemory;
-use psl_grammar::{Expression, Path};
 use psl_elaboration::Reference;
+use psl_grammar::{Expression, Path};
 use psl_lexer::{Token, TokenKind};
 use psl_names::{NameIndex, literal_value, reference};
 use psl_sugar::{MOST_CONSTRUCTORS, MeasuredBool, SugarFault, Vector};

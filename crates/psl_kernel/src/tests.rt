@@ -1,5 +1,5 @@
 // What no clause says: that a meaning is built with ample memory, for each kind of expression, and when one is too large.
-use crate::{Meaning, Scope, clocked, declare, meaning_of, no_names};
+use crate::{Elaborator, Meaning, Scope, clocked, declare, no_names};
 use psl_base::{Items, NoMemory, Place, Text, boxed};
 use psl_grammar::{Count, Expression, Path};
 use psl_lexer::{Token, TokenKind};
@@ -73,7 +73,12 @@ fn built(alloc: Global, case: u8) -> Result<Meaning, SugarFault> {
     };
     let (scope, names) = (scope(alloc)?, names(alloc)?);
     let index = NameIndex::of(alloc, &names)?;
-    Ok(meaning_of(alloc, &scope, &index, false, &expression)?)
+    let elaborator = Elaborator {
+        alloc,
+        scope: &scope,
+        names: &index,
+    };
+    Ok(elaborator.meaning_of(false, &expression)?)
 }
 
 const ROWS: [(u8, &str); 3] = [

@@ -4,9 +4,9 @@ ghost use Rattle.psl_elaboration.specs.Directives as spec;
 ghost use Rattle.psl_layer.specs.Asked.{GivesClock, IsClockOf, IsGrown};
 
 use psl_base::NoMemory;
-use psl_grammar::Statement;
-use psl_kernel::{Meaning, Scope, declare, meaning_of, no_names};
 use psl_elaboration::DeclarationWord;
+use psl_grammar::Statement;
+use psl_kernel::{Elaborator, Meaning, Scope, declare, no_names};
 use psl_names::{NameIndex, declaration_word};
 use psl_sugar::{MeasuredBool, SugarFault};
 use std::alloc::Global;
@@ -27,27 +27,26 @@ pub(crate) fn grow<'a>(
     let Statement::Declaration { word, name, body } = statement else {
         return Ok(());
     };
-    match declaration_word(word.kind) {
+    let before = Elaborator {
+        alloc,
+        scope,
+        names,
+    };
+    let meaning = match declaration_word(word.kind) {
         DeclarationWord::Sequence => {
-            let sequence = meaning_of(alloc, scope, names, false, body)?.into_sequence();
-            declare(scope, name.text.as_slice(), Meaning::Sequence(sequence))
+            Meaning::Sequence(before.meaning_of(false, body)?.into_sequence())
         }
         DeclarationWord::Property => {
-            let formula = meaning_of(alloc, scope, names, false, body)?.into_formula();
-            declare(scope, name.text.as_slice(), Meaning::Property(formula))
+            Meaning::Property(before.meaning_of(false, body)?.into_formula())
         }
-        DeclarationWord::DefaultClock => Ok(()),
-    }
+        DeclarationWord::DefaultClock => return Ok(()),
+    };
+    declare(scope, name.text.as_slice(), meaning)
 }
 
 // The default clock that a statement declares, if it does.
-fn clock_of(
-    alloc: Global,
-    scope: &Scope,
-    names: &NameIndex,
-    statement: &Statement,
-) -> Result<Clock, NoMemory>
-    ensures { IfOk result (IsClockOf scope.now names.now statement.now) }
+fn clock_of(before: &Elaborator, statement: &Statement) -> Result<Clock, NoMemory>
+    ensures { IfOk result (IsClockOf before.now.scope.now before.now.names.now statement.now) }
 {
     let Statement::Declaration { word, body, .. } = statement else {
         return Ok(None);
@@ -55,7 +54,7 @@ fn clock_of(
     match declaration_word(word.kind) {
         DeclarationWord::Sequence | DeclarationWord::Property => Ok(None),
         DeclarationWord::DefaultClock => {
-            let clock = meaning_of(alloc, scope, names, false, body)?.into_boolean();
+            let clock = before.meaning_of(false, body)?.into_boolean();
             Ok(Some(clock))
         }
     }
@@ -72,7 +71,12 @@ pub(crate) fn default_clock(
 {
     let mut scope = no_names(alloc);
     for statement in all {
-        if let Some(clock) = clock_of(alloc, &scope, names, statement)? {
+        let before = Elaborator {
+            alloc,
+            scope: &scope,
+            names,
+        };
+        if let Some(clock) = clock_of(&before, statement)? {
             return Ok(Some(clock));
         }
         grow(alloc, &mut scope, names, statement)?;

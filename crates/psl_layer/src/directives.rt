@@ -7,8 +7,7 @@ ghost use Rattle.psl_layer.specs.Asked.{IsFormulaOf, UnderRow};
 use crate::declarations::Clock;
 use psl_base::NoMemory;
 use psl_grammar::Expression;
-use psl_kernel::{Meaning, Scope, clocked, meaning_of};
-use psl_names::NameIndex;
+use psl_kernel::{Elaborator, Meaning, clocked};
 use psl_sugar::{MeasuredFl, SugarFault};
 use psl_tree::Kind;
 use std::alloc::Global;
@@ -47,57 +46,51 @@ fn covered_under(alloc: Global, clock: Clock, part: Meaning) -> Result<MeasuredF
 
 // The formula of `assert` and `assume`: the default clock is put on one that has none of its own.
 fn asserted(
-    alloc: Global,
-    scope: &Scope,
-    names: &NameIndex,
+    before: &Elaborator,
     clock: Clock,
     property: &Expression,
 ) -> Result<MeasuredFl, SugarFault>
-    ensures { IsFormulaOf scope.now names.now clock kinds.Assert property.now result }
+    ensures { IsFormulaOf before.now.scope.now before.now.names.now clock kinds.Assert property.now result }
 {
-    let meaning = meaning_of(alloc, scope, names, false, property)?;
+    let meaning = before.meaning_of(false, property)?;
     match property {
         Expression::Clocked(..) => meaning.into_formula(),
-        _ => under_clock(alloc, clock, meaning),
+        _ => under_clock(before.alloc, clock, meaning),
     }
 }
 
 // The formula of `cover`.
 fn covered(
-    alloc: Global,
-    scope: &Scope,
-    names: &NameIndex,
+    before: &Elaborator,
     clock: Clock,
     property: &Expression,
 ) -> Result<MeasuredFl, SugarFault>
-    ensures { IsFormulaOf scope.now names.now clock kinds.Cover property.now result }
+    ensures { IsFormulaOf before.now.scope.now before.now.names.now clock kinds.Cover property.now result }
 {
     match property {
         Expression::Clocked(x, _, own) => {
-            let own = meaning_of(alloc, scope, names, false, own)?.into_boolean();
-            let part = meaning_of(alloc, scope, names, false, x)?;
-            covered_under(alloc, Some(own), part)
+            let own = before.meaning_of(false, own)?.into_boolean();
+            let part = before.meaning_of(false, x)?;
+            covered_under(before.alloc, Some(own), part)
         }
         _ => {
-            let part = meaning_of(alloc, scope, names, false, property)?;
-            covered_under(alloc, clock, part)
+            let part = before.meaning_of(false, property)?;
+            covered_under(before.alloc, clock, part)
         }
     }
 }
 
 /// The formula of a directive under the default clock of its list.
 pub(crate) fn directive_formula(
-    alloc: Global,
-    scope: &Scope,
-    names: &NameIndex,
+    before: &Elaborator,
     clock: Clock,
     kind: Kind,
     property: &Expression,
 ) -> Result<MeasuredFl, SugarFault>
-    ensures { IsFormulaOf scope.now names.now clock kind property.now result }
+    ensures { IsFormulaOf before.now.scope.now before.now.names.now clock kind property.now result }
 {
     match kind {
-        Kind::Cover => covered(alloc, scope, names, clock, property),
-        Kind::Assert | Kind::Assume => asserted(alloc, scope, names, clock, property),
+        Kind::Cover => covered(before, clock, property),
+        Kind::Assert | Kind::Assume => asserted(before, clock, property),
     }
 }

@@ -6,9 +6,9 @@ ghost use Rattle.psl_layer.specs.Asked.{IsLonger, IsLongerBy};
 use crate::declarations::{Clock, default_clock, grow};
 use crate::directives::{copy_of, directive_formula};
 use psl_base::{NoMemory, Text};
-use psl_grammar::Statement;
-use psl_kernel::{Scope, no_names};
 use psl_elaboration::LayerFault;
+use psl_grammar::Statement;
+use psl_kernel::{Elaborator, no_names};
 use psl_lexer::Token;
 use psl_names::{NameIndex, directive_kind_of};
 use psl_sugar::{MOST_CONSTRUCTORS, SugarFault};
@@ -40,14 +40,12 @@ fn next_number(unit: &Unit) -> Result<u32, NoMemory>
 // The directives of a text with one more, if the statement is one.
 #[tactic(auto, using(crate::proofs::Longer::longer_none, crate::proofs::Longer::longer_one, crate::proofs::Longer::longer_large))]
 fn with_statement(
-    alloc: Global,
+    before: &Elaborator,
     unit: Unit,
-    scope: &Scope,
-    names: &NameIndex,
     clock: &Clock,
     statement: &Statement,
 ) -> Result<Unit, LayerFault>
-    ensures { IsLongerBy scope.now names.now clock.now unit statement.now result }
+    ensures { IsLongerBy before.now.scope.now before.now.names.now clock.now unit statement.now result }
 {
     let Statement::Directive {
         label,
@@ -60,8 +58,8 @@ fn with_statement(
     };
     let mut unit = unit;
     let kind = directive_kind_of(word.kind);
-    let clock = copy_of(alloc, clock)?;
-    let formula = match directive_formula(alloc, scope, names, clock, kind, property) {
+    let clock = copy_of(before.alloc, clock)?;
+    let formula = match directive_formula(before, clock, kind, property) {
         Ok(formula) => formula,
         Err(SugarFault::TooLarge) => return Err(LayerFault::TooLarge(word.place)),
         Err(SugarFault::NoMemory) => return Err(LayerFault::NoMemory),
@@ -69,7 +67,7 @@ fn with_statement(
     let size = formula.size();
     prove!(size <= MOST_CONSTRUCTORS);
     let number = next_number(&unit)?;
-    let label = label_text(alloc, label)?;
+    let label = label_text(before.alloc, label)?;
     unit.push(Directive {
         number,
         kind,
@@ -94,7 +92,12 @@ pub(crate) fn with_statements(
     let mut unit = unit;
     let mut scope = no_names(alloc);
     for statement in all {
-        unit = match with_statement(alloc, unit, &scope, names, &clock, statement) {
+        let before = Elaborator {
+            alloc,
+            scope: &scope,
+            names,
+        };
+        unit = match with_statement(&before, unit, &clock, statement) {
             Ok(longer) => longer,
             Err(fault) => return Err(fault),
         };

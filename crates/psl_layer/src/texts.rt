@@ -11,9 +11,9 @@ ghost use Rattle.psl_layer.specs.Asked.{IsLonger};
 
 use crate::statements::with_statements;
 use psl_base::Items;
+use psl_elaboration::{Cause, Flaw, LayerFault};
 use psl_grammar::{UnitTree, VerificationUnit};
 use psl_kinds::first_flaw;
-use psl_elaboration::{Cause, Flaw, LayerFault};
 use psl_names::NameIndex;
 use psl_tree::{Names, Unit};
 use std::alloc::Global;
