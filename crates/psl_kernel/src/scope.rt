@@ -1,5 +1,6 @@
 // Declared names, and what they stand for.
-ghost use Rattle.std.specs.Prelude.{[], IfOk, OnOk};
+ghost use Rattle.std.specs.BTreeMap.{IsUnchanged};
+ghost use Rattle.std.specs.Prelude.{[], IfOk, OnErr, OnOk};
 ghost use Rattle.psl_kernel.specs.Built.{IsDeclaredAs, IsNamed, IsScope};
 
 use crate::Meaning;
@@ -17,9 +18,10 @@ pub fn no_names<'a>(alloc: Global) -> Scope<'a>
     Scope::new(alloc)
 }
 
-/// Adds a declared name. Of two with one text the first counts.
+/// Adds a declared name. Of two with one text the first counts. Where memory is refused the names are as before.
 pub fn declare<'a>(scope: &mut Scope<'a>, text: &'a [u8], meaning: Meaning) -> Result<(), NoMemory>
-    ensures { OnOk result (IsNamed scope.old text.now meaning scope.new) }
+    ensures named { OnOk result (IsNamed scope.old text.now meaning scope.new) }
+    ensures refused { OnErr result (IsUnchanged scope.old scope.new) }
 {
     if scope.contains_key(text) {
         return Ok(());

@@ -1,14 +1,20 @@
 -- The names after a statement, and the default clock of statements that are left.
-use Rattle.std.proofs.Common.{◌≡◌, ℕ, suc, ◌+◌, ◌<◌, List, [], ◌∷◌, ◌++◌, length, get_or, drop, Option, None, Some, Result, refl, sym, ap, subst, ◌∙◌, add-one}
+use Rattle.std.proofs.Common.{◌≡◌, ℕ, suc, ◌+◌, ◌<◌, List, [], ◌∷◌, ◌++◌, length, get_or, drop, Bool, true, false, ◌||◌, Option, None, Some, Result, refl, sym, ap, subst, ◌∙◌, add-one}
 use Rattle.std.proofs.lemmas.List.{append-nil}
 use Rattle.std.proofs.Math.Seq.{drop-cons}
+use Rattle.std.specs.List.{list_any}
 use Rattle.std.specs.Option.{option_or}
 use Rattle.psl_grammar.specs.declared.tree.Statement as code_statement
+use Rattle.psl_grammar.specs.declared.tree.Statement.TheVariants as statements
 use Rattle.psl_tree.specs.Trees.{Boolean}
 use Rattle.psl_tree.specs.declared.name.Name.{Name}
 use Rattle.psl_sugar.specs.declared.fault.SugarFault.{SugarFault}
-use Rattle.psl_elaboration.specs.Directives.{declared_by, clock_of, default_clock}
-use Rattle.psl_elaboration.specs.Kernel.{Named}
+use Rattle.psl_elaboration.specs.Directives.{declared_by, clock_by, clock_of, default_clock}
+use Rattle.psl_elaboration.specs.Flaws.{is_clock, declares_clock}
+use Rattle.psl_elaboration.specs.Kernel.{Meaning, Named, meaning_of}
+use Rattle.psl_elaboration.specs.Operators.{declaration_word}
+use Rattle.psl_elaboration.specs.declared.operator.DeclarationWord.{DeclarationWord}
+use Rattle.psl_elaboration.specs.declared.operator.DeclarationWord.TheVariants as declarations
 use Rattle.psl_kernel.specs.Built.{Declared, IsScope}
 use Rattle.psl_layer.specs.Asked.{GivesClock, IsClockOf, IsGrown}
 
@@ -68,3 +74,28 @@ clock_none scope names all index end before =
     let P : Option Boolean → Type 0 = λ wanted. GivesClock None wanted in
     let whole = before.same ∙ ap (λ (rest : List code_statement.Statement). default_clock before.named names rest) end in
     subst P (sym whole) tt
+
+no_clock_by : (word : DeclarationWord) (meaning : Meaning) → is_clock word ≡ false → clock_by word meaning ≡ None
+no_clock_by declarations.Sequence meaning none = refl
+no_clock_by declarations.Property meaning none = refl
+no_clock_by declarations.DefaultClock meaning none = cc
+
+no_clock_of : (named : List Named) (names : List Name) (statement : code_statement.Statement) → declares_clock statement ≡ false → clock_of named names statement ≡ None
+no_clock_of named names (statements.Directive label word property report) none = refl
+no_clock_of named names (statements.Declaration word name body) none = no_clock_by (declaration_word word.kind) (meaning_of named names false body) none
+
+neither : (here rest : Bool) → (here || rest) ≡ false → (here ≡ false) × (rest ≡ false)
+neither true rest none = absurd cc
+neither false rest none = (refl, none)
+
+no_clock_in : (named : List Named) (names : List Name) (all : List code_statement.Statement) → list_any declares_clock all ≡ false → default_clock named names all ≡ None
+no_clock_in named names [] none = refl
+no_clock_in named names (statement ∷ more) none =
+    let both = neither (declares_clock statement) (list_any declares_clock more) none in
+    let after : List Named = named ++ declared_by named names statement in
+    ap (λ (own : Option Boolean). option_or own (default_clock after names more)) (no_clock_of named names statement both.0)
+    ∙ no_clock_in after names more both.1
+
+-- no statement of the list declares it
+pub clock_absent : (names : List Name) (all : List code_statement.Statement) → list_any declares_clock all ≡ false → GivesClock None (default_clock [] names all)
+clock_absent names all none = let P : Option Boolean → Type 0 = λ wanted. GivesClock None wanted in subst P (sym (no_clock_in [] names all none)) tt

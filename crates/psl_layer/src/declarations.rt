@@ -1,6 +1,8 @@
 // Declarations of names and of the default clock.
-ghost use Rattle.std.specs.Prelude.{IfOk, OnOk, []};
+ghost use Rattle.std.specs.List.{list_any};
+ghost use Rattle.std.specs.Prelude.{◌≡◌, IfOk, OnOk, []};
 ghost use Rattle.psl_elaboration.specs.Directives as spec;
+ghost use Rattle.psl_elaboration.specs.Flaws as flaws;
 ghost use Rattle.psl_layer.specs.Asked.{GivesClock, IsClockOf, IsGrown};
 
 use psl_base::NoMemory;
@@ -44,6 +46,26 @@ pub(crate) fn grow<'a>(
     declare(scope, name.text.as_slice(), meaning)
 }
 
+// Whether a statement declares the default clock.
+fn declares_clock(statement: &Statement) -> bool
+    ensures { result ≡ flaws.declares_clock statement.now }
+{
+    match statement {
+        Statement::Directive { .. } => false,
+        Statement::Declaration { word, .. } => match declaration_word(word.kind) {
+            DeclarationWord::DefaultClock => true,
+            DeclarationWord::Sequence | DeclarationWord::Property => false,
+        },
+    }
+}
+
+// Whether some statement declares the default clock.
+fn has_clock(all: &[Statement]) -> bool
+    ensures { result ≡ list_any flaws.declares_clock all.now }
+{
+    all.iter().any(|statement| declares_clock(statement))
+}
+
 // The default clock that a statement declares, if it does.
 fn clock_of(before: &Elaborator, statement: &Statement) -> Result<Clock, NoMemory>
     ensures { IfOk result (IsClockOf before.now.scope.now before.now.names.now statement.now) }
@@ -60,8 +82,8 @@ fn clock_of(before: &Elaborator, statement: &Statement) -> Result<Clock, NoMemor
     }
 }
 
-/// The default clock of a list of statements.
-#[tactic(auto, using(crate::proofs::Scopes::clock_begun, crate::proofs::Scopes::clock_more, crate::proofs::Scopes::clock_found, crate::proofs::Scopes::clock_none))]
+/// The default clock of a list of statements. What is declared before it is built for it; where there is none, nothing.
+#[tactic(auto, using(crate::proofs::Scopes::clock_absent, crate::proofs::Scopes::clock_begun, crate::proofs::Scopes::clock_more, crate::proofs::Scopes::clock_found, crate::proofs::Scopes::clock_none))]
 pub(crate) fn default_clock(
     alloc: Global,
     names: &NameIndex,
@@ -69,6 +91,9 @@ pub(crate) fn default_clock(
 ) -> Result<Clock, NoMemory>
     ensures { IfOk result (λ clock. GivesClock clock (spec.default_clock [] names.now all.now)) }
 {
+    if !has_clock(all) {
+        return Ok(None);
+    }
     let mut scope = no_names(alloc);
     for statement in all {
         let before = Elaborator {

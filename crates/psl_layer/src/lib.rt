@@ -7,4 +7,5 @@ mod directives;
 mod statements;
 mod texts;
 
+pub use psl_elaboration::LayerFault;
 pub use texts::resolve;

@@ -1,5 +1,5 @@
 // Directives in order.
-ghost use Rattle.std.specs.Prelude.{◌≡◌, suc, length, IfOk};
+ghost use Rattle.std.specs.Prelude.{◌≡◌, ◌≤◌, suc, length, IfErr, IfOk};
 ghost use Rattle.psl_elaboration.specs.Directives as spec;
 ghost use Rattle.psl_layer.specs.Asked.{IsLonger, IsLongerBy};
 
@@ -25,9 +25,11 @@ fn label_text(alloc: Global, label: &Option<Token>) -> Result<Option<Text>, NoMe
     })
 }
 
-// The number of the next directive, if there is one.
+// The number of the next directive. Behind 2^32 - 1 directives there is none, and no fault stands for it: a tree may hold
+// so many, since its type bounds no list. A file, which has at most 268,435,456 bytes, has fewer.
 fn next_number(unit: &Unit) -> Result<u32, NoMemory>
-    ensures { IfOk result (λ number. number ≡ suc (length unit.now)) }
+    ensures number { IfOk result (λ number. number ≡ suc (length unit.now)) }
+    ensures full { IfErr result (λ _. 4294967295 ≤ length unit.now) }
 {
     let count = unit.len();
     if count < u32::MAX as usize {
