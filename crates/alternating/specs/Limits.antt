@@ -1,5 +1,6 @@
 -- Which formulas have a sequence that is too large.
 use Rattle.std.specs.Prelude.{◌⊎◌, ◌<◌}
+use Rattle.psl_tree.specs.declared.counts.TheConstants.{MOST_STATES}
 use Rattle.psl_tree.specs.Counts.{states_of}
 use Rattle.psl_tree.specs.Trees.{Sequence, Formula, Now, NowStrong, Weak, Strong, Not, And, Next, Until, Suffix, Abort, SyncAbort, Clocked}
 
@@ -18,6 +19,6 @@ SomeSequence P (Abort part _) = SomeSequence P part
 SomeSequence P (SyncAbort part _) = SomeSequence P part
 SomeSequence P (Clocked part _) = SomeSequence P part
 
--- some sequence of the formula counts more than 1,024 states
+-- some sequence of the formula counts more states than a sequence may
 abbrev pub HasLargeSequence : Formula → Type 0
-HasLargeSequence formula = SomeSequence (λ sequence. 1024 < states_of sequence) formula
+HasLargeSequence formula = SomeSequence (λ sequence. MOST_STATES < states_of sequence) formula

@@ -1,15 +1,9 @@
 -- The search for what is reached from the start.
 use Rattle.std.specs.Prelude.{◌≡◌, ◌<◌, ℕ, Bool as Truth, List, [], ◌∷◌, ◌++◌, length, slice_index}
-use Rattle.sere_nfa.specs.Marking as search
 use Rattle.sere_nfa.specs.Marking.{is_marked}
 use Rattle.alternating_theory.specs.Obligations.{Obligation}
 use Rattle.alternating_theory.specs.Positive.{Positive, Const, Holds, Owed, And, Or}
 use Rattle.alternating_theory.specs.Trimmed.{is_reached, count_below}
-use Rattle.alternating.specs.declared.marking.Marking as code_marking
-
--- which obligations are marked, and the marked ones whose deltas were not looked at yet
-abbrev pub marking_of : code_marking.Marking → search.Marking
-marking_of marking = record { marks = marking.marks.items; waiting = marking.waiting.items }
 
 -- the numbers that a combination owes, in order
 abbrev pub owed_in : Positive → List ℕ

@@ -22,15 +22,10 @@ use crate::step::{Beyond, fill, step};
 use crate::trim::{kept, names_of};
 use crate::truths::Truths;
 use psl_base::NoMemory;
-use psl_tree::{Atoms, Fl, Sere, obligations, states};
+use psl_tree::{Atoms, Fl, MOST_OBLIGATIONS, MOST_STATES, Sere, obligations, states};
 use std::alloc::Global;
 use std::marker::Model;
 use thiserror::Error;
-
-// The most states that a sequence may count, and the most obligations that a formula may.
-const MOST_STATES: u64 = 1024;
-
-const MOST_OBLIGATIONS: u64 = 2048;
 
 /// Why there is no automaton of a formula.
 #[derive(Debug, Drop, Error)]
@@ -188,7 +183,7 @@ pub fn of(alloc: Global, f: &Fl) -> Result<Alternating, AltFault>
     ensures size { IfOk result (λ automaton. SizeOf automaton (formula_of f.now)) }
     ensures atoms { IfOk result (λ automaton. KeepsAtoms automaton (formula_of f.now)) }
     ensures sere_too_large { (result ≡ Err AltFault.SereTooLarge) ↔ HasLargeSequence (formula_of f.now) }
-    ensures too_large { (result ≡ Err AltFault.AutomatonTooLarge) ↔ ((HasLargeSequence (formula_of f.now) → ⊥) × (2048 < obligations_of (formula_of f.now))) }
+    ensures too_large { (result ≡ Err AltFault.AutomatonTooLarge) ↔ ((HasLargeSequence (formula_of f.now) → ⊥) × (MOST_OBLIGATIONS < obligations_of (formula_of f.now))) }
 {
     if has_large_sequence(f) {
         return Err(AltFault::SereTooLarge);
@@ -221,7 +216,7 @@ fn has_large_sequence(f: &Fl) -> bool
 }
 
 fn is_large(sequence: &Sere) -> bool
-    ensures { IsTrue result ↔ (1024 < states_of (sequence_of sequence.now)) }
+    ensures { IsTrue result ↔ (MOST_STATES < states_of (sequence_of sequence.now)) }
 {
     states(sequence) > MOST_STATES
 }
@@ -230,7 +225,7 @@ fn is_large(sequence: &Sere) -> bool
 fn finished(alloc: Global, f: &Fl) -> Result<Alternating, NoMemory>
     requires plain { IsPlain (formula_of f.now) }
     requires small { HasLargeSequence (formula_of f.now) → ⊥ }
-    requires room { obligations_of (formula_of f.now) ≤ 2048 }
+    requires room { obligations_of (formula_of f.now) ≤ MOST_OBLIGATIONS }
     ensures { IfOk result (λ automaton. automaton ≡ built (formula_of f.now)) }
 {
     let Part {

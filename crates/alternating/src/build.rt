@@ -2,6 +2,7 @@ ghost use Rattle.std.specs.Prelude.{◌≡◌, ◌+◌, ◌^◌, ◌<◌, ◌≤
 ghost use Rattle.psl_meaning.specs.Clockless.{IsPlain, HasNoClock};
 ghost use Rattle.psl_tree.specs.Counts.{obligations_of, states_of};
 ghost use Rattle.psl_tree.specs.Trees.{formula_of, sequence_of};
+ghost use Rattle.psl_tree.specs.declared.counts.TheConstants.{MOST_STATES};
 ghost use Rattle.sere_nfa.specs.Acceptance.{IsSound};
 ghost use Rattle.sere_nfa.specs.Construction.{nfa_of};
 ghost use Rattle.alternating_theory.specs.Construction.{part_of, prefix_part, suffix_part};
@@ -76,7 +77,7 @@ fn end(offset: u32, part: &Part) -> u32
 // The part of a sequence of which a prefix must be read.
 fn prefix_of(alloc: Global, offset: u32, end: bool, sequence: &Sere) -> Result<Part, NoMemory>
     requires plain { HasNoClock (sequence_of sequence.now) }
-    requires small { states_of (sequence_of sequence.now) ≤ 1024 }
+    requires small { states_of (sequence_of sequence.now) ≤ MOST_STATES }
     requires room { offset + states_of (sequence_of sequence.now) < 2 ^ 32 }
     ensures { IfOk result (λ part. part_of_code part ≡ prefix_part offset end (nfa_of (sequence_of sequence.now))) }
 {
@@ -88,7 +89,7 @@ fn prefix_of(alloc: Global, offset: u32, end: bool, sequence: &Sere) -> Result<P
 // The part that each prefix of a sequence is followed by.
 fn suffix_of(alloc: Global, offset: u32, sequence: &Sere, part: Part) -> Result<Part, NoMemory>
     requires plain { HasNoClock (sequence_of sequence.now) }
-    requires small { states_of (sequence_of sequence.now) ≤ 1024 }
+    requires small { states_of (sequence_of sequence.now) ≤ MOST_STATES }
     requires room { offset + length part.rest.items + states_of (sequence_of sequence.now) < 2 ^ 32 }
     ensures { IfOk result (λ new. part_of_code new ≡ suffix_part offset (nfa_of (sequence_of sequence.now)) (part_of_code part)) }
 {
@@ -100,7 +101,7 @@ fn suffix_of(alloc: Global, offset: u32, sequence: &Sere, part: Part) -> Result<
 // The automaton of a sequence that is not too large.
 fn nfa(alloc: Global, sequence: &Sere) -> Result<Nfa, NoMemory>
     requires plain { HasNoClock (sequence_of sequence.now) }
-    requires small { states_of (sequence_of sequence.now) ≤ 1024 }
+    requires small { states_of (sequence_of sequence.now) ≤ MOST_STATES }
     ensures built { IfOk result (λ nfa. nfa ≡ nfa_of (sequence_of sequence.now)) }
     ensures sound { IfOk result (λ nfa. IsSound nfa) }
     ensures size { IfOk result (λ nfa. length nfa.states ≤ states_of (sequence_of sequence.now)) }

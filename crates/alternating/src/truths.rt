@@ -1,4 +1,4 @@
-ghost use Rattle.std.specs.Prelude.{◌≡◌, ◌≤◌, ◌<◌, ◌*◌, ℕ, false, length, replicate, slice_set, IsTrue, IfOk};
+ghost use Rattle.std.specs.Prelude.{◌≡◌, ◌↔◌, ◌≤◌, ◌<◌, ◌*◌, ℕ, false, length, replicate, slice_set, IsTrue, IfOk};
 ghost use Rattle.alternating.specs.Packed.{is_set};
 ghost use Rattle.alternating.specs.Stepped.{value_at};
 
@@ -57,7 +57,7 @@ impl Truths {
 
     /// Whether two lists of values are equal.
     pub fn same(&self, other: &Truths) -> bool
-        ensures { IsTrue result → self.now ≡ other.now }
+        ensures { IsTrue result ↔ (self.now ≡ other.now) }
     {
         self.count == other.count && self.words.as_slice() == other.words.as_slice()
     }

@@ -1,6 +1,6 @@
 use Rattle.std.proofs.Common.{◌≡◌, ◌<◌, [], rules}
 use Rattle.sere_nfa.proofs.Reach.{work}
-use Rattle.alternating.specs.Search.{marking_of}
+use Rattle.sere_nfa.specs.MarkingView.{marking_of}
 use Rattle.alternating.specs.Views.{obligations_of_code}
 use Rattle.alternating.proofs.Search.{IsSearch, begun-code, below-code, owed-code, more-code, ended-code}
 use Rattle.alternating.proofs.marking.reached_marks.Goals as goal
@@ -18,10 +18,10 @@ visit_owed-requires c =
     owed-code c.args.obligations.now c.args.start c.requires.begun c.requires.within (marking_of c.loop-number.marking) c.pop.new.self.items c.in-Some.number
     c.index-obligations-number.result c.loop-number.invariant c.in-Some.ensures.items c.index-obligations-number.is
 
-stepped : (c : goal.In_ok-visit_owed) → IsSearch (obligations_of_code c.args.obligations.now) c.args.start (marking_of c.visit_owed.new.self) × (work (marking_of c.visit_owed.new.self) < work (marking_of c.loop-number.marking))
+stepped : (c : goal.In_ok-visit_owed) → IsSearch (obligations_of_code c.args.obligations.now) c.args.start (marking_of c.visit_owed.new.marking) × (work (marking_of c.visit_owed.new.marking) < work (marking_of c.loop-number.marking))
 stepped c =
     more-code c.args.obligations.now c.args.start c.requires.begun c.requires.within (marking_of c.loop-number.marking) c.pop.new.self.items c.in-Some.number
-    c.index-obligations-number.result (marking_of c.visit_owed.new.self) c.loop-number.invariant c.in-Some.ensures.items c.index-obligations-number.is c.in_ok-visit_owed.ensures.marking
+    c.index-obligations-number.result (marking_of c.visit_owed.new.marking) c.loop-number.invariant c.in-Some.ensures.items c.index-obligations-number.is c.in_ok-visit_owed.ensures.marking
 
 pub loop-number-smaller : goal.loop-number-smaller
 loop-number-smaller c = (stepped c).1

@@ -1,5 +1,5 @@
 use Rattle.sere_nfa.proofs.Reach.{work}
-use Rattle.alternating.specs.Search.{marking_of}
+use Rattle.sere_nfa.specs.MarkingView.{marking_of}
 use Rattle.alternating.specs.Views.{obligations_of_code}
 use Rattle.alternating.proofs.Search.{IsSearch}
 use Rattle.alternating.proofs.marking.reached_marks.Given as goal

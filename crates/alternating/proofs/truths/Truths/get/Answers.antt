@@ -7,7 +7,7 @@ use Rattle.alternating.proofs.truths.Truths.get.Goals as goal
 pub is_set-requires : goal.is_set-requires
 is_set-requires c =
     let small : c.args.q < length (listed c.self.inside.count (is_set c.self.inside.words.items)) = subst (λ (l : List Bool). c.args.q < length l) (sym c.self.view_is) c.requires in
-    omega (arith, small, length-listed c.self.inside.count (is_set c.self.inside.words.items), c.self.invariant, ap (λ (l : List ℕ). length l) c.as_slice.ensures.value)
+    omega (arith, small, length-listed c.self.inside.count (is_set c.self.inside.words.items), c.self.invariant.room, ap (λ (l : List ℕ). length l) c.as_slice.ensures.value)
 
 pub returns : goal.returns
 returns c =

@@ -6,7 +6,7 @@ use Rattle.alternating.proofs.truths.Truths.words.Goals as goal
 
 pub returns-clause-room : goal.returns-clause-room
 returns-clause-room c =
-    omega (arith, ap (λ (l : List Bool). length l) c.self.view_is, length-listed c.self.inside.count (is_set c.self.inside.words.items), c.self.invariant, ap (λ (l : List ℕ). length l) c.as_slice.ensures.value)
+    omega (arith, ap (λ (l : List Bool). length l) c.self.view_is, length-listed c.self.inside.count (is_set c.self.inside.words.items), c.self.invariant.room, ap (λ (l : List ℕ). length l) c.as_slice.ensures.value)
 
 pub returns-clause-bits : goal.returns-clause-bits
 returns-clause-bits c = λ number h.
