@@ -1,7 +1,8 @@
 -- What is known of the program's part for a formula: it is the part of the construction.
 use Rattle.std.proofs.Common.{◌≡◌, ℕ, ◌+◌, ◌≤◌, ◌<◌, List, [], ◌∷◌, length, sym, subst, arith}
 use Rattle.std.specs.List.{AllByRecursion}
-use Rattle.std.specs.Prelude.{Result, Ok, Err, IfOk}
+use Rattle.std.specs.Prelude.{Result, Ok, Err, IfOk, Box}
+use Rattle.std.specs.declared.alloc.Global.{Global}
 use Rattle.psl_base.specs.declared.items.NoMemory.{NoMemory}
 use Rattle.std.proofs.lemmas.List.{length-map}
 use Rattle.std.proofs.lemmas.List.Elements.{All-from_recursion, recursion_from_All}
@@ -59,12 +60,12 @@ built-count offset f part h e =
     omega (arith, count, length-map part.rest.items obligation_of)
 
 -- what a call that makes the part of a formula tells besides
-pub built-ok-within : (offset : ℕ) (f : Formula) (made : Result code_part.Part NoMemory) → IsPlain f → IfOk made (λ part. part_of_code part ≡ part_of offset f)
-    → IfOk made (λ part. PartWithin offset (offset + length part.rest.items) part)
-built-ok-within offset f (Ok part) h e = built-within offset f part h e
+pub built-ok-within : (offset : ℕ) (f : Formula) (made : Result (Box code_part.Part Global) NoMemory) → IsPlain f → IfOk made (λ part. part_of_code part.value ≡ part_of offset f)
+    → IfOk made (λ part. PartWithin offset (offset + length part.value.rest.items) part.value)
+built-ok-within offset f (Ok part) h e = built-within offset f part.value h e
 built-ok-within offset f (Err e) h _ = tt
 
-pub built-ok-count : (offset : ℕ) (f : Formula) (made : Result code_part.Part NoMemory) → IsPlain f → IfOk made (λ part. part_of_code part ≡ part_of offset f)
-    → IfOk made (λ part. length part.rest.items < obligations_of f)
-built-ok-count offset f (Ok part) h e = built-count offset f part h e
+pub built-ok-count : (offset : ℕ) (f : Formula) (made : Result (Box code_part.Part Global) NoMemory) → IsPlain f → IfOk made (λ part. part_of_code part.value ≡ part_of offset f)
+    → IfOk made (λ part. length part.value.rest.items < obligations_of f)
+built-ok-count offset f (Ok part) h e = built-count offset f part.value h e
 built-ok-count offset f (Err e) h _ = tt

@@ -5,7 +5,7 @@ ghost use Rattle.alternating.specs.Views.{obligation_of, obligations_of_code, pa
 
 use crate::obligation::Obligation;
 use crate::positive::{Positive, all_of};
-use psl_base::NoMemory;
+use psl_base::{NoMemory, boxed};
 use psl_tree::Bool;
 use std::alloc::Global;
 
@@ -16,29 +16,33 @@ pub(crate) struct Part {
     pub(crate) rest: Vec<Obligation>,
 }
 
+// Parts are made in boxes, by functions of their own, so that a level of a deep formula takes little of
+// the stack.
+
 /// The part of a Boolean, with its value where there is no letter.
-pub(crate) fn now(alloc: Global, end: bool, test: &Bool) -> Result<Part, NoMemory>
-    ensures { IfOk result (λ part. part_of_code part ≡ now_part end (boolean_of test.now)) }
+#[inline(never)]
+pub(crate) fn now(alloc: Global, end: bool, test: &Bool) -> Result<Box<Part>, NoMemory>
+    ensures { IfOk result (λ part. part_of_code part.value ≡ now_part end (boolean_of test.now)) }
 {
-    Ok(Part {
-        start: Obligation {
-            delta: Positive::Holds(test.copy(alloc)?),
-            accepting: false,
-            end,
-            top: true,
-            bottom: false,
-        },
-        rest: Vec::new(alloc),
-    })
+    let start = Obligation {
+        delta: Positive::Holds(test.copy(alloc)?),
+        accepting: false,
+        end,
+        top: true,
+        bottom: false,
+    };
+    let rest = Vec::new(alloc);
+    boxed(alloc, Part { start, rest })
 }
 
 /// The part of a negation: its obligations are the duals.
-pub(crate) fn not(alloc: Global, part: &Part) -> Result<Part, NoMemory>
-    ensures { IfOk result (λ new. part_of_code new ≡ not_part (part_of_code part.now)) }
+#[inline(never)]
+pub(crate) fn not(alloc: Global, part: &Part) -> Result<Box<Part>, NoMemory>
+    ensures { IfOk result (λ new. part_of_code new.value ≡ not_part (part_of_code part.now)) }
 {
     let start = part.start.opposite(alloc)?;
     let rest = opposites(alloc, part.rest.as_slice())?;
-    Ok(Part { start, rest })
+    boxed(alloc, Part { start, rest })
 }
 
 fn opposites(alloc: Global, obligations: &[Obligation]) -> Result<Vec<Obligation>, NoMemory>
@@ -53,14 +57,15 @@ fn opposites(alloc: Global, obligations: &[Obligation]) -> Result<Vec<Obligation
 }
 
 /// The part of a conjunction. The obligations of the second part follow those of the first.
-pub(crate) fn and(alloc: Global, left: Part, right: Part) -> Result<Part, NoMemory>
-    ensures { IfOk result (λ part. part_of_code part ≡ and_part (part_of_code left) (part_of_code right)) }
+#[inline(never)]
+pub(crate) fn and(alloc: Global, left: Box<Part>, right: Box<Part>) -> Result<Box<Part>, NoMemory>
+    ensures { IfOk result (λ part. part_of_code part.value ≡ and_part (part_of_code left.value) (part_of_code right.value)) }
 {
-    let Part { start, mut rest } = left;
+    let Part { start, mut rest } = Box::into_inner(left);
     let Part {
         start: other,
         rest: more,
-    } = right;
+    } = Box::into_inner(right);
     add_all(&mut rest, more)?;
     let (end, top, bottom) = (
         start.end && other.end,
@@ -68,16 +73,14 @@ pub(crate) fn and(alloc: Global, left: Part, right: Part) -> Result<Part, NoMemo
         start.bottom && other.bottom,
     );
     let delta = all_of(alloc, delta_of(start), delta_of(other))?;
-    Ok(Part {
-        start: Obligation {
-            delta,
-            accepting: false,
-            end,
-            top,
-            bottom,
-        },
-        rest,
-    })
+    let start = Obligation {
+        delta,
+        accepting: false,
+        end,
+        top,
+        bottom,
+    };
+    boxed(alloc, Part { start, rest })
 }
 
 // What an obligation asks.
@@ -95,11 +98,12 @@ fn delta_of(obligation: Obligation) -> Positive
 }
 
 /// The part that is owed at the next place, which must be there.
-pub(crate) fn next(offset: u32, part: Part) -> Result<Part, NoMemory>
-    requires { offset + length part.rest.items < 2 ^ 32 }
-    ensures { IfOk result (λ new. part_of_code new ≡ next_part offset (part_of_code part)) }
+#[inline(never)]
+pub(crate) fn next(alloc: Global, offset: u32, part: Box<Part>) -> Result<Box<Part>, NoMemory>
+    requires { offset + length part.value.rest.items < 2 ^ 32 }
+    ensures { IfOk result (λ new. part_of_code new.value ≡ next_part offset (part_of_code part.value)) }
 {
-    let Part { start, mut rest } = part;
+    let Part { start, mut rest } = Box::into_inner(part);
     let first = Obligation {
         delta: Positive::Owed(offset + rest.len() as u32),
         accepting: false,
@@ -108,23 +112,29 @@ pub(crate) fn next(offset: u32, part: Part) -> Result<Part, NoMemory>
         bottom: start.bottom,
     };
     add(&mut rest, start.with_letter())?;
-    Ok(Part { start: first, rest })
+    boxed(alloc, Part { start: first, rest })
 }
 
 /// The part of an until. The obligations of the second part follow those of the first, and the last
 /// is the until itself.
-pub(crate) fn until(alloc: Global, offset: u32, left: Part, right: Part) -> Result<Part, NoMemory>
-    requires { offset + (length left.rest.items + length right.rest.items) < 2 ^ 32 }
-    ensures { IfOk result (λ part. part_of_code part ≡ until_part offset (part_of_code left) (part_of_code right)) }
+#[inline(never)]
+pub(crate) fn until(
+    alloc: Global,
+    offset: u32,
+    left: Box<Part>,
+    right: Box<Part>,
+) -> Result<Box<Part>, NoMemory>
+    requires { offset + (length left.value.rest.items + length right.value.rest.items) < 2 ^ 32 }
+    ensures { IfOk result (λ part. part_of_code part.value ≡ until_part offset (part_of_code left.value) (part_of_code right.value)) }
 {
     let Part {
         start: first,
         mut rest,
-    } = left;
+    } = Box::into_inner(left);
     let Part {
         start: second,
         rest: more,
-    } = right;
+    } = Box::into_inner(right);
     add_all(&mut rest, more)?;
     let number = offset + rest.len() as u32;
     add(
@@ -132,7 +142,7 @@ pub(crate) fn until(alloc: Global, offset: u32, left: Part, right: Part) -> Resu
         Obligation::until(alloc, number, &first, &second)?,
     )?;
     let start = Obligation::until(alloc, number, &first, &second)?;
-    Ok(Part { start, rest })
+    boxed(alloc, Part { start, rest })
 }
 
 /// Adds an obligation at the end.
