@@ -1,3 +1,8 @@
+pub use Rattle.psl_base.specs.Places
+pub use Rattle.psl_base.specs.Shelf
+pub use Rattle.psl_base.specs.Tokens
+pub use Rattle.psl_base.specs.declared.place.Place
+pub use Rattle.psl_tree.specs.Names
 pub mod Changes
 pub mod Declarations
 pub mod Events

@@ -13,7 +13,7 @@ const SHORT: usize = 65_792;
 /// How many hints there are.
 const HINTS: usize = 65_536;
 
-/// Texts of which no two are equal, numbered from 0 in the order in which they came. Those of one byte
+/// The codes of a recording: texts of which no two are equal, numbered from 0 in the order in which they came. Those of one byte
 /// or two, which are most of the codes of a recording, are found by a table, which has for each of them
 /// its number and 1 more, or 0. Those of three are looked for first where a second table points for them.
 #[derive(Drop)]
@@ -103,9 +103,7 @@ impl<'a> CodeTable<'a> {
         ensures err { OnErr result (self.new ≡ self.old) }
     {
         let place = self.texts.len();
-        if self.texts.push(text).is_err() {
-            return Err(NoMemory);
-        }
+        self.texts.push(text)?;
         match self.places.insert(text, place) {
             Ok(_) => {
                 note(&mut self.short, text, place as u32 + 1);
@@ -124,13 +122,6 @@ impl<'a> CodeTable<'a> {
         ensures { result ≡ length self.now }
     {
         self.texts.as_slice().len()
-    }
-
-    /// The texts in order.
-    pub fn as_slice(&self) -> &[&'a [u8]]
-        ensures { map (λ text. text.now) result.now ≡ self.now }
-    {
-        self.texts.as_slice()
     }
 }
 
@@ -173,9 +164,7 @@ fn zeros(alloc: Global, count: usize) -> Result<Vec<u32>, NoMemory>
     ensures zero { IfOk result (λ zeros. (k : ℕ) → slice_index zeros.items k ≡ 0) }
 {
     let mut zeros = Vec::new(alloc);
-    if zeros.resize(count, 0).is_err() {
-        return Err(NoMemory);
-    }
+    zeros.resize(count, 0)?;
     Ok(zeros)
 }
 

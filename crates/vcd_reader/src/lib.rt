@@ -21,5 +21,6 @@ mod tests;
 pub use body::SAMPLE_LIMIT;
 pub use fault::VcdFault;
 pub use laws::{first_fault_law, one_meaning_law, running_law};
+pub use psl_base::Place;
 pub use reading::read_vcd;
 pub use recording::Recording;

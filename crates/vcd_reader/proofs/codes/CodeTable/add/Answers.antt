@@ -12,7 +12,7 @@ pub invariant_of-self-in-Ok : goal.invariant_of-self-in-Ok
 invariant_of-self-in-Ok c =
     let new : is_new (map (λ text. text.now) c.self.inside.texts.items) c.args.text.now ≡ true = rw c.self.view_is c.requires.new in
     let at : c.len-place.result ≡ length (map (λ text. text.now) c.self.inside.texts.items) = c.len-place.ensures ∙ c.self.inside.texts.ok.0 ∙ sym (length-map c.self.inside.texts.items (λ text. text.now)) in
-    let pushed : c.push.new.self.items ≡ c.self.inside.texts.items ++ c.args.text ∷ [] = c.push.ensures.items ∙ rw c.if-is_err.ensures.negation refl in
+    let pushed : c.push.new.self.items ≡ c.self.inside.texts.items ++ c.args.text ∷ [] = c.in_ok-push.ensures.items in
     let bytes : AreBytes c.args.text.now = λ k. omega (arith, c.type_inv.text k) in (
       λ query.
           let updated = hash_map_updates_str c.args.text.now c.self.inside.places c.insert.new.self (Some c.len-place.result) c.in-Ok.ensures.updates query in
