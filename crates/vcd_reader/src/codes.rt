@@ -1,4 +1,4 @@
-ghost use Rattle.std.specs.Prelude.{◌≡◌, ℕ, slice_index, ◌+◌, ◌<◌, ◌^◌, ◌∷◌, ◌++◌, [], true, map, length, vec_len, OnOk, OnErr, IfOk, IfSome};
+ghost use Rattle.std.specs.Prelude.{◌≡◌, ℕ, slice_index, ◌+◌, ◌<◌, ◌^◌, ◌∷◌, ◌++◌, [], true, length, vec_len, OnOk, OnErr, IfOk, IfSome};
 ghost use Rattle.vcd_reader.specs.Labels.{place_of, is_new};
 ghost use Rattle.vcd_reader.specs.Short.{short_place, number_of, noted};
 
@@ -33,15 +33,15 @@ impl<'a> Model for CodeTable<'a> {
 
     ghost Value = { List (List ℕ) };
 
-    ghost view = { λ distinct. map (λ text. text.now) distinct.texts.items };
+    ghost view = { λ table. map (λ text. text.now) table.texts.items };
 
-    ghost invariant = { λ distinct. ((text : List ℕ) → get_by (λ key. bytes_eq text key.now) distinct.places ≡ place_of (map (λ other. other.now) distinct.texts.items) text) × IsShortTable distinct.short.items (map (λ other. other.now) distinct.texts.items) × AreDistinct (map (λ other. other.now) distinct.texts.items) };
+    ghost invariant = { λ table. ((text : List ℕ) → get_by (λ key. bytes_eq text key.now) table.places ≡ place_of (map (λ other. other.now) table.texts.items) text) × IsShortTable table.short.items (map (λ other. other.now) table.texts.items) × AreDistinct (map (λ other. other.now) table.texts.items) };
 }
 
 impl<'a> CodeTable<'a> {
     /// No texts.
     pub fn new(alloc: Global) -> Result<CodeTable<'a>, NoMemory>
-        ensures { IfOk result (λ distinct. distinct ≡ []) }
+        ensures { IfOk result (λ table. table ≡ []) }
     {
         let short = zeros(alloc, SHORT)?;
         let hints = zeros(alloc, HINTS)?;
