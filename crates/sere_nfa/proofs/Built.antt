@@ -1,7 +1,8 @@
 -- What is known of the program's part for a sequence: it is the part of the construction.
 use Rattle.std.proofs.Common.{◌≡◌, ℕ, ◌+◌, ◌*◌, ◌≤◌, ◌<◌, List, [], ◌∷◌, length, sym, subst, arith}
 use Rattle.std.specs.List.{AllByRecursion}
-use Rattle.std.specs.Prelude.{Result, Ok, Err, IfOk}
+use Rattle.std.specs.Prelude.{Result, Ok, Err, IfOk, Box}
+use Rattle.std.specs.declared.alloc.Global.{Global}
 use Rattle.psl_base.specs.declared.items.NoMemory.{NoMemory}
 use Rattle.std.proofs.Math.Nat.{mul-le-mul_left}
 use Rattle.std.proofs.lemmas.List.{length-map}
@@ -65,14 +66,14 @@ some-state (Star r) = omega (arith, some-state r)
 some-state (Clocked r b) = some-state r
 
 -- what a call that makes the part of a sequence tells besides
-pub built-ok-within : (offset : ℕ) (r : Sequence) (made : Result code_part.Part NoMemory) → HasNoClock r → IfOk made (λ part. part_of_code part ≡ part_of offset r)
-    → IfOk made (λ part. PartWithin offset (offset + length part.states.items) part)
-built-ok-within offset r (Ok part) h e = built-within offset r part h e
+pub built-ok-within : (offset : ℕ) (r : Sequence) (made : Result (Box code_part.Part Global) NoMemory) → HasNoClock r → IfOk made (λ part. part_of_code part.value ≡ part_of offset r)
+    → IfOk made (λ part. PartWithin offset (offset + length part.value.states.items) part.value)
+built-ok-within offset r (Ok part) h e = built-within offset r part.value h e
 built-ok-within offset r (Err e) h _ = tt
 
-pub built-ok-count : (offset : ℕ) (r : Sequence) (made : Result code_part.Part NoMemory) → HasNoClock r → IfOk made (λ part. part_of_code part ≡ part_of offset r)
-    → IfOk made (λ part. length part.states.items < states_of r)
-built-ok-count offset r (Ok part) h e = built-count offset r part h e
+pub built-ok-count : (offset : ℕ) (r : Sequence) (made : Result (Box code_part.Part Global) NoMemory) → HasNoClock r → IfOk made (λ part. part_of_code part.value ≡ part_of offset r)
+    → IfOk made (λ part. length part.value.states.items < states_of r)
+built-ok-count offset r (Ok part) h e = built-count offset r part.value h e
 built-ok-count offset r (Err e) h _ = tt
 
 -- the first of two sequences counts at most as many states as their product
