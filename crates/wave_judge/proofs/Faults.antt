@@ -6,6 +6,7 @@ use Rattle.std.proofs.lemmas.List.{get_or-take, length-take-le}
 use Rattle.std.proofs.lemmas.List.Elements.{All-nil, All-cons, All-get_or}
 use Rattle.std.proofs.lemmas.Option.{slice_get_within, get_or_from_slice_get, same_Some}
 use Rattle.alternating.specs.Limits.{HasLargeSequence}
+use Rattle.psl_tree.specs.declared.counts.TheConstants.{MOST_OBLIGATIONS, MOST_STATES}
 use Rattle.psl_tree.specs.Counts.{states_of, obligations_of}
 use Rattle.psl_tree.specs.Trees.{Sequence, Formula, Now, NowStrong, Weak, Strong, Not, And, Next, Until, Suffix, Abort, SyncAbort, Clocked}
 use Rattle.psl_tree.specs.declared.directive.Directive.{Directive}
@@ -26,8 +27,8 @@ either {A} {B} a b = elim a as (λ _. Decided (A ⊎ B)) [
   ]
 ]
 
-large-sequence : (s : Sequence) → Decided (1024 < states_of s)
-large-sequence s = elim (cases_lt 1024 (states_of s)) as (λ _. Decided (1024 < states_of s)) [
+large-sequence : (s : Sequence) → Decided (MOST_STATES < states_of s)
+large-sequence s = elim (cases_lt MOST_STATES (states_of s)) as (λ _. Decided (MOST_STATES < states_of s)) [
   | inl lt ↦ inl lt
   | inr le ↦ inr (λ lt. omega arith)
 ]
@@ -49,7 +50,7 @@ large (Clocked f _) = large f
 judged_or_refused : (d : Directive) → IsJudgeable d ⊎ ((fault : JudgeFault) × IsRefused d fault)
 judged_or_refused d = elim (large (unclocked d)) as (λ _. IsJudgeable d ⊎ ((fault : JudgeFault) × IsRefused d fault)) [
   | inl is ↦ inr (Sere d.number, (refl, is))
-  | inr small ↦ elim (cases_lt 2048 (obligations_of (unclocked d))) as (λ _. IsJudgeable d ⊎ ((fault : JudgeFault) × IsRefused d fault)) [
+  | inr small ↦ elim (cases_lt MOST_OBLIGATIONS (obligations_of (unclocked d))) as (λ _. IsJudgeable d ⊎ ((fault : JudgeFault) × IsRefused d fault)) [
     | inl lt ↦ inr (Automaton d.number, (refl, small, lt))
     | inr le ↦ inl (record { sequences = small; obligations = le })
   ]

@@ -15,11 +15,11 @@ use Rattle.alternating.proofs.Stepping.{bits_pack, start_tells}
 use Rattle.alternating.specs.Atoms.{AtomsOfObligations, is_among}
 use Rattle.alternating.specs.Packed.{is_set, PacksLetter}
 use Rattle.alternating.specs.Stepped.{value_at, values_of}
-use Rattle.wave_judge.specs.Packed.{TellsLetter}
-use Rattle.wave_judge.specs.Stepped.{StepsAll}
-use Rattle.wave_judge.specs.Taken.{AreSteps, LeadsBack}
-use Rattle.wave_judge.specs.Valued.{HasLengths, AreValues, AreAnswers, AreValuesAt}
-use Rattle.wave_judge.specs.declared.steps.Step.{Step}
+use Rattle.wave_judge.specs.Letter.{TellsLetter}
+use Rattle.wave_judge.specs.Values.{StepsAll}
+use Rattle.wave_judge.specs.Memo.{AreSteps, LeadsBack}
+use Rattle.wave_judge.specs.Values.{HasLengths, AreValues, AreAnswers, AreValuesAt}
+use Rattle.wave_judge.specs.declared.memo.Step.{Step}
 use Rattle.wave_judge.specs.declared.pass.Answers.{Answers}
 use Rattle.wave_judge.specs.declared.values.Values.{Values}
 

@@ -7,10 +7,10 @@ use Rattle.std.proofs.lemmas.Option.{slice_get_within, get_or_from_slice_get}
 use Rattle.std.proofs.Math.ListN.{length-set}
 use Rattle.alternating_theory.specs.Obligations.{Automaton}
 use Rattle.psl_tree.specs.declared.atom.Atom.{Atom}
-use Rattle.wave_judge.specs.Stepped.{StepsAll}
-use Rattle.wave_judge.specs.Taken.{IsStep, AreSteps, HasNumber, HasTaken, LeadsBack}
-use Rattle.wave_judge.specs.Valued.{HasLengths}
-use Rattle.wave_judge.specs.declared.steps.Step.{Step}
+use Rattle.wave_judge.specs.Values.{StepsAll}
+use Rattle.wave_judge.specs.Memo.{IsStep, AreSteps, HasNumber, HasTaken, LeadsBack}
+use Rattle.wave_judge.specs.Values.{HasLengths}
+use Rattle.wave_judge.specs.declared.memo.Step.{Step}
 use Rattle.wave_judge.specs.declared.values.Values.{Values}
 
 -- a step that is kept is one

@@ -13,7 +13,7 @@ use Rattle.psl_tree.specs.Holds.{is_same_atom, edge_number}
 use Rattle.psl_tree.specs.Trees.{Boolean, Sequence, Formula}
 use Rattle.psl_tree.specs.Trees.{Const, Test, Not, And, Or, Empty, One, Concat, Fuse, Either, Both, Star, Clocked, Now, NowStrong, Weak, Strong, Next, Until, Suffix, Abort, SyncAbort}
 use Rattle.psl_tree.specs.declared.atom.Atom.{Atom}
-use Rattle.wave_judge.specs.Tested.{atoms_in_boolean, atoms_in_sequence, atoms_in, with_one, with_new, AreTested}
+use Rattle.wave_judge.specs.Atoms.{atoms_in_boolean, atoms_in_sequence, atoms_in, with_one, with_new, AreTested}
 
 pub with_new_append : (atoms xs ys : List Atom) → with_new (with_new atoms xs) ys ≡ with_new atoms (xs ++ ys)
 with_new_append atoms [] ys = refl

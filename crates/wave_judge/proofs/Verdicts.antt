@@ -8,13 +8,14 @@ use Rattle.alternating.specs.Atoms.{KeepsAtoms as AutomatonKeeps}
 use Rattle.alternating.specs.Limits.{HasLargeSequence}
 use Rattle.clock_rewrite.specs.Clock.{HasSameWords, KeepsAtoms as ClockKeeps}
 use Rattle.psl_meaning.specs.Views as views
+use Rattle.psl_tree.specs.declared.counts.TheConstants.{MOST_OBLIGATIONS}
 use Rattle.psl_tree.specs.Counts.{obligations_of}
 use Rattle.psl_tree.specs.Trees.{Formula, formula_of}
 use Rattle.psl_tree.specs.declared.directive.Directive.{Directive}
 use Rattle.psl_tree.specs.declared.letter.Letter.{Letter}
 use Rattle.wave_judge.specs.Faults.{unclocked, IsJudgeable}
 use Rattle.wave_judge.specs.Judged.{IsVerdict, AreVerdicts}
-use Rattle.wave_judge.specs.Meant.{Means}
+use Rattle.wave_judge.specs.Automaton.{Means}
 use Rattle.wave_judge.specs.declared.verdict.Verdict.{Verdict}
 
 along : {A B C : Type 0} → A ↔ B → B ↔ C → A ↔ C
@@ -31,11 +32,11 @@ means a d new values atoms same kept = record {
 }
 
 pub judgeable : (d : Directive) (new : Formula) → new ≡ unclocked d → (HasLargeSequence new → ⊥)
-    → ((HasLargeSequence new → ⊥) × (2048 < obligations_of new) → ⊥) → IsJudgeable d
-judgeable d new e small few = subst (λ (f : Formula). (HasLargeSequence f → ⊥) × (obligations_of f ≤ 2048) → IsJudgeable d) (sym e) (λ p. record { sequences = p.0; obligations = p.1 }) (small, at_most)
+    → ((HasLargeSequence new → ⊥) × (MOST_OBLIGATIONS < obligations_of new) → ⊥) → IsJudgeable d
+judgeable d new e small few = subst (λ (f : Formula). (HasLargeSequence f → ⊥) × (obligations_of f ≤ MOST_OBLIGATIONS) → IsJudgeable d) (sym e) (λ p. record { sequences = p.0; obligations = p.1 }) (small, at_most)
   where
-    at_most : obligations_of new ≤ 2048
-    at_most = elim (cases_lt 2048 (obligations_of new)) as (λ _. obligations_of new ≤ 2048) [ inl lt ↦ absurd (few (small, lt)) | inr le ↦ le ]
+    at_most : obligations_of new ≤ MOST_OBLIGATIONS
+    at_most = elim (cases_lt MOST_OBLIGATIONS (obligations_of new)) as (λ _. obligations_of new ≤ MOST_OBLIGATIONS) [ inl lt ↦ absurd (few (small, lt)) | inr le ↦ le ]
 
 -- one verdict more
 pub verdicts-more : (letters : List Letter) (ds : List Directive) (vs : List Verdict) (d : Directive) (v : Verdict)

@@ -3,6 +3,7 @@ use Rattle.std.specs.Prelude.{◌≡◌, ◌<◌, ◌≤◌, ℕ, List, Some, No
 use Rattle.alternating.specs.Limits.{HasLargeSequence}
 use Rattle.psl_meaning.specs.Plain.{plain}
 use Rattle.psl_tree.specs.Counts.{obligations_of}
+use Rattle.psl_tree.specs.declared.counts.TheConstants.{MOST_OBLIGATIONS}
 use Rattle.psl_tree.specs.declared.directive.Directive.{Directive}
 use Rattle.psl_tree.specs.Trees.{Formula, formula_of}
 use Rattle.wave_judge.specs.declared.fault.JudgeFault.{JudgeFault}
@@ -12,17 +13,17 @@ use Rattle.wave_judge.specs.declared.fault.JudgeFault.TheVariants.{Sere, Automat
 abbrev pub unclocked : Directive → Formula
 unclocked directive = plain (formula_of directive.formula) None
 
--- the unclocked formula has no sequence of more than 1,024 states, and no more than 2,048 obligations
+-- the unclocked formula has no sequence that counts too many states, and counts no more obligations than it may
 pub record IsJudgeable (directive : Directive) : Type 0 where
   pub sequences : HasLargeSequence (unclocked directive) → ⊥
-  pub obligations : obligations_of (unclocked directive) ≤ 2048
+  pub obligations : obligations_of (unclocked directive) ≤ MOST_OBLIGATIONS
 
 -- the fault tells of the directive, by its number: a sequence that is too large before too many
 -- obligations
 abbrev pub IsRefused : Directive → JudgeFault → Type 0
 IsRefused directive (Sere number) = (number ≡ directive.number) × HasLargeSequence (unclocked directive)
 IsRefused directive (Automaton number) =
-    (number ≡ directive.number) × (HasLargeSequence (unclocked directive) → ⊥) × (2048 < obligations_of (unclocked directive))
+    (number ≡ directive.number) × (HasLargeSequence (unclocked directive) → ⊥) × (MOST_OBLIGATIONS < obligations_of (unclocked directive))
 IsRefused directive NoMemory = ⊥
 
 -- the fault is that of a directive before which each one can be judged

@@ -1,9 +1,8 @@
+pub mod Atoms
+pub mod Automaton
 pub mod Faults
 pub mod Judged
+pub mod Letter
 pub mod Levels
-pub mod Tested
-pub mod Meant
-pub mod Packed
-pub mod Stepped
-pub mod Taken
-pub mod Valued
+pub mod Memo
+pub mod Values

@@ -2,9 +2,9 @@
 use Rattle.std.specs.Prelude.{◌≡◌, ◌≤◌, ◌<◌, ◌+◌, ◌⊎◌, ℕ, List, [], ◌∷◌, ◌++◌, length, All, Option, Some, slice_get, slice_index_or, IfSome}
 use Rattle.alternating_theory.specs.Obligations.{Automaton}
 use Rattle.psl_tree.specs.declared.atom.Atom.{Atom}
-use Rattle.wave_judge.specs.Stepped.{StepsAll}
-use Rattle.wave_judge.specs.Valued.{HasLengths}
-use Rattle.wave_judge.specs.declared.steps.Step.{Step}
+use Rattle.wave_judge.specs.Values.{StepsAll}
+use Rattle.wave_judge.specs.Values.{HasLengths}
+use Rattle.wave_judge.specs.declared.memo.Step.{Step}
 use Rattle.wave_judge.specs.declared.values.Values.{Values}
 
 -- a step back over a letter from the values of one number gives those of another

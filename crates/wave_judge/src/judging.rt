@@ -2,10 +2,11 @@ ghost use Rattle.std.specs.Prelude.{◌≡◌, ◌≤◌, All, IfOk, IfErr, OnOk
 ghost use Rattle.psl_tree.specs.Atoms.{AtomsOfFormula};
 ghost use Rattle.psl_tree.specs.Counts.{formula_size};
 ghost use Rattle.psl_tree.specs.Trees.{formula_of};
+ghost use Rattle.psl_tree.specs.declared.counts.TheConstants.{MOST_CONSTRUCTORS};
 ghost use Rattle.vcd_reader.specs.Sampled.{AtomInRange, letters_of};
 ghost use Rattle.wave_judge.specs.Faults.{IsJudgeable, IsJudgeFault, MayRefuse};
 ghost use Rattle.wave_judge.specs.Judged.{IsVerdict, AreVerdicts};
-ghost use Rattle.wave_judge.specs.Meant.{Means};
+ghost use Rattle.wave_judge.specs.Automaton.{Means};
 
 use crate::fault::JudgeFault;
 use crate::packing::tested_atoms;
@@ -24,7 +25,7 @@ use vcd_reader::Recording;
 /// any time.
 pub fn judge(alloc: Global, unit: &Unit, recording: &Recording) -> Result<Verdicts, JudgeFault>
     requires in_range { All (λ directive. AtomsOfFormula (AtomInRange recording.now.names) (formula_of directive.formula)) unit.now }
-    requires small { All (λ directive. formula_size (formula_of directive.formula) ≤ 4096) unit.now }
+    requires small { All (λ directive. formula_size (formula_of directive.formula) ≤ MOST_CONSTRUCTORS) unit.now }
     ensures verdicts { IfOk result (λ verdicts. AreVerdicts (letters_of recording.now) unit.now verdicts) }
     ensures judgeable { OnOk result (All IsJudgeable unit.now) }
     ensures fault { IfErr result (IsJudgeFault unit.now) }
@@ -42,7 +43,7 @@ fn judge_one(
     recording: &Recording,
 ) -> Result<Verdict, JudgeFault>
     requires in_range { AtomsOfFormula (AtomInRange recording.now.names) (formula_of directive.now.formula) }
-    requires small { formula_size (formula_of directive.now.formula) ≤ 4096 }
+    requires small { formula_size (formula_of directive.now.formula) ≤ MOST_CONSTRUCTORS }
     ensures verdict { IfOk result (λ verdict. IsVerdict (letters_of recording.now) directive.now verdict) }
     ensures judgeable { OnOk result (IsJudgeable directive.now) }
     ensures fault { IfErr result (MayRefuse directive.now) }

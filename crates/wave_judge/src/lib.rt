@@ -7,11 +7,11 @@ mod fault;
 mod judging;
 mod laws;
 mod leveling;
+mod memo;
 mod packing;
 mod pass;
 #[cfg(test)]
 mod ranged;
-mod steps;
 #[cfg(test)]
 mod tests;
 mod values;

@@ -1,7 +1,7 @@
 ghost use Rattle.psl_tree.specs.declared.atom.Atom.{Atom};
 ghost use Rattle.std.specs.Prelude.{◌≡◌, ◌≤◌, ◌*◌, ◌<◌, ◌∷◌, ℕ, List, [], length, nat_le, slice_index_or, slice_set, All, IfSome, IfOk, OnOk};
-ghost use Rattle.wave_judge.specs.Taken.{AreSteps, HasNumber, HasTaken, LeadsBack};
-ghost use Rattle.wave_judge.specs.Valued.{AreValues};
+ghost use Rattle.wave_judge.specs.Memo.{AreSteps, HasNumber, HasTaken, LeadsBack};
+ghost use Rattle.wave_judge.specs.Values.{AreValues};
 ghost use Rattle.wave_judge.specs.declared.values.Values.{Values};
 
 use crate::values::Values;
@@ -27,24 +27,24 @@ pub(crate) struct Step {
 /// The values that a pass has met, each once, and the steps between them, which are not taken again.
 /// They are numbered from 0 on.
 #[derive(Drop)]
-pub(crate) struct Steps {
+pub(crate) struct Memo {
     pub(crate) values: Vec<Values>,
     pub(crate) taken: Vec<Option<Step>>,
 }
 
-impl Steps {
+impl Memo {
     /// No steps yet, and the values past the last sample, which have the number 0. There is room for
     /// about so many steps.
-    pub(crate) fn new(alloc: Global, automaton: &Alternating, steps: u32) -> Result<Steps, NoMemory>
-        ensures steps { IfOk result (λ steps. (atoms : List Atom) → AreSteps automaton.now atoms steps.values.items steps.taken.items) }
-        ensures past { IfOk result (λ steps. (0 < length steps.values.items) × ((other : Values) → AreValues automaton.now [] (slice_index_or steps.values.items 0 other))) }
+    pub(crate) fn new(alloc: Global, automaton: &Alternating, steps: u32) -> Result<Memo, NoMemory>
+        ensures steps { IfOk result (λ memo. (atoms : List Atom) → AreSteps automaton.now atoms memo.values.items memo.taken.items) }
+        ensures past { IfOk result (λ memo. (0 < length memo.values.items) × ((other : Values) → AreValues automaton.now [] (slice_index_or memo.values.items 0 other))) }
     {
         let places = (steps as usize).clamp(1, MOST_PLACES);
         let taken = no_steps(alloc, places)?;
         let mut values = Vec::new(alloc);
         let past = Values::past(alloc, automaton)?;
         values.push(past).map_err(|_| NoMemory)?;
-        Ok(Steps { values, taken })
+        Ok(Memo { values, taken })
     }
 
     /// Whether no more values are to be kept.
@@ -59,7 +59,7 @@ impl Steps {
         requires { number < length self.values.items }
         ensures { (other : Values) → slice_index_or self.values.items number other ≡ result }
     {
-        let Steps { mut values, .. } = self;
+        let Memo { mut values, .. } = self;
         values.swap_remove(number as usize)
     }
 

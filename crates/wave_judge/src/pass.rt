@@ -1,10 +1,10 @@
 ghost use Rattle.std.specs.Prelude.{◌≡◌, ◌^◌, ◌<◌, length, All, IsTrue, IfOk};
 ghost use Rattle.alternating.specs.Atoms.{AtomsOfObligations, is_among};
 ghost use Rattle.vcd_reader.specs.Sampled.{AtomInRange, letters_of};
-ghost use Rattle.wave_judge.specs.Valued.{AreAnswers, AreValuesAt};
+ghost use Rattle.wave_judge.specs.Values.{AreAnswers, AreValuesAt};
 
+use crate::memo::Memo;
 use crate::packing::pack;
-use crate::steps::Steps;
 use crate::values::Values;
 use alternating::{Alternating, Truths};
 use psl_base::NoMemory;
@@ -58,16 +58,16 @@ fn kept_steps(
 {
     let mut letter = Truths::new(alloc, atoms.len() as u32)?;
     let mut hints = no_hints(alloc, atoms)?;
-    let mut steps = Steps::new(alloc, automaton, recording.samples())?;
+    let mut memo = Memo::new(alloc, automaton, recording.samples())?;
     let mut number = 0;
     for sample in (0..recording.samples()).rev() {
-        if steps.is_full() {
-            return Ok((sample + 1, steps.into_values(number)));
+        if memo.is_full() {
+            return Ok((sample + 1, memo.into_values(number)));
         }
         pack(recording, sample, atoms, hints.as_mut_slice(), &mut letter);
-        number = steps.step_back(alloc, automaton, letter.words(), atoms, number)?;
+        number = memo.step_back(alloc, automaton, letter.words(), atoms, number)?;
     }
-    Ok((0, steps.into_values(number)))
+    Ok((0, memo.into_values(number)))
 }
 
 /// The values at the first sample, from those at another one.

@@ -1,96 +1,27 @@
-ghost use Rattle.std.specs.Prelude.{IsTrue, All, ◌≡◌, ◌<◌, ◌≤◌};
-ghost use Rattle.psl_tree.specs.Atoms.{AtomsOfBoolean, AtomsOfSequence, AtomsOfFormula};
+ghost use Rattle.std.specs.Prelude.{IsTrue, All, ◌≤◌};
+ghost use Rattle.psl_tree.specs.Atoms.{AtomsOfFormula};
 ghost use Rattle.psl_tree.specs.Counts.{formula_size};
-ghost use Rattle.psl_tree.specs.Trees.{boolean_of, sequence_of, formula_of};
-ghost use Rattle.vcd_reader.specs.Sampled.{AtomInRange, indices};
+ghost use Rattle.psl_tree.specs.Names.{AtomInRange};
+ghost use Rattle.psl_tree.specs.Trees.{formula_of};
 
-use psl_tree::{Atom, Bool, Directive, Fl, Name, Sere, measure};
+use psl_tree::{Directive, Fl, MOST_CONSTRUCTORS, Names, measure};
 
-// Whether the atoms of a unit are in range of names, as `judge` asks.
-
-fn is_within(name: &Name, atom: &Atom) -> bool
-    ensures { IsTrue result → name.now.signal ≡ atom.now.signal → atom.now.bit < indices name.now }
+/// Whether all atoms of the directives are in range of names, as `judge` asks.
+pub fn are_in_range(names: &Names, unit: &[Directive]) -> bool
+    ensures { IsTrue result → All (λ directive. AtomsOfFormula (AtomInRange names.now) (formula_of directive.formula)) unit.now }
 {
-    let wide = name.left.abs_diff(name.right);
-    name.signal != atom.signal || atom.bit <= wide
+    unit.iter().all(|directive| psl_tree::are_in_range(names, &directive.formula))
 }
 
-/// Whether an atom is in range of names.
-fn is_in_range(names: &[Name], atom: &Atom) -> bool
-    ensures { IsTrue result → AtomInRange names.now atom.now }
+/// Whether no formula of the directives has too many constructors, as `judge` asks.
+pub fn are_small(unit: &[Directive]) -> bool
+    ensures { IsTrue result → All (λ directive. formula_size (formula_of directive.formula) ≤ MOST_CONSTRUCTORS) unit.now }
 {
-    names.iter().any(|name| name.signal == atom.signal)
-        && names.iter().all(|name| is_within(name, atom))
-}
-
-fn is_boolean_in_range(names: &[Name], test: &Bool) -> bool
-    ensures { IsTrue result → AtomsOfBoolean (AtomInRange names.now) (boolean_of test.now) }
-{
-    match test {
-        Bool::Const(_) => true,
-        Bool::Test(atom) => is_in_range(names, atom),
-        Bool::Not(part) => is_boolean_in_range(names, part),
-        Bool::And(left, right) | Bool::Or(left, right) => {
-            is_boolean_in_range(names, left) && is_boolean_in_range(names, right)
-        }
-    }
-}
-
-fn is_sequence_in_range(names: &[Name], sequence: &Sere) -> bool
-    ensures { IsTrue result → AtomsOfSequence (AtomInRange names.now) (sequence_of sequence.now) }
-{
-    match sequence {
-        Sere::Empty => true,
-        Sere::One(test) => is_boolean_in_range(names, test),
-        Sere::Star(part) => is_sequence_in_range(names, part),
-        Sere::Clocked(part, clock) => {
-            is_sequence_in_range(names, part) && is_boolean_in_range(names, clock)
-        }
-        Sere::Concat(left, right)
-        | Sere::Fuse(left, right)
-        | Sere::Either(left, right)
-        | Sere::Both(left, right) => {
-            is_sequence_in_range(names, left) && is_sequence_in_range(names, right)
-        }
-    }
-}
-
-fn is_formula_in_range(names: &[Name], f: &Fl) -> bool
-    ensures { IsTrue result → AtomsOfFormula (AtomInRange names.now) (formula_of f.now) }
-{
-    match f {
-        Fl::Now(test) | Fl::NowStrong(test) => is_boolean_in_range(names, test),
-        Fl::Weak(sequence) | Fl::Strong(sequence) => is_sequence_in_range(names, sequence),
-        Fl::Not(part) | Fl::Next(part) => is_formula_in_range(names, part),
-        Fl::And(left, right) | Fl::Until(left, right) => {
-            is_formula_in_range(names, left) && is_formula_in_range(names, right)
-        }
-        Fl::Suffix(sequence, part) => {
-            is_sequence_in_range(names, sequence) && is_formula_in_range(names, part)
-        }
-        Fl::Abort(part, test) | Fl::SyncAbort(part, test) | Fl::Clocked(part, test) => {
-            is_formula_in_range(names, part) && is_boolean_in_range(names, test)
-        }
-    }
+    unit.iter().all(|directive| is_small(&directive.formula))
 }
 
 fn is_small(f: &Fl) -> bool
-    ensures { IsTrue result → formula_size (formula_of f.now) ≤ 4096 }
+    ensures { IsTrue result → formula_size (formula_of f.now) ≤ MOST_CONSTRUCTORS }
 {
-    measure(f) <= 4096
-}
-
-/// Whether all atoms of the directives are in range of names.
-pub fn are_in_range(names: &[Name], unit: &[Directive]) -> bool
-    ensures { IsTrue result → All (λ directive. AtomsOfFormula (AtomInRange names.now) (formula_of directive.formula)) unit.now }
-{
-    unit.iter()
-        .all(|directive| is_formula_in_range(names, &directive.formula))
-}
-
-/// Whether no formula of the directives has more than 4,096 constructors.
-pub fn are_small(unit: &[Directive]) -> bool
-    ensures { IsTrue result → All (λ directive. formula_size (formula_of directive.formula) ≤ 4096) unit.now }
-{
-    unit.iter().all(|directive| is_small(&directive.formula))
+    measure(f) <= MOST_CONSTRUCTORS
 }

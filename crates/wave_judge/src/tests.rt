@@ -128,7 +128,7 @@ fn add(unit: &mut Unit, number: u32, formula: Fl) -> Result<(), NoMemory> {
 
 /// The verdicts of a unit that `judge` can be asked for; none of any other.
 fn judged(alloc: Global, unit: &Unit, recording: &Recording) -> Result<Verdicts, JudgeFault> {
-    let names = recording.names().as_slice();
+    let names = recording.names();
     if are_in_range(names, unit.as_slice()) && are_small(unit.as_slice()) {
         judge(alloc, unit, recording)
     } else {

@@ -1,6 +1,6 @@
 ghost use Rattle.std.specs.Prelude.{◌≡◌, ◌≤◌, ◌*◌, [], length, IsTrue, IfOk};
-ghost use Rattle.wave_judge.specs.Stepped.{StepsAll};
-ghost use Rattle.wave_judge.specs.Valued.{HasLengths, AreValues};
+ghost use Rattle.wave_judge.specs.Values.{StepsAll};
+ghost use Rattle.wave_judge.specs.Values.{HasLengths, AreValues};
 
 use alternating::{Alternating, Truths};
 use psl_base::NoMemory;

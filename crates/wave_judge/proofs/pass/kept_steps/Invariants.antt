@@ -4,6 +4,6 @@ use Rattle.wave_judge.proofs.pass.kept_steps.Given as goal
 
 abbrev pub invariant-loop-sample : goal.invariant-loop-sample
 invariant-loop-sample l = record {
-  keeps : KeepsAt l.automaton l.atoms l.recording l.sample l.letter l.steps.values.items l.steps.taken.items l.number;
+  keeps : KeepsAt l.automaton l.atoms l.recording l.sample l.letter l.memo.values.items l.memo.taken.items l.number;
   hints_len : length l.hints.items ≡ length l.atoms;
 }

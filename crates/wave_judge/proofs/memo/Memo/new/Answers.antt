@@ -1,7 +1,7 @@
 use Rattle.std.proofs.Common.{rules}
 use Rattle.wave_judge.proofs.Samples.{have_lengths}
 use Rattle.wave_judge.proofs.Taken.{begins}
-use Rattle.wave_judge.proofs.steps.Steps.new.Goals as goal
+use Rattle.wave_judge.proofs.memo.Memo.new.Goals as goal
 
 pub returns-clause-steps : goal.returns-clause-steps
 returns-clause-steps c =

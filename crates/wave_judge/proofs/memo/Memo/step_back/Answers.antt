@@ -1,9 +1,9 @@
 use Rattle.std.proofs.Common.{List, get_or, sym, subst, arith}
 use Rattle.wave_judge.proofs.Taken.{one_word, leads_known, can_be_kept, steps_more}
-use Rattle.wave_judge.specs.Taken.{AreSteps}
-use Rattle.wave_judge.specs.declared.steps.Step.{Step}
+use Rattle.wave_judge.specs.Memo.{AreSteps}
+use Rattle.wave_judge.specs.declared.memo.Step.{Step}
 use Rattle.wave_judge.specs.declared.values.Values.{Values}
-use Rattle.wave_judge.proofs.steps.Steps.step_back.Goals as goal
+use Rattle.wave_judge.proofs.memo.Memo.step_back.Goals as goal
 
 pub returns-in-Some-clause-back : goal.returns-in-Some-clause-back
 returns-in-Some-clause-back c =

@@ -1,8 +1,8 @@
 use Rattle.std.proofs.Common.{List, Option, sym, subst}
 use Rattle.wave_judge.proofs.Taken.{keeps, leads}
-use Rattle.wave_judge.specs.Taken.{AreSteps}
-use Rattle.wave_judge.specs.declared.steps.Step.{Step}
-use Rattle.wave_judge.proofs.steps.Steps.take.Goals as goal
+use Rattle.wave_judge.specs.Memo.{AreSteps}
+use Rattle.wave_judge.specs.declared.memo.Step.{Step}
+use Rattle.wave_judge.proofs.memo.Memo.take.Goals as goal
 
 pub returns-clause-steps : goal.returns-clause-steps
 returns-clause-steps c =
