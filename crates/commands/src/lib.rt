@@ -12,8 +12,6 @@ mod reason;
 mod report;
 mod rows;
 mod show;
-#[cfg(test)]
-mod tests;
 mod top;
 mod wave;
 
