@@ -3,14 +3,13 @@ ghost use Rattle.std.specs.Prelude.{◌≡◌, ◌≤◌, ◌^◌, nat_le, IfOk}
 ghost use Rattle.psl_elaboration.specs.FirstFlaw.{first_of};
 ghost use Rattle.psl_elaboration.specs.Flaws as spec;
 
-use crate::signals::{is_declared_whole, refers_in};
+use crate::checker::Checker;
 use crate::wants::flaw_where;
 use psl_base::{NoMemory, Place};
-use psl_grammar::Expression;
 use psl_elaboration::{Cause, Flaw, InfixOperator, Reference, Side};
+use psl_grammar::Expression;
 use psl_lexer::{Token, TokenKind};
-use psl_names::{NameIndex, Scope, literal_value};
-use std::alloc::Global;
+use psl_names::literal_value;
 
 // One side of a comparison that is a number, a constant, `true` or `false`.
 fn literal_side(token: &Token) -> Side
@@ -20,38 +19,6 @@ fn literal_side(token: &Token) -> Side
         TokenKind::Number | TokenKind::Constant => Side::Value(literal_value(token), token.place),
         _ => Side::Neither,
     }
-}
-
-/// One side of a comparison.
-pub(crate) fn side_of(
-    alloc: Global,
-    scope: &Scope,
-    names: &NameIndex,
-    x: &Expression,
-) -> Result<Side, NoMemory>
-    ensures { IfOk result (λ side. side ≡ spec.side_of scope.now names.now x.now) }
-{
-    match x {
-        Expression::Signal(path, index) => signal_side(alloc, scope, names, path.as_slice(), index),
-        Expression::Literal(token) => Ok(literal_side(token)),
-        _ => Ok(Side::Neither),
-    }
-}
-
-// One side of a comparison that is a path.
-fn signal_side(
-    alloc: Global,
-    scope: &Scope,
-    names: &NameIndex,
-    path: &[Token],
-    index: &Option<Token>,
-) -> Result<Side, NoMemory>
-    ensures { IfOk result (λ side. side ≡ spec.signal_side scope.now names.now path.now index.now) }
-{
-    if is_declared_whole(alloc, scope, path, index)? {
-        return Ok(Side::Neither);
-    }
-    Ok(Side::Bits(refers_in(alloc, scope, names, path, index)?))
 }
 
 // Whether a value needs more bits than there are.
@@ -89,4 +56,27 @@ pub(crate) fn is_comparison(operator: InfixOperator) -> bool
     ensures { result ≡ spec.is_comparison operator }
 {
     matches!(operator, InfixOperator::Equal | InfixOperator::Unequal)
+}
+
+impl Checker<'_, '_, '_, '_, '_> {
+    /// One side of a comparison.
+    pub(crate) fn side_of(&self, x: &Expression) -> Result<Side, NoMemory>
+        ensures { IfOk result (λ side. side ≡ spec.side_of self.now.scope.now self.now.names.now x.now) }
+    {
+        match x {
+            Expression::Signal(path, index) => self.signal_side(path.as_slice(), index),
+            Expression::Literal(token) => Ok(literal_side(token)),
+            _ => Ok(Side::Neither),
+        }
+    }
+
+    // One side of a comparison that is a path.
+    fn signal_side(&self, path: &[Token], index: &Option<Token>) -> Result<Side, NoMemory>
+        ensures { IfOk result (λ side. side ≡ spec.signal_side self.now.scope.now self.now.names.now path.now index.now) }
+    {
+        if self.is_declared_whole(path, index)? {
+            return Ok(Side::Neither);
+        }
+        Ok(Side::Bits(self.refers_in(path, index)?))
+    }
 }

@@ -4,8 +4,8 @@ ghost use Rattle.psl_elaboration.specs.FirstFlaw.{first_of};
 ghost use Rattle.psl_elaboration.specs.Flaws as spec;
 
 use crate::wants::flaw_where;
-use psl_grammar::Count;
 use psl_elaboration::{Cause, Flaw, RepetitionOperator};
+use psl_grammar::Count;
 use psl_lexer::Token;
 use psl_names::{is_endless, number_of};
 

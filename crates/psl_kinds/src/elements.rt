@@ -3,7 +3,7 @@ ghost use Rattle.std.specs.Prelude.{◌≡◌};
 ghost use Rattle.psl_elaboration.specs.FirstFlaw.{first_of};
 ghost use Rattle.psl_elaboration.specs.Flaws as spec;
 
-use crate::Checked;
+use crate::checked::Checked;
 use crate::order::earlier;
 use crate::wants::{wants_boolean, wants_sequence};
 use psl_base::Place;

@@ -2,6 +2,7 @@
 #![tactic(auto)]
 
 mod checked;
+mod checker;
 mod comparisons;
 mod counts;
 mod elements;
@@ -16,7 +17,5 @@ mod statements;
 mod texts;
 mod wants;
 
-pub use checked::Checked;
-pub use expressions::check;
 pub use shapes::operator_before;
 pub use texts::first_flaw;

@@ -6,14 +6,14 @@ ghost use Rattle.psl_elaboration.specs.Kinds as kinds;
 ghost use Rattle.psl_elaboration.specs.Operators.{prefix_operator, repetition_operator};
 ghost use Rattle.psl_elaboration.specs.declared.kind.ExpressionKind.TheVariants as kind;
 
-use crate::Checked;
+use crate::checked::Checked;
 use crate::counts::{count_flaw, is_goto, optional_count_flaw};
 use crate::elements::{clocked_flaw, grouped_flaw, prefix_flaw, repeated_flaw};
 use crate::kinds::{clocked_kind, grouped_kind, prefix_kind};
 use crate::order::earlier;
 use crate::wants::{wants_boolean, wants_sequence};
-use psl_grammar::Count;
 use psl_elaboration::ExpressionKind;
+use psl_grammar::Count;
 use psl_lexer::Token;
 use psl_names::{prefix_operator, repetition_operator};
 

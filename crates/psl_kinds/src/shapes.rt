@@ -3,8 +3,8 @@ ghost use Rattle.std.specs.Prelude.{◌≡◌};
 ghost use Rattle.psl_elaboration.specs.Kinds as spec;
 
 use psl_base::Place;
-use psl_grammar::Expression;
 use psl_elaboration::InfixOperator;
+use psl_grammar::Expression;
 use psl_lexer::{Token, TokenKind};
 use psl_names::infix_operator;
 

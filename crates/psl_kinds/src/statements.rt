@@ -4,13 +4,13 @@ ghost use Rattle.psl_elaboration.specs.Operators.{declaration_word as spec_word}
 ghost use Rattle.psl_elaboration.specs.FirstFlaw.{first_of};
 ghost use Rattle.psl_elaboration.specs.Flaws as spec;
 
-use crate::Checked;
-use crate::expressions::check;
+use crate::checked::Checked;
+use crate::checker::Checker;
 use crate::order::earlier;
 use crate::wants::{flaw_where, wants_boolean, wants_sequence};
 use psl_base::NoMemory;
-use psl_grammar::Statement;
 use psl_elaboration::{Cause, DeclarationWord, Flaw};
+use psl_grammar::Statement;
 use psl_lexer::Token;
 use psl_names::{
     Declarations, NameIndex, Scope, declaration_word, declared_as, directive_kind_of, has_clock,
@@ -64,14 +64,19 @@ fn statement_flaw(
 ) -> Result<Option<Flaw>, NoMemory>
     ensures { IfOk result (λ flaw. flaw ≡ first_of (spec.statement_flaws scope.now names.now statement.now)) }
 {
+    let checker = Checker {
+        alloc,
+        scope,
+        names,
+    };
     match statement {
         Statement::Directive { word, property, .. } => {
-            let property = check(alloc, scope, names, false, property)?;
+            let property = checker.check(false, property)?;
             let own = directive_flaw(directive_kind_of(word.kind), property);
             Ok(earlier(property.flaw, own))
         }
         Statement::Declaration { word, name, body } => {
-            let body = check(alloc, scope, names, false, body)?;
+            let body = checker.check(false, body)?;
             let own = declaration_flaw(scope, word, name, body);
             Ok(earlier(body.flaw, own))
         }

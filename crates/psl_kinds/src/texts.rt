@@ -6,8 +6,8 @@ ghost use Rattle.psl_elaboration.specs.Flaws as spec;
 use crate::order::earlier;
 use crate::statements::statements_flaw;
 use psl_base::NoMemory;
-use psl_grammar::{UnitTree, VerificationUnit};
 use psl_elaboration::Flaw;
+use psl_grammar::{UnitTree, VerificationUnit};
 use psl_names::NameIndex;
 use std::alloc::Global;
 
