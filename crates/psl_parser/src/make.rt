@@ -11,15 +11,9 @@ use std::alloc::Global;
 
 /// A piece of a tree. It is boxed as soon as it is made, so that the methods that call each other for what stands
 /// inside of another piece keep a pointer to it on the stack and no node.
+#[derive(Drop)]
 pub struct Piece {
     pub tree: Box<Expression>,
-}
-
-// Written out, so that a caller's proof sees one call where a piece is dropped.
-impl Drop for Piece {
-    fn drop(self) {
-        let Piece { tree: _ } = self;
-    }
 }
 
 impl Piece {
@@ -33,19 +27,10 @@ impl Piece {
 }
 
 /// A repetition: the token that opens it, and its count.
+#[derive(Drop)]
 pub struct Repetition {
     pub opening: Token,
     pub count: Option<Count>,
-}
-
-// Written out, as for a piece.
-impl Drop for Repetition {
-    fn drop(self) {
-        let Repetition {
-            opening: _,
-            count: _,
-        } = self;
-    }
 }
 
 impl Repetition {
