@@ -128,7 +128,7 @@ listed_begins (row ∷ rows) bytes kind h e =
       at more first false other e = more e
 
 marks_begin : all_begin marks ≡ true
-unfolding marks is_white begins_name is_digit
+unfolding marks begins_name
 marks_begin = refl
 
 marks_fall : fall marks ≡ true

@@ -20,11 +20,10 @@ use Rattle.psl_lexer.proofs.WordReads.{where_stops}
 
 -- a digit is no white space, and begins no name
 pub digit_no_white : (b : ℕ) → is_digit b ≡ true → is_white b ≡ false
-unfolding is_digit is_white
 digit_no_white b h = grind (arith, nat_tests)
 
 pub digit_no_name : (b : ℕ) → is_digit b ≡ true → begins_name b ≡ false
-unfolding is_digit begins_name
+unfolding begins_name
 digit_no_name b h = grind (arith, nat_tests)
 
 digit_continues : (b : ℕ) → is_digit b ≡ true → continues_number b ≡ true
@@ -157,12 +156,12 @@ digits_cover digits after kind token =
       at false h = inr (refl, token.3, h, sym (take_at digits after (length digits) refl))
 
 quote_stops : (letter : ℕ) (behind : List ℕ) → Stops continues_number (39 ∷ letter ∷ behind)
-unfolding continues_number is_digit
+unfolding continues_number
 quote_stops letter behind = refl
 
 -- a constant is read by its parts
 reads_constant : (size : List ℕ) (behind : List ℕ) → IsNumber size → front_of (size ++ 39 ∷ behind) ≡ constant_front size behind
-unfolding number_before continues_number is_digit
+unfolding number_before continues_number
 reads_constant size behind number = reads_number size (39 ∷ behind) number refl
 
 reads_based : (size : List ℕ) (letter base : ℕ) (behind : List ℕ) → IsNumber size → base_of letter ≡ Some base → front_of (size ++ 39 ∷ letter ∷ behind) ≡ digits_front base size behind

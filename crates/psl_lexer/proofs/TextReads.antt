@@ -10,7 +10,7 @@ use Rattle.std.specs.Option.{option_map}
 use Rattle.psl_lexer.specs.declared.kind.TokenKind.{TokenKind}
 use Rattle.psl_lexer.specs.declared.kind.TokenKind.TheVariants.{Quoted}
 use Rattle.psl_lexer.specs.declared.front.Front.TheVariants as fronts
-use Rattle.psl_lexer.specs.Bytes.{is_white, is_solid, is_inline, begins_name, is_digit}
+use Rattle.psl_lexer.specs.Bytes.{is_white, is_solid, is_inline, begins_name}
 use Rattle.psl_lexer.specs.Tokens.{Text, EscapedName, Character, Single, Escape, character_bytes, AreCharacters, bytes_of, IsToken, Stops}
 use Rattle.psl_lexer.specs.Gaps.{LineComment, BlockComment, gap_bytes, IsGap}
 use Rattle.psl_lexer.specs.Faults.{OpenText, OpenComment, OpenName, IsOpen}
@@ -86,7 +86,7 @@ text_read (Single b ∷ more) after are = rw (ne_eqb b 10 are.2, ne_eqb b 34 are
 text_read (Escape b ∷ more) after are = rw (ne_eqb b 10 are.0, text_read more after are.1) refl
 
 reads_text : (behind : List ℕ) → front_of (34 ∷ behind) ≡ text_of_len (text_len false behind)
-unfolding front_of is_white begins_name is_digit
+unfolding front_of begins_name
 reads_text behind = refl
 
 text_bytes_len : (characters : List Character) → length (34 ∷ (character_bytes characters ++ 34 ∷ [])) ≡ length (character_bytes characters) + 2
@@ -180,7 +180,7 @@ comment_found inside after gap =
     read.1 ∙ ap (λ n. Some n) same
 
 reads_slash : (behind : List ℕ) → front_of (47 ∷ behind) ≡ slash_front behind
-unfolding front_of is_white begins_name is_digit
+unfolding front_of begins_name
 reads_slash behind = refl
 
 block_len : (inside : List ℕ) → length (gap_bytes (BlockComment inside)) ≡ length inside + 4
@@ -250,7 +250,7 @@ open_comment_read behind open_ended = reads_slash (42 ∷ behind) ∙ at (commen
 -- ESCAPED NAMES
 
 reads_escaped : (behind : List ℕ) → front_of (92 ∷ behind) ≡ escaped_front behind
-unfolding front_of is_white begins_name is_digit
+unfolding front_of begins_name
 reads_escaped behind = refl
 
 no_solid : (b : ℕ) → is_solid b ≡ false → is_white b ≡ true

@@ -8,7 +8,7 @@ use Rattle.std.proofs.lemmas.List.Folds.{length-prefix_len}
 use Rattle.std.specs.List.{prefix_len, list_all}
 use Rattle.psl_lexer.specs.declared.kind.TokenKind.{TokenKind}
 use Rattle.psl_lexer.specs.declared.front.Front.TheVariants as fronts
-use Rattle.psl_lexer.specs.Bytes.{is_white, begins_name, is_digit, continues_name}
+use Rattle.psl_lexer.specs.Bytes.{is_white, begins_name, continues_name}
 use Rattle.psl_lexer.specs.Spellings.{Spellings, kind_in, strong_words, overlapping_words, word_kind}
 use Rattle.psl_lexer.specs.Tokens.{Word, StrongWord, OverlappingWord, IsWord, IsToken, Stops}
 use Rattle.psl_lexer.specs.Fronts.{Stands, Covers}
@@ -22,7 +22,7 @@ begins_continues b h = rw h refl
 
 -- and it is no white space
 pub begins_no_white : (b : ℕ) → begins_name b ≡ true → is_white b ≡ false
-unfolding begins_name is_white
+unfolding begins_name
 begins_no_white b h = grind (arith, nat_tests)
 
 word_continues : (word : List ℕ) → IsWord word → list_all continues_name word ≡ true
@@ -144,7 +144,7 @@ word_covers word after kind token =
           (cases_order (length word) (prefix_len continues_name (word ++ after))))
 
 pub strong_covers : (word after : List ℕ) (kind : TokenKind) → IsToken (StrongWord word) kind after → Covers ((word ++ 33 ∷ []) ++ after) (StrongWord word) kind (front_of ((word ++ 33 ∷ []) ++ after))
-unfolding word_before continues_name begins_name is_digit
+unfolding word_before continues_name begins_name
 strong_covers word after kind token =
     let size : length (word ++ 33 ∷ []) ≡ length word + 1 = length-append word (33 ∷ []) in
     let takes : takes_strong (33 ∷ after) ≡ true = rw (where_stops (λ byte. nat_eq byte 61) after token.2) refl in
@@ -156,7 +156,7 @@ strong_covers word after kind token =
       at size None = inr (size, refl, refl, sym (take_front (word ++ 33 ∷ []) after (length word + 1) (sym size)))
 
 pub overlapping_covers : (word after : List ℕ) (kind : TokenKind) → IsToken (OverlappingWord word) kind after → Covers ((word ++ 33 ∷ 95 ∷ []) ++ after) (OverlappingWord word) kind (front_of ((word ++ 33 ∷ 95 ∷ []) ++ after))
-unfolding word_before continues_name begins_name is_digit
+unfolding word_before continues_name begins_name
 overlapping_covers word after kind token =
     let size : length (word ++ 33 ∷ 95 ∷ []) ≡ length word + 2 = length-append word (33 ∷ 95 ∷ []) in
     let takes : takes_overlapping (33 ∷ 95 ∷ after) ≡ true = rw (where_stops continues_name after token.2) refl in

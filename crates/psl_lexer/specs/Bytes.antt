@@ -1,9 +1,6 @@
 -- The kinds of bytes that tokens are made of (IEEE 1850, clause 4.2).
 use Rattle.std.specs.Prelude.{ℕ, ◌-◌, Bool, ◌==◌, ◌&&◌, ◌||◌, not, nat_le, nat_lt, if◌then◌else◌, Option, Some, None}
-
--- white space: the bytes 9 to 13 and 32
-unfoldable pub is_white : ℕ → Bool
-is_white byte = (nat_le 9 byte && nat_le byte 13) || (byte == 32)
+pub use Rattle.psl_base.specs.Bytes.{is_white, is_digit}
 
 -- a byte that is no white space
 unfoldable pub is_solid : ℕ → Bool
@@ -16,10 +13,6 @@ is_inline byte = not (byte == 10)
 -- what a name may begin with: a letter or `_`
 unfoldable pub begins_name : ℕ → Bool
 begins_name byte = (nat_le 65 byte && nat_le byte 90) || (nat_le 97 byte && nat_le byte 122) || (byte == 95)
-
--- a decimal digit
-unfoldable pub is_digit : ℕ → Bool
-is_digit byte = nat_le 48 byte && nat_le byte 57
 
 -- what a name may go on with: a letter, `_`, a digit or `$`
 unfoldable pub continues_name : ℕ → Bool

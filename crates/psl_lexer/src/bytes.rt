@@ -2,13 +2,7 @@ ghost use Rattle.std.specs.Prelude.{◌≡◌, ◌≤◌, length, IfSome};
 ghost use Rattle.std.specs.List.{prefix_len};
 ghost use Rattle.psl_lexer.specs.Bytes as spec;
 
-/// Whether a byte is white space.
-#[tactic(auto, unfolding(crate::specs::Bytes::is_white))]
-pub fn is_white(byte: u8) -> bool
-    ensures { result ≡ spec.is_white byte }
-{
-    matches!(byte, b'\t'..=b'\r' | b' ')
-}
+use psl_base::{is_digit, is_white};
 
 /// Whether a name may begin with a byte.
 #[tactic(auto, unfolding(crate::specs::Bytes::begins_name))]
@@ -16,14 +10,6 @@ pub fn begins_name(byte: u8) -> bool
     ensures { result ≡ spec.begins_name byte }
 {
     byte.is_ascii_alphabetic() || byte == b'_'
-}
-
-/// Whether a byte is a decimal digit.
-#[tactic(auto, unfolding(crate::specs::Bytes::is_digit))]
-pub fn is_digit(byte: u8) -> bool
-    ensures { result ≡ spec.is_digit byte }
-{
-    byte.is_ascii_digit()
 }
 
 /// Whether a name may go on with a byte.

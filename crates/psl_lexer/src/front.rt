@@ -4,11 +4,12 @@ ghost use Rattle.psl_lexer.specs.Spellings.{marks};
 ghost use Rattle.psl_lexer.specs.Fronts.{IsFront, IsWithin};
 
 use crate::TokenKind;
-use crate::bytes::{begins_name, is_digit, is_white};
+use crate::bytes::begins_name;
 use crate::numbers::number_front;
 use crate::spellings::MARKS;
 use crate::texts::{escaped_front, slash_front, text_front};
 use crate::words::word_front;
+use psl_base::{is_digit, is_white};
 
 /// What stands at the front of a text, with how many bytes it has.
 #[derive(Clone, Copy, Debug)]
