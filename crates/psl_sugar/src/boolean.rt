@@ -136,13 +136,6 @@ impl MeasuredBool {
         tree
     }
 
-    /// The tree.
-    pub fn tree(&self) -> &Bool
-        ensures { boolean_of result.now ≡ self.now }
-    {
-        &self.tree
-    }
-
     /// How many constructors the expression has.
     pub fn size(&self) -> u32
         ensures size { result ≡ boolean_size self.now }

@@ -1,9 +1,9 @@
 // Connectives of properties, and operators that need no count.
 ghost use Rattle.psl_meaning.specs.Sugar.{disjunction, implication, eventually, always};
 ghost use Rattle.psl_sugar.specs.Budget.{GivesFormula};
-ghost use Rattle.psl_sugar.specs.Properties.{iff, never, never_sequence, eventually_sequence, weak_until, until, until_overlapping, before, before_overlapping, next};
+ghost use Rattle.psl_sugar.specs.Properties.{iff, never, weak_until, until, until_overlapping, before, before_overlapping, next};
 
-use crate::{MeasuredBool, MeasuredFl, MeasuredSere, Strength, SugarFault};
+use crate::{MeasuredBool, MeasuredFl, Strength, SugarFault};
 use std::alloc::Global;
 
 impl MeasuredFl {
@@ -39,16 +39,6 @@ impl MeasuredFl {
         MeasuredFl::now(MeasuredBool::constant(true))?.strong_until(alloc, self)
     }
 
-    /// `eventually! r` of a sequence: `r!` at some time.
-    pub fn eventually_sequence(
-        alloc: Global,
-        sequence: MeasuredSere,
-    ) -> Result<MeasuredFl, SugarFault>
-        ensures { GivesFormula result (eventually_sequence sequence) }
-    {
-        MeasuredFl::strong(sequence)?.eventually(alloc)
-    }
-
     /// `always f`: not eventually not `f`.
     pub fn always(self, alloc: Global) -> Result<MeasuredFl, SugarFault>
         ensures { GivesFormula result (always self) }
@@ -61,13 +51,6 @@ impl MeasuredFl {
         ensures { GivesFormula result (never self) }
     {
         self.not(alloc)?.always(alloc)
-    }
-
-    /// `never r` of a sequence: always not `r!`.
-    pub fn never_sequence(alloc: Global, sequence: MeasuredSere) -> Result<MeasuredFl, SugarFault>
-        ensures { GivesFormula result (never_sequence sequence) }
-    {
-        MeasuredFl::strong(sequence)?.never(alloc)
     }
 
     // `f W g`: `(f U g) || G f`.

@@ -201,13 +201,6 @@ impl MeasuredFl {
         tree
     }
 
-    /// The tree.
-    pub fn tree(&self) -> &Fl
-        ensures { formula_of result.now ≡ self.now }
-    {
-        &self.tree
-    }
-
     /// How many constructors the formula has, those of its sequences and Booleans among them.
     pub fn size(&self) -> u32
         ensures size { result ≡ formula_size self.now }

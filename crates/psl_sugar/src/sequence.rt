@@ -172,13 +172,6 @@ impl MeasuredSere {
         tree
     }
 
-    /// The tree.
-    pub fn tree(&self) -> &Sere
-        ensures { sequence_of result.now ≡ self.now }
-    {
-        &self.tree
-    }
-
     /// How many constructors the sequence has, those of its Booleans among them.
     pub fn size(&self) -> u32
         ensures size { result ≡ sequence_size self.now }

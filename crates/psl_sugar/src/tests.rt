@@ -3,6 +3,7 @@
 use crate::{
     Count, MeasuredBool, MeasuredFl, MeasuredSere, Quantifier, Strength, SugarFault, Vector,
 };
+use psl_tree::Fl;
 use std::alloc::{AllocError, Global};
 use std::test::Fail;
 
@@ -33,9 +34,9 @@ fn connective(alloc: Global, case: u8) -> Result<MeasuredFl, SugarFault> {
         2 => f()?.iff(alloc, g()?),
         3 => f()?.always(alloc),
         4 => f()?.never(alloc),
-        5 => MeasuredFl::never_sequence(alloc, r()?),
+        5 => MeasuredFl::strong(r()?)?.never(alloc),
         6 => f()?.eventually(alloc),
-        7 => MeasuredFl::eventually_sequence(alloc, r()?),
+        7 => MeasuredFl::strong(r()?)?.eventually(alloc),
         8 => f()?.until(alloc, Strength::Weak, g()?),
         9 => f()?.until_overlapping(alloc, Strength::Strong, g()?),
         10 => f()?.before(alloc, Strength::Strong, g()?),
@@ -106,8 +107,8 @@ fn wide(alloc: Global, width: u32) -> Result<MeasuredBool, SugarFault> {
     MeasuredBool::equality(alloc, vector, MOST)
 }
 
-fn text_of(alloc: Global, formula: &MeasuredFl) -> Result<String, AllocError> {
-    format!(in alloc; "{:?}", formula.tree())
+fn text_of(alloc: Global, formula: &Fl) -> Result<String, AllocError> {
+    format!(in alloc; "{formula:?}")
 }
 
 // Connectives and operators without a count, and their rows.
@@ -159,7 +160,7 @@ const CONNECTIVES: [(u8, &str); 17] = [
 fn connectives_are_rows(rt: HostRuntime) -> Result<(), Fail> {
     let alloc = rt.alloc();
     for (case, text) in CONNECTIVES {
-        let built = connective(alloc, case)?;
+        let built = connective(alloc, case)?.into_tree();
         assert_eq!(rt; text_of(alloc, &built)?.as_str(), text);
     }
     Ok(())
@@ -240,13 +241,12 @@ fn counts_are_rows(rt: HostRuntime) -> Result<(), Fail> {
     let alloc = rt.alloc();
     for (case, low, high, text) in COUNTS {
         let built = counted(alloc, case, low, high)?;
-        assert_eq!(rt; text_of(alloc, &built)?.as_str(), text);
         let copy = built.copy(alloc)?;
+        let size = u64::from(copy.size());
+        let (built, copy) = (built.into_tree(), copy.into_tree());
+        assert_eq!(rt; text_of(alloc, &built)?.as_str(), text);
         assert_eq!(rt; text_of(alloc, &copy)?.as_str(), text);
-        assert_eq!(rt;
-            u64::from(copy.size()),
-            psl_tree::measure(&copy.into_tree())
-        );
+        assert_eq!(rt; size, psl_tree::measure(&copy));
     }
     Ok(())
 }
