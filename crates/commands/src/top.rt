@@ -35,7 +35,8 @@ pub fn run<F: Shelf, O: Sink, E: Sink>(
     ensures status { result.status ≡ status_of result.outcome result.fault }
 
     // Each fault has its cause; without one, nothing that is told is refused.
-    ensures cause { Explained (Rose (O.state out.old).faults (O.state out.new).faults ⊎ Rose (E.state err.old).faults (E.state err.new).faults) (F.state files.old) (F.state files.new) (FirstRefusal (map string_bytes words.now)) result.fault }
+    ensures cause { Explained (Rose (O.state out.old).faults (O.state out.new).faults ⊎ Rose (E.state err.old).faults (E.state err.new).faults)
+        (F.state files.old) (F.state files.new) (FirstRefusal (map string_bytes words.now)) result.fault }
 
     // Words that are no command are told so, whatever the files tell, unless that cannot be written.
     ensures no_command { IsNoCommand (map string_bytes words.now) → (result.fault ≡ Some (of_none Reason.Usage)) ⊎ ((result.fault ≡ Some (of_none Reason.WriteFault)) ⊎ (result.fault ≡ Some (of_none Reason.NoMemory))) }

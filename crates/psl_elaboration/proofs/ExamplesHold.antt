@@ -44,3 +44,6 @@ named_sequence box = refl
 pub comparison : Comparison
 unfolding base_of digit_of
 comparison box = refl
+
+-- what the law of worked examples asks
+pub ruleset examples = (next_in_sere, sequence_in_boolean, no_such_name, two_such_names, does_not_see_itself, declared_twice, indices, default_clock, named_sequence)

@@ -15,7 +15,7 @@ pub fn one_answer()
 {}
 
 /// Worked examples of the definitions, as laws: short texts, each with its first fault or with its kernel.
-#[tactic(auto, using(crate::proofs::ExamplesHold::next_in_sere, crate::proofs::ExamplesHold::sequence_in_boolean, crate::proofs::ExamplesHold::no_such_name, crate::proofs::ExamplesHold::two_such_names, crate::proofs::ExamplesHold::does_not_see_itself, crate::proofs::ExamplesHold::declared_twice, crate::proofs::ExamplesHold::indices, crate::proofs::ExamplesHold::default_clock, crate::proofs::ExamplesHold::named_sequence))]
+#[tactic(auto, using(crate::proofs::ExamplesHold::examples))]
 pub fn worked_examples()
     ensures next_in_sere { NextInSere }
     ensures sequence_in_boolean { SequenceInBoolean }

@@ -130,3 +130,6 @@ fault_is_early = stop_is_fault Prop from to (inr (named 0, prop, left))
         let suf = reads.symbol (reads.both bnd (reads.without (record { holds = refl })) refl) refl in
         let imp = reads.symbol (reads.both suf (reads.without (record { holds = refl })) refl) refl in
         reads.symbol (reads.right (record { holds = refl }) imp) refl
+
+-- what the law of worked examples asks
+pub ruleset examples = (arrows_go_right, next_binds_first, next_counts, within_binds_first, assert_is_statement, fault_is_early)

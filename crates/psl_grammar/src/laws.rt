@@ -38,7 +38,7 @@ pub fn reading()
 {}
 
 /// Worked examples of the grammar, as laws: token lists with their trees, and one with the place of its syntax fault.
-#[tactic(auto, using(crate::proofs::ExamplesHold::arrows_go_right, crate::proofs::ExamplesHold::next_binds_first, crate::proofs::ExamplesHold::next_counts, crate::proofs::ExamplesHold::within_binds_first, crate::proofs::ExamplesHold::assert_is_statement, crate::proofs::ExamplesHold::fault_is_early))]
+#[tactic(auto, using(crate::proofs::ExamplesHold::examples))]
 pub fn worked_examples()
     ensures arrows { ArrowsGoRight }
     ensures next { NextBindsFirst }

@@ -76,9 +76,12 @@ impl Checker<'_, '_, '_, '_, '_> {
         operator: &Token,
         operands: Operands,
     ) -> Result<Checked, NoMemory>
-        ensures kind { IfOk result (λ checked. checked.kind ≡ kinds.infix_kind in_sere (kinds.operator_before in_sere operator.now.kind operands.entry.right.now) operands.entry.left_checked.kind operands.entry.right_checked.kind) }
+        ensures kind { IfOk result (λ checked. checked.kind ≡ kinds.infix_kind in_sere (kinds.operator_before in_sere operator.now.kind operands.entry.right.now)
+            operands.entry.left_checked.kind operands.entry.right_checked.kind) }
         ensures place { IfOk result (λ checked. checked.place ≡ operands.entry.left_checked.place) }
-        ensures flaw { IfOk result (λ checked. checked.flaw ≡ earlier (earlier operands.entry.left_checked.flaw operands.entry.right_checked.flaw) (first_of (own_flaws self.now.scope.now self.now.names.now in_sere (kinds.operator_before in_sere operator.now.kind operands.entry.right.now) operands.entry.left.now operands.entry.left_checked operands.entry.right.now operands.entry.right_checked))) }
+        ensures flaw { IfOk result (λ checked. checked.flaw ≡ earlier (earlier operands.entry.left_checked.flaw operands.entry.right_checked.flaw)
+            (first_of (own_flaws self.now.scope.now self.now.names.now in_sere (kinds.operator_before in_sere operator.now.kind operands.entry.right.now)
+            operands.entry.left.now operands.entry.left_checked operands.entry.right.now operands.entry.right_checked))) }
     {
         let left = operands.left_checked;
         let right = operands.right_checked;

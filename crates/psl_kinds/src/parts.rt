@@ -48,7 +48,8 @@ pub(crate) fn postfixed(x: Checked) -> Checked
 pub(crate) fn repeated(opening: &Token, count: &Option<Count>, x: Checked) -> Checked
     ensures kind { result.kind ≡ kind.Sequence }
     ensures place { result.place ≡ x.place }
-    ensures flaw { result.flaw ≡ earlier (earlier x.flaw (first_of (flaws.repeated_flaws (repetition_operator opening.now.kind) x.kind x.place))) (first_of (flaws.count_flaws (flaws.is_goto (repetition_operator opening.now.kind)) count.now)) }
+    ensures flaw { result.flaw ≡ earlier (earlier x.flaw (first_of (flaws.repeated_flaws (repetition_operator opening.now.kind) x.kind x.place)))
+        (first_of (flaws.count_flaws (flaws.is_goto (repetition_operator opening.now.kind)) count.now)) }
 {
     let operator = repetition_operator(opening.kind);
     let count = optional_count_flaw(is_goto(operator), count);

@@ -203,77 +203,6 @@ const TEXTS: [(&[u8], &[(TokenKind, &[u8])]); 15] = [
     (b"", &[]),
 ];
 
-/// Texts with a fault, and the first of them.
-const FAULTS: [(&[u8], LexFault); 37] = [
-    (b"a #b", LexFault::BadByte(Place { line: 1, column: 3 })),
-    (b"a\n $", LexFault::BadByte(Place { line: 2, column: 2 })),
-    (b"/ a", LexFault::BadByte(Place { line: 1, column: 1 })),
-    (b"a*/", LexFault::BadByte(Place { line: 1, column: 2 })),
-    (b"a - b", LexFault::BadByte(Place { line: 1, column: 3 })),
-    (b"<-", LexFault::BadByte(Place { line: 1, column: 1 })),
-    (b"[+", LexFault::BadByte(Place { line: 1, column: 2 })),
-    (b"'b1", LexFault::BadByte(Place { line: 1, column: 1 })),
-    (b"\\ a", LexFault::BadByte(Place { line: 1, column: 1 })),
-    (b"a\xc3", LexFault::BadByte(Place { line: 1, column: 2 })),
-    (b"4'q", LexFault::BadByte(Place { line: 1, column: 3 })),
-    (b"4'b2", LexFault::BadByte(Place { line: 1, column: 4 })),
-    (b"4'h_1", LexFault::BadByte(Place { line: 1, column: 4 })),
-    (b"4' b", LexFault::BadByte(Place { line: 1, column: 3 })),
-    (b"0'q", LexFault::BadByte(Place { line: 1, column: 3 })),
-    (b"99'q", LexFault::BadByte(Place { line: 1, column: 4 })),
-    (
-        b"\"a\" 4'b/",
-        LexFault::BadByte(Place { line: 1, column: 8 }),
-    ),
-    (b"a/*b*", LexFault::Unended(Place { line: 1, column: 2 })),
-    (b"/*/", LexFault::Unended(Place { line: 1, column: 1 })),
-    (b"a \"b", LexFault::Unended(Place { line: 1, column: 3 })),
-    (b"\"b\n\"", LexFault::Unended(Place { line: 1, column: 1 })),
-    (
-        b"\"b\\\n\"",
-        LexFault::Unended(Place { line: 1, column: 1 }),
-    ),
-    (b"a\r\n\\b", LexFault::Unended(Place { line: 2, column: 1 })),
-    (b"\\", LexFault::Unended(Place { line: 1, column: 1 })),
-    (b"a 4'", LexFault::Unended(Place { line: 1, column: 3 })),
-    (b"4'h", LexFault::Unended(Place { line: 1, column: 1 })),
-    (b"99'h", LexFault::Unended(Place { line: 1, column: 1 })),
-    (b"0'", LexFault::Unended(Place { line: 1, column: 1 })),
-    (
-        b"18446744073709551616",
-        LexFault::NumberTooLarge(Place { line: 1, column: 1 }),
-    ),
-    (
-        b"a 99999999999999999999999;",
-        LexFault::NumberTooLarge(Place { line: 1, column: 3 }),
-    ),
-    (
-        b"0'b0",
-        LexFault::NumberTooLarge(Place { line: 1, column: 1 }),
-    ),
-    (
-        b"65'b0",
-        LexFault::NumberTooLarge(Place { line: 1, column: 1 }),
-    ),
-    (
-        b"3'd8",
-        LexFault::NumberTooLarge(Place { line: 1, column: 1 }),
-    ),
-    (
-        b"64'h1_0000_0000_0000_0000",
-        LexFault::NumberTooLarge(Place { line: 1, column: 1 }),
-    ),
-    (
-        b"99999999999999999999'b1",
-        LexFault::NumberTooLarge(Place { line: 1, column: 1 }),
-    ),
-    (
-        b"a\n3'd8 #",
-        LexFault::NumberTooLarge(Place { line: 2, column: 1 }),
-    ),
-    (b"# 3'd8", LexFault::BadByte(Place { line: 1, column: 1 })),
-];
-
 /// The tokens of a short text.
 fn read(alloc: Global, text: &[u8]) -> Result<Tokens, LexFault> {
     if text.len() > 100 {
@@ -327,17 +256,6 @@ fn says_where_tokens_stand(rt: HostRuntime) -> Result<(), Fail> {
             column: *column,
         };
         assert_eq!(rt; token.place, place);
-    }
-    Ok(())
-}
-
-#[test]
-fn names_the_first_fault(rt: HostRuntime) -> Result<(), Fail> {
-    for (row, (text, wanted)) in FAULTS.iter().enumerate() {
-        match read(rt.alloc(), text) {
-            Ok(_) => assert!(rt; false, "row {row}"),
-            Err(fault) => assert_eq!(rt; fault, *wanted, "row {row}"),
-        }
     }
     Ok(())
 }

@@ -35,7 +35,8 @@ impl<'a> Model for CodeTable<'a> {
 
     ghost view = { λ table. map (λ text. text.now) table.texts.items };
 
-    ghost invariant = { λ table. ((text : List ℕ) → get_by (λ key. bytes_eq text key.now) table.places ≡ place_of (map (λ other. other.now) table.texts.items) text) × IsShortTable table.short.items (map (λ other. other.now) table.texts.items) × AreDistinct (map (λ other. other.now) table.texts.items) };
+    ghost invariant = { λ table. ((text : List ℕ) → get_by (λ key. bytes_eq text key.now) table.places ≡ place_of (map (λ other. other.now) table.texts.items) text)
+        × IsShortTable table.short.items (map (λ other. other.now) table.texts.items) × AreDistinct (map (λ other. other.now) table.texts.items) };
 }
 
 impl<'a> CodeTable<'a> {

@@ -28,6 +28,7 @@ pub fn one_meaning_law()
 
 /// A law of the definitions: reading token by token, from what was read before, says the same.
 pub fn running_law()
-    ensures recording { (bytes : List ℕ) (declared : Declared) (told : Told) (changes : List (List Change)) → defining nothing_declared Ready (all_tokens bytes) ≡ Ok (record { declared = declared; part = Telling told; changes = changes }) → reading bytes ≡ Ok (record { names = declared.names; samples = rows_of bytes told.samples changes }) }
+    ensures recording { (bytes : List ℕ) (declared : Declared) (told : Told) (changes : List (List Change)) → defining nothing_declared Ready (all_tokens bytes) ≡ Ok (record { declared = declared; part = Telling told; changes = changes })
+        → reading bytes ≡ Ok (record { names = declared.names; samples = rows_of bytes told.samples changes }) }
     ensures fault { (bytes : List ℕ) (found : VcdFault) → defining nothing_declared Ready (all_tokens bytes) ≡ Err found → reading bytes ≡ Err found }
 {}
