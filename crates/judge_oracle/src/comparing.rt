@@ -4,53 +4,34 @@ ghost use Rattle.psl_tree.specs.Counts.{formula_size};
 ghost use Rattle.psl_tree.specs.Names.{AtomInRange};
 ghost use Rattle.psl_tree.specs.Trees.{formula_of};
 
+use crate::fault::Fault;
+use crate::rows::Row;
 use crate::satisfied::is_satisfied;
 use crate::scenes::recording;
 use crate::words::Letter;
-use psl_base::Items;
 use psl_grammar::UnitTree;
 use psl_layer::resolve;
-use psl_elaboration::LayerFault;
 use psl_lexer::lex;
 use psl_parser::parse;
 use psl_tree::Unit;
 use std::alloc::Global;
-use std::process::Abort;
-use std::test::Fail;
 use vcd_reader::Recording;
 use wave_judge::judge;
-
-/// A text, the samples of a recording, and the verdicts of its directives: for each one the weak, the
-/// neutral and the strong view, `y` or `n`.
-pub type Row = (&'static str, &'static str, &'static str);
 
 /// The longest text, in bytes.
 const LONGEST: usize = 1000;
 
 /// The tree of a text.
-fn tree_of(alloc: Global, text: &str) -> Result<UnitTree, Fail> {
+fn tree_of(alloc: Global, text: &str) -> Result<UnitTree, Fault> {
     if text.len() > LONGEST {
-        return Ok(UnitTree::Statements(Items::new(alloc)));
+        return Err(Fault::TooLong);
     }
     let tokens = lex(alloc, text.as_bytes())?;
     Ok(parse(alloc, &tokens)?)
 }
 
-/// The fault that a text has over the names of a recording.
-pub fn layer_fault(
-    alloc: Global,
-    text: &str,
-    recording: &Recording,
-) -> Result<Option<LayerFault>, Fail> {
-    let tree = tree_of(alloc, text)?;
-    match resolve(alloc, &tree, recording.names()) {
-        Ok(_) => Ok(None),
-        Err(fault) => Ok(Some(fault)),
-    }
-}
-
 /// The directives of a text over the names of a recording.
-pub fn directives(alloc: Global, text: &str, recording: &Recording) -> Result<Unit, Fail>
+fn directives(alloc: Global, text: &str, recording: &Recording) -> Result<Unit, Fault>
     ensures in_range { IfOk result (λ unit. All (λ directive. AtomsOfFormula (AtomInRange recording.now.names) (formula_of directive.formula)) unit) }
     ensures small { IfOk result (λ unit. All (λ directive. formula_size (formula_of directive.formula) ≤ 4096) unit) }
 {
@@ -58,7 +39,7 @@ pub fn directives(alloc: Global, text: &str, recording: &Recording) -> Result<Un
     Ok(resolve(alloc, &tree, recording.names())?)
 }
 
-fn add(shown: &mut String, views: [bool; 3]) -> Result<(), Fail> {
+fn add(shown: &mut String, views: [bool; 3]) -> Result<(), Fault> {
     if !shown.is_empty() {
         shown.push(' ')?;
     }
@@ -69,7 +50,7 @@ fn add(shown: &mut String, views: [bool; 3]) -> Result<(), Fail> {
 }
 
 /// The verdicts of the judge.
-pub fn judged(alloc: Global, unit: &Unit, recording: &Recording) -> Result<String, Fail>
+fn judged(alloc: Global, unit: &Unit, recording: &Recording) -> Result<String, Fault>
     requires in_range { All (λ directive. AtomsOfFormula (AtomInRange recording.now.names) (formula_of directive.formula)) unit.now }
     requires small { All (λ directive. formula_size (formula_of directive.formula) ≤ 4096) unit.now }
 {
@@ -81,7 +62,7 @@ pub fn judged(alloc: Global, unit: &Unit, recording: &Recording) -> Result<Strin
 }
 
 /// The verdicts of the plain recursion.
-fn satisfied(alloc: Global, unit: &Unit, recording: &Recording) -> Result<String, Fail> {
+fn satisfied(alloc: Global, unit: &Unit, recording: &Recording) -> Result<String, Fault> {
     let mut shown = String::new(alloc);
     for directive in unit.as_slice() {
         let formula = &directive.formula;
@@ -93,15 +74,19 @@ fn satisfied(alloc: Global, unit: &Unit, recording: &Recording) -> Result<String
     Ok(shown)
 }
 
-/// The verdicts of the judge and of the plain recursion are those worked out by hand.
-pub fn compare(rt: &impl Abort, alloc: Global, rows: &[Row]) -> Result<(), Fail> {
-    for (text, samples, want) in rows {
-        let recording = recording(alloc, samples)?;
-        let unit = directives(alloc, text, &recording)?;
-        let found = judged(alloc, &unit, &recording)?;
-        assert_eq!(rt; found.as_str(), *want, "the judge: {text}: {samples}");
-        let found = satisfied(alloc, &unit, &recording)?;
-        assert_eq!(rt; found.as_str(), *want, "plain recursion: {text}: {samples}");
+/// What the judge and the plain recursion give, where one of them gives something else than the verdicts that were worked
+/// out by hand.
+pub fn difference(alloc: Global, row: &Row) -> Result<Option<String>, Fault> {
+    let wanted = row.verdicts;
+    let recording = recording(alloc, row.samples)?;
+    let unit = directives(alloc, row.text, &recording)?;
+    let judged = judged(alloc, &unit, &recording)?;
+    let satisfied = satisfied(alloc, &unit, &recording)?;
+    if judged.as_str() == wanted && satisfied.as_str() == wanted {
+        return Ok(None);
     }
-    Ok(())
+    let text = format!(in alloc;
+        "wanted: {wanted}, the judge: {judged}, the recursion: {satisfied}"
+    )?;
+    Ok(Some(text))
 }

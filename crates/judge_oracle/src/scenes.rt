@@ -1,6 +1,6 @@
+use crate::fault::Fault;
 use psl_base::{Bytes, File, Files, MemShelf, Numbers};
 use std::alloc::Global;
-use std::test::Fail;
 use vcd_reader::{Recording, read_vcd};
 
 /// Signals of one bit, each with its code, and two vectors, the second of which counts its indices
@@ -22,11 +22,11 @@ const V: [&str; 4] = ["v3", "v2", "v1", "v0"];
 
 const W: [&str; 2] = ["w0", "w1"];
 
-/// A recording: of each sample the names of those signals and bits that are 1, or `-`. An empty text
-/// is a recording without samples.
-pub fn recording(alloc: Global, samples: &str) -> Result<Recording, Fail> {
+/// A recording: of each sample the names of those signals and bits that are 1, or `-`. `none` is a recording without
+/// samples.
+pub fn recording(alloc: Global, samples: &str) -> Result<Recording, Fault> {
     let mut text = String::from_str(alloc, HEAD)?;
-    if !samples.is_empty() {
+    if samples != "none" {
         for (number, sample) in samples.split(';').enumerate() {
             text.push_str(format!(in alloc; "#{number}\n")?.as_str())?;
             add_sample(&mut text, sample)?;
@@ -42,7 +42,7 @@ pub fn recording(alloc: Global, samples: &str) -> Result<Recording, Fail> {
 }
 
 /// The value of each signal at a sample.
-fn add_sample(text: &mut String, sample: &str) -> Result<(), Fail> {
+fn add_sample(text: &mut String, sample: &str) -> Result<(), Fault> {
     for (name, code) in BITS {
         text.push(bit(sample, name))?;
         text.push_str(code)?;

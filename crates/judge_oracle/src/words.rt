@@ -1,6 +1,5 @@
-use crate::ranged::is_in_range;
 use psl_base::{Items, NoMemory};
-use psl_tree::Bool;
+use psl_tree::{Bool, is_in_range};
 use std::alloc::Global;
 use vcd_reader::Recording;
 
@@ -125,7 +124,7 @@ fn holds_at(recording: &Recording, sample: u32, test: &Bool) -> bool {
         Bool::Const(value) => *value,
         Bool::Test(atom) => {
             sample < recording.samples()
-                && is_in_range(recording.names().as_slice(), atom)
+                && is_in_range(recording.names(), atom)
                 && recording.bit(sample, atom)
         }
         Bool::Not(part) => !holds_at(recording, sample, part),
