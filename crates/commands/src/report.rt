@@ -1,11 +1,10 @@
-ghost use Rattle.std.specs.Prelude.{◌≡◌, ◌++◌, IfOk, OnOk, decimal};
+ghost use Rattle.std.specs.Prelude.{◌≡◌, ◌++◌, IfOk, OnOk};
 ghost use Rattle.std.specs.List.{flat_map};
 ghost use Rattle.commands.specs.Text.{text_of, line_of, made_line, meaning_line, verdict_line, head, label_part, kind_word, level_words, answer_word, about};
 
 use crate::outcome::{Fault, Line, Outcome};
 use crate::rows::row_of;
-use itoa::Buffer;
-use psl_base::{Bytes, NoMemory, Place, Text};
+use psl_base::{Bytes, NoMemory, Place, Text, add_bytes, add_number};
 use psl_tree::Kind;
 use std::alloc::Global;
 use wave_judge::{Level, Verdict, level};
@@ -32,14 +31,14 @@ pub fn fault_line(alloc: Global, fault: &Fault) -> Result<Bytes, NoMemory>
     ensures { IfOk result (λ line. line ≡ line_of fault.now) }
 {
     let mut line = Vec::new(alloc);
-    add(&mut line, b"pslc: ")?;
+    add_bytes(&mut line, b"pslc: ")?;
     add_about(
         &mut line,
         &fault.file,
         &fault.place,
         row_of(fault.reason).words,
     )?;
-    add(&mut line, b"\n")?;
+    add_bytes(&mut line, b"\n")?;
     Ok(Bytes::from_vec(line))
 }
 
@@ -53,36 +52,30 @@ fn add_about(
     ensures { OnOk result (line.new.items ≡ line.old.items ++ about file.now place.now words.now) }
 {
     let Some(file) = file else {
-        return add(line, words);
+        return add_bytes(line, words);
     };
-    add(line, file.as_slice())?;
+    add_bytes(line, file.as_slice())?;
     if let Some(place) = place {
-        add(line, b":")?;
+        add_bytes(line, b":")?;
         add_number(line, place.line as u64)?;
-        add(line, b":")?;
+        add_bytes(line, b":")?;
         add_number(line, place.column as u64)?;
     }
-    add(line, b": ")?;
-    add(line, words)
-}
-
-fn add_number(line: &mut Vec<u8>, number: u64) -> Result<(), NoMemory>
-    ensures { OnOk result (line.new.items ≡ line.old.items ++ decimal number) }
-{
-    add(line, Buffer::new().format(number).as_bytes())
+    add_bytes(line, b": ")?;
+    add_bytes(line, words)
 }
 
 /// The line that says what was made.
 fn add_made(text: &mut Vec<u8>, seed: u64, samples: u32, bytes: u64) -> Result<(), NoMemory>
     ensures { OnOk result (text.new.items ≡ text.old.items ++ made_line seed samples bytes) }
 {
-    add(text, b"gen ")?;
+    add_bytes(text, b"gen ")?;
     add_number(text, seed)?;
-    add(text, b" ")?;
+    add_bytes(text, b" ")?;
     add_number(text, samples as u64)?;
-    add(text, b" bytes ")?;
+    add_bytes(text, b" bytes ")?;
     add_number(text, bytes)?;
-    add(text, b"\n")
+    add_bytes(text, b"\n")
 }
 
 fn add_meanings(text: &mut Vec<u8>, lines: &[Line]) -> Result<(), NoMemory>
@@ -98,10 +91,10 @@ fn add_meaning(text: &mut Vec<u8>, meaning: &Line) -> Result<(), NoMemory>
     ensures { OnOk result (text.new.items ≡ text.old.items ++ meaning_line meaning.now) }
 {
     add_head(text, meaning.kind, meaning.number, &meaning.label)?;
-    add(text, meaning.text.as_slice())?;
-    add(text, b" obligations ")?;
+    add_bytes(text, meaning.text.as_slice())?;
+    add_bytes(text, b" obligations ")?;
     add_number(text, meaning.obligations)?;
-    add(text, b"\n")
+    add_bytes(text, b"\n")
 }
 
 fn add_verdicts(text: &mut Vec<u8>, verdicts: &[Verdict]) -> Result<(), NoMemory>
@@ -117,14 +110,14 @@ fn add_verdict(text: &mut Vec<u8>, verdict: &Verdict) -> Result<(), NoMemory>
     ensures { OnOk result (text.new.items ≡ text.old.items ++ verdict_line verdict.now) }
 {
     add_head(text, verdict.kind, verdict.number, &verdict.label)?;
-    add(text, level_text(level(verdict)))?;
-    add(text, b" (weak ")?;
-    add(text, answer(verdict.weak))?;
-    add(text, b", neutral ")?;
-    add(text, answer(verdict.neutral))?;
-    add(text, b", strong ")?;
-    add(text, answer(verdict.strong))?;
-    add(text, b")\n")
+    add_bytes(text, level_text(level(verdict)))?;
+    add_bytes(text, b" (weak ")?;
+    add_bytes(text, answer(verdict.weak))?;
+    add_bytes(text, b", neutral ")?;
+    add_bytes(text, answer(verdict.neutral))?;
+    add_bytes(text, b", strong ")?;
+    add_bytes(text, answer(verdict.strong))?;
+    add_bytes(text, b")\n")
 }
 
 fn add_head(
@@ -135,11 +128,11 @@ fn add_head(
 ) -> Result<(), NoMemory>
     ensures { OnOk result (text.new.items ≡ text.old.items ++ head kind number label.now) }
 {
-    add(text, kind_text(kind))?;
-    add(text, b" ")?;
+    add_bytes(text, kind_text(kind))?;
+    add_bytes(text, b" ")?;
     add_number(text, number as u64)?;
     add_label(text, label)?;
-    add(text, b": ")
+    add_bytes(text, b": ")
 }
 
 fn add_label(text: &mut Vec<u8>, label: &Option<Text>) -> Result<(), NoMemory>
@@ -148,18 +141,9 @@ fn add_label(text: &mut Vec<u8>, label: &Option<Text>) -> Result<(), NoMemory>
     match label {
         None => Ok(()),
         Some(label) => {
-            add(text, b" ")?;
-            add(text, label.as_slice())
+            add_bytes(text, b" ")?;
+            add_bytes(text, label.as_slice())
         }
-    }
-}
-
-fn add(text: &mut Vec<u8>, piece: &[u8]) -> Result<(), NoMemory>
-    ensures { OnOk result (text.new.items ≡ text.old.items ++ piece.now) }
-{
-    match text.extend_from_slice(piece) {
-        Ok(()) => Ok(()),
-        Err(_) => Err(NoMemory),
     }
 }
 
