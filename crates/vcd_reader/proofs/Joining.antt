@@ -1,5 +1,5 @@
 -- What the bytes of a file say, from what is read of them token by token.
-use Rattle.std.proofs.Common.{◌≡◌, inl, inr, ℕ, ◌+◌, ◌<◌, ◌≤◌, Bool, true, false, cond, nat_le, List, [], ◌∷◌, ◌++◌, map, length, get_or, replicate, Option, None, Some, Result, Ok, Err, refl, sym, ap, subst, ◌∙◌, arith}
+use Rattle.std.proofs.Common.{rules, ◌≡◌, inl, inr, ℕ, ◌+◌, ◌<◌, ◌≤◌, Bool, true, false, cond, nat_le, List, [], ◌∷◌, ◌++◌, map, length, get_or, replicate, Option, None, Some, Result, Ok, Err, refl, sym, ap, subst, ◌∙◌, arith}
 use Rattle.std.proofs.lemmas.List.{length-map, get_or-map, get_or-replicate, length-replicate}
 use Rattle.std.proofs.lemmas.List.Elements.{All-nil, All-replicate}
 use Rattle.std.proofs.lemmas.List.FromFn.{fill_by_all}
@@ -20,7 +20,7 @@ use Rattle.vcd_reader.specs.Events.{Event, value_at, times_of}
 use Rattle.vcd_reader.specs.Meaning.{first_fault, events_after, unless, dump_by, sampled_of, end_of, reading}
 use Rattle.vcd_reader.specs.Rows.{value_of, rows_of, IsSound}
 use Rattle.vcd_reader.specs.Running.{Outcome, changes_after, raised, run_to, defining, Halts}
-use Rattle.vcd_reader.specs.Rules.{rule_at, may_end, is_unknown_keyword, is_missing_end, is_bad_var, differs_in_size, is_scope_not_open, is_bad_time, is_falling, is_undeclared, is_bad_value, is_too_long, is_early, begins_too_many, declares_too_many}
+use Rattle.vcd_reader.specs.Rules.{rule_at, may_end}
 use Rattle.vcd_reader.specs.Sampled.{AreAlike}
 use Rattle.vcd_reader.specs.Changes.{latest_change, letters_in}
 use Rattle.vcd_reader.specs.Standing.{Standing, standing_by, Told, nothing_told, Part, Defining, Telling, Open, Ready, declared_after, part_after, opened_after}
@@ -128,20 +128,7 @@ one_of_text true fault rest here later = here
 one_of_text false fault rest here later = later
 
 rule_of_text : (d : Declared) (p : Part) (o : Open) (text : List ℕ) → EachOfText (rule_at d p o text)
-rule_of_text d p o text =
-    one_of_text (is_unknown_keyword p o text) vcd.UnknownKeyword _ (λ _. tt)
-    (one_of_text (is_missing_end p o text) vcd.MissingEnd _ (λ _. tt)
-    (one_of_text (is_bad_var o text) vcd.BadVar _ (λ _. tt)
-    (one_of_text (differs_in_size d o text) vcd.CodeSizeDiffers _ (λ _. tt)
-    (one_of_text (is_scope_not_open d p o text) vcd.ScopeNotOpen _ (λ _. tt)
-    (one_of_text (is_bad_time p o text) vcd.BadTime _ (λ _. tt)
-    (one_of_text (is_falling p o text) vcd.TimeFalls _ (λ _. tt)
-    (one_of_text (is_undeclared d p o text) vcd.CodeNotDeclared _ (λ _. tt)
-    (one_of_text (is_bad_value p o text) vcd.BadValue _ (λ _. tt)
-    (one_of_text (is_too_long d o text) vcd.VectorTooLong _ (λ _. tt)
-    (one_of_text (is_early p o text) vcd.ChangeBeforeDefinitionsEnd _ (λ _. tt)
-    (one_of_text (begins_too_many p o text) vcd.TooManySamples _ (λ _. tt)
-    (one_of_text (declares_too_many d o text) vcd.TooManySignals _ (λ _. tt) tt))))))))))))
+rule_of_text d p o text = search (rules, one_of_text) depth 60
 
 -- what is read is a fault of the text, where it is one
 abbrev ErrOfText : {A : Type 0} → Result A VcdFault → Type 0
@@ -163,23 +150,10 @@ run_of_text end d p changes o (t ∷ ts) =
     (run_of_text end (declared_after d p o t.text) (part_after p o t.text) (changes_after d p changes o t.at t.text) (opened_after o t.at t.text) ts)
 
 by_fault_read : (bytes : List ℕ) (found : VcdFault) → IsOfText found → reading bytes ≡ Err found → IsReadFault bytes found
-by_fault_read bytes (vcd.UnknownKeyword place) of_text read = read
-by_fault_read bytes (vcd.MissingEnd place) of_text read = read
-by_fault_read bytes (vcd.BadVar place) of_text read = read
-by_fault_read bytes (vcd.CodeSizeDiffers place) of_text read = read
-by_fault_read bytes (vcd.ScopeNotOpen place) of_text read = read
-by_fault_read bytes (vcd.BadTime place) of_text read = read
-by_fault_read bytes (vcd.TimeFalls place) of_text read = read
-by_fault_read bytes (vcd.CodeNotDeclared place) of_text read = read
-by_fault_read bytes (vcd.BadValue place) of_text read = read
-by_fault_read bytes (vcd.VectorTooLong place) of_text read = read
-by_fault_read bytes (vcd.ChangeBeforeDefinitionsEnd place) of_text read = read
-by_fault_read bytes (vcd.EndsInside place) of_text read = read
-by_fault_read bytes (vcd.TooManySamples place) of_text read = read
-by_fault_read bytes (vcd.TooManySignals place) of_text read = read
 by_fault_read bytes vcd.TooLong of_text read = of_text
 by_fault_read bytes vcd.ReadFault of_text read = of_text
 by_fault_read bytes vcd.NoMemory of_text read = tt
+by_fault_read bytes found of_text read = read
 
 -- where the reading halts, the answer is the text's first fault, or memory was refused
 pub fault_read : (bytes : List ℕ) (found : VcdFault) → Halts found (defining nothing_declared Ready (all_tokens bytes)) → IsReadFault bytes found
