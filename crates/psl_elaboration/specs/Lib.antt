@@ -8,4 +8,5 @@ pub mod Kinds
 pub mod Laws
 pub mod LookUp
 pub mod Operators
+pub mod Rows
 pub mod Texts

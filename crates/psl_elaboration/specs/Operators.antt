@@ -1,6 +1,6 @@
--- What the words and marks of a tree ask for. In the place of each of them a text has the listed tokens alone; any other
--- is read as the last line says.
-use Rattle.std.specs.Prelude.{Bool as Truth, true, false}
+-- What the words and marks of a tree ask for: a row for each. That each token which the grammar has in such a place has a
+-- row is a law (Rows); what stands behind a table is never asked for in a text's tree.
+use Rattle.std.specs.Prelude.{Bool as Truth, true, false, Option, None, Some, unwrap_or}
 use Rattle.psl_lexer.specs.declared.kind.TokenKind.{TokenKind}
 use Rattle.psl_lexer.specs.declared.kind.TokenKind.TheVariants as kinds
 use Rattle.psl_tree.specs.declared.atom.Edge as atom_edge
@@ -21,85 +21,130 @@ use Rattle.psl_elaboration.specs.declared.operator.RepetitionOperator.{Repetitio
 use Rattle.psl_elaboration.specs.declared.operator.RepetitionOperator.TheVariants as repetitions
 
 -- an operator before its operand
+abbrev pub prefix_row : TokenKind → Option PrefixOperator
+prefix_row kinds.Not = Some prefix_operators.Not
+prefix_row kinds.Always = Some prefix_operators.Always
+prefix_row kinds.Never = Some prefix_operators.Never
+prefix_row kinds.Next = Some prefix_operators.Next
+prefix_row kinds.NextStrong = Some prefix_operators.Next
+prefix_row kinds.EventuallyStrong = Some prefix_operators.Eventually
+prefix_row _ = None
+
 abbrev pub prefix_operator : TokenKind → PrefixOperator
-prefix_operator kinds.Not = prefix_operators.Not
-prefix_operator kinds.Always = prefix_operators.Always
-prefix_operator kinds.Never = prefix_operators.Never
-prefix_operator kinds.EventuallyStrong = prefix_operators.Eventually
-prefix_operator _ = prefix_operators.Next
+prefix_operator kind = unwrap_or (prefix_row kind) prefix_operators.Next
 
 -- an operator between its operands; `&&` of sequences is told apart where the operands are at hand
+abbrev pub infix_row : TokenKind → Option InfixOperator
+infix_row kinds.AndAnd = Some infix_operators.Conjunction
+infix_row kinds.OrOr = Some infix_operators.Disjunction
+infix_row kinds.Arrow = Some infix_operators.Implication
+infix_row kinds.Iff = Some infix_operators.Equivalence
+infix_row kinds.EqualEqual = Some infix_operators.Equal
+infix_row kinds.NotEqual = Some infix_operators.Unequal
+infix_row kinds.Semicolon = Some infix_operators.Concatenation
+infix_row kinds.Colon = Some infix_operators.Fusion
+infix_row kinds.Bar = Some infix_operators.Alternative
+infix_row kinds.Ampersand = Some infix_operators.AnyLength
+infix_row kinds.Within = Some infix_operators.Within
+infix_row kinds.Implies = Some infix_operators.Suffix
+infix_row kinds.ImpliesNext = Some infix_operators.SuffixNext
+infix_row kinds.Abort = Some infix_operators.Abort
+infix_row kinds.AsyncAbort = Some infix_operators.Abort
+infix_row kinds.SyncAbort = Some infix_operators.SyncAbort
+infix_row kinds.Until = Some infix_operators.Until
+infix_row kinds.UntilStrong = Some infix_operators.Until
+infix_row kinds.UntilOverlap = Some infix_operators.UntilOverlap
+infix_row kinds.UntilStrongOverlap = Some infix_operators.UntilOverlap
+infix_row kinds.Before = Some infix_operators.Before
+infix_row kinds.BeforeStrong = Some infix_operators.Before
+infix_row kinds.BeforeOverlap = Some infix_operators.BeforeOverlap
+infix_row kinds.BeforeStrongOverlap = Some infix_operators.BeforeOverlap
+infix_row _ = None
+
 abbrev pub infix_operator : TokenKind → InfixOperator
-infix_operator kinds.OrOr = infix_operators.Disjunction
-infix_operator kinds.Arrow = infix_operators.Implication
-infix_operator kinds.Iff = infix_operators.Equivalence
-infix_operator kinds.EqualEqual = infix_operators.Equal
-infix_operator kinds.NotEqual = infix_operators.Unequal
-infix_operator kinds.Semicolon = infix_operators.Concatenation
-infix_operator kinds.Colon = infix_operators.Fusion
-infix_operator kinds.Bar = infix_operators.Alternative
-infix_operator kinds.Ampersand = infix_operators.AnyLength
-infix_operator kinds.Within = infix_operators.Within
-infix_operator kinds.Implies = infix_operators.Suffix
-infix_operator kinds.ImpliesNext = infix_operators.SuffixNext
-infix_operator kinds.Abort = infix_operators.Abort
-infix_operator kinds.AsyncAbort = infix_operators.Abort
-infix_operator kinds.SyncAbort = infix_operators.SyncAbort
-infix_operator kinds.Until = infix_operators.Until
-infix_operator kinds.UntilStrong = infix_operators.Until
-infix_operator kinds.UntilOverlap = infix_operators.UntilOverlap
-infix_operator kinds.UntilStrongOverlap = infix_operators.UntilOverlap
-infix_operator kinds.Before = infix_operators.Before
-infix_operator kinds.BeforeStrong = infix_operators.Before
-infix_operator kinds.BeforeOverlap = infix_operators.BeforeOverlap
-infix_operator kinds.BeforeStrongOverlap = infix_operators.BeforeOverlap
-infix_operator _ = infix_operators.Conjunction
+infix_operator kind = unwrap_or (infix_row kind) infix_operators.Conjunction
 
 -- what opens a repetition
+abbrev pub repetition_row : TokenKind → Option RepetitionOperator
+repetition_row kinds.StarOpen = Some repetitions.Star
+repetition_row kinds.PlusRepeat = Some repetitions.Plus
+repetition_row kinds.GotoOpen = Some repetitions.Goto
+repetition_row kinds.EqualsOpen = Some repetitions.Occurrences
+repetition_row _ = None
+
 abbrev pub repetition_operator : TokenKind → RepetitionOperator
-repetition_operator kinds.PlusRepeat = repetitions.Plus
-repetition_operator kinds.GotoOpen = repetitions.Goto
-repetition_operator kinds.EqualsOpen = repetitions.Occurrences
-repetition_operator _ = repetitions.Star
+repetition_operator kind = unwrap_or (repetition_row kind) repetitions.Star
 
 -- whether an operator is strong: its word has a `!`
+abbrev pub strength_row : TokenKind → Option Strength
+strength_row kinds.Next = Some strengths.Weak
+strength_row kinds.NextStrong = Some strengths.Strong
+strength_row kinds.NextA = Some strengths.Weak
+strength_row kinds.NextAStrong = Some strengths.Strong
+strength_row kinds.NextE = Some strengths.Weak
+strength_row kinds.NextEStrong = Some strengths.Strong
+strength_row kinds.NextEvent = Some strengths.Weak
+strength_row kinds.NextEventStrong = Some strengths.Strong
+strength_row kinds.NextEventA = Some strengths.Weak
+strength_row kinds.NextEventAStrong = Some strengths.Strong
+strength_row kinds.NextEventE = Some strengths.Weak
+strength_row kinds.NextEventEStrong = Some strengths.Strong
+strength_row kinds.Until = Some strengths.Weak
+strength_row kinds.UntilStrong = Some strengths.Strong
+strength_row kinds.UntilOverlap = Some strengths.Weak
+strength_row kinds.UntilStrongOverlap = Some strengths.Strong
+strength_row kinds.Before = Some strengths.Weak
+strength_row kinds.BeforeStrong = Some strengths.Strong
+strength_row kinds.BeforeOverlap = Some strengths.Weak
+strength_row kinds.BeforeStrongOverlap = Some strengths.Strong
+strength_row _ = None
+
 abbrev pub strength_of : TokenKind → Strength
-strength_of kinds.NextStrong = strengths.Strong
-strength_of kinds.NextAStrong = strengths.Strong
-strength_of kinds.NextEStrong = strengths.Strong
-strength_of kinds.NextEventStrong = strengths.Strong
-strength_of kinds.NextEventAStrong = strengths.Strong
-strength_of kinds.NextEventEStrong = strengths.Strong
-strength_of kinds.UntilStrong = strengths.Strong
-strength_of kinds.UntilStrongOverlap = strengths.Strong
-strength_of kinds.BeforeStrong = strengths.Strong
-strength_of kinds.BeforeStrongOverlap = strengths.Strong
-strength_of _ = strengths.Weak
+strength_of kind = unwrap_or (strength_row kind) strengths.Weak
 
 -- which numbers of its range a next form asks for: some where its word has `_e`, else all
+abbrev pub quantifier_row : TokenKind → Option Quantifier
+quantifier_row kinds.NextA = Some quantifiers.All
+quantifier_row kinds.NextAStrong = Some quantifiers.All
+quantifier_row kinds.NextE = Some quantifiers.Exists
+quantifier_row kinds.NextEStrong = Some quantifiers.Exists
+quantifier_row kinds.NextEventA = Some quantifiers.All
+quantifier_row kinds.NextEventAStrong = Some quantifiers.All
+quantifier_row kinds.NextEventE = Some quantifiers.Exists
+quantifier_row kinds.NextEventEStrong = Some quantifiers.Exists
+quantifier_row _ = None
+
 abbrev pub quantifier_of : TokenKind → Quantifier
-quantifier_of kinds.NextE = quantifiers.Exists
-quantifier_of kinds.NextEStrong = quantifiers.Exists
-quantifier_of kinds.NextEventE = quantifiers.Exists
-quantifier_of kinds.NextEventEStrong = quantifiers.Exists
-quantifier_of _ = quantifiers.All
+quantifier_of kind = unwrap_or (quantifier_row kind) quantifiers.All
 
 -- which edge is asked for
+abbrev pub edge_row : TokenKind → Option atom_edge.Edge
+edge_row kinds.Posedge = Some edges.Rise
+edge_row kinds.Negedge = Some edges.Fall
+edge_row _ = None
+
 abbrev pub edge_of : TokenKind → atom_edge.Edge
-edge_of kinds.Negedge = edges.Fall
-edge_of _ = edges.Rise
+edge_of kind = unwrap_or (edge_row kind) edges.Rise
 
 -- what a directive asks for
+abbrev pub directive_row : TokenKind → Option directive_kind.Kind
+directive_row kinds.Assert = Some directives.Assert
+directive_row kinds.Assume = Some directives.Assume
+directive_row kinds.Cover = Some directives.Cover
+directive_row _ = None
+
 abbrev pub directive_kind_of : TokenKind → directive_kind.Kind
-directive_kind_of kinds.Assume = directives.Assume
-directive_kind_of kinds.Cover = directives.Cover
-directive_kind_of _ = directives.Assert
+directive_kind_of kind = unwrap_or (directive_row kind) directives.Assert
 
 -- what a declaration declares
+abbrev pub declaration_row : TokenKind → Option DeclarationWord
+declaration_row kinds.Sequence = Some declarations.Sequence
+declaration_row kinds.Property = Some declarations.Property
+declaration_row kinds.Default = Some declarations.DefaultClock
+declaration_row _ = None
+
 abbrev pub declaration_word : TokenKind → DeclarationWord
-declaration_word kinds.Sequence = declarations.Sequence
-declaration_word kinds.Property = declarations.Property
-declaration_word _ = declarations.DefaultClock
+declaration_word kind = unwrap_or (declaration_row kind) declarations.DefaultClock
 
 -- whether a count's second token is `inf`
 abbrev pub is_endless : TokenKind → Truth

@@ -1,4 +1,5 @@
 ghost use Rattle.psl_elaboration.specs.Examples.{NextInSere, SequenceInBoolean, NoSuchName, TwoSuchNames, DoesNotSeeItself, DeclaredTwice, TooWide, RangeFalls, Indices, DefaultClock, NamedSequence, Comparison};
+ghost use Rattle.psl_elaboration.specs.Rows.{PrefixRows, InfixRows, RepetitionRows, StrengthRows, QuantifierRows, EdgeRows, DirectiveRows, DeclarationRows};
 ghost use Rattle.psl_elaboration.specs.Laws.{OneFirstFlaw, FunctionIsFirst, FirstOfBoth, OneFault, OneUnit, NotBoth};
 
 /// What a tree is resolved to, as laws: the first of some faults is one, and a
@@ -29,4 +30,17 @@ pub fn worked_examples()
     ensures default_clock { DefaultClock }
     ensures named_sequence { NamedSequence }
     ensures comparison { Comparison }
+{}
+
+/// Each word and mark that the grammar has in the place of an operator, a directive or a declaration has a row of its
+/// own, as laws.
+pub fn rows()
+    ensures prefix { PrefixRows }
+    ensures infix { InfixRows }
+    ensures repetition { RepetitionRows }
+    ensures strength { StrengthRows }
+    ensures quantifier { QuantifierRows }
+    ensures edge { EdgeRows }
+    ensures directive { DirectiveRows }
+    ensures declaration { DeclarationRows }
 {}

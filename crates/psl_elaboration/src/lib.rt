@@ -11,5 +11,5 @@ mod operator;
 pub use fault::{Cause, Flaw, LayerFault};
 pub use found::{Found, Reference, Side};
 pub use kind::ExpressionKind;
-pub use laws::{one_answer, worked_examples};
+pub use laws::{one_answer, rows, worked_examples};
 pub use operator::{DeclarationWord, InfixOperator, PrefixOperator, RepetitionOperator};
