@@ -6,7 +6,7 @@ ghost use Rattle.commands.specs.Faults.{at, whole, fault_in, of_none};
 
 use crate::outcome::Fault;
 use crate::reason::{Diagnostic, Reason};
-use psl_base::{Place, Text, place_of};
+use psl_base::{NoMemory, Place, Text, place_of};
 use psl_elaboration::LayerFault;
 use psl_lexer::{LexFault, Tokens};
 use psl_parser::ParseFault;
@@ -23,6 +23,17 @@ pub fn of_none(reason: Reason) -> Fault
         reason,
         file: None,
         place: None,
+    }
+}
+
+impl From<NoMemory> for Fault {
+    ghost use Rattle.commands.specs.Faults.{of_none};
+    ghost use Rattle.commands.specs.declared.reason.Reason.TheVariants.{NoMemory as MemoryReason};
+
+    ghost from_gives = { λ _ fault. fault ≡ of_none MemoryReason };
+
+    fn from(_refused: NoMemory) -> Fault {
+        of_none(Reason::NoMemory)
     }
 }
 

@@ -5,9 +5,7 @@ ghost use Rattle.commands.specs.Generated.{AreMade, AreAnswered, GeneratedStage,
 ghost use Rattle.vcd_writer.specs.Made.{made_text, made_sampled};
 ghost use Rattle.vcd_reader.specs.Rules.{sample_limit};
 
-use crate::faults::of_none;
 use crate::outcome::{Fault, Outcome};
-use crate::reason::Reason;
 use psl_base::{Bytes, File, Files, MemShelf, NoMemory, Numbers, Place, Text};
 use psl_sugar::{MeasuredBool, MeasuredFl, Strength, SugarFault};
 use psl_tree::{Atom, Directive, Edge, Kind, Unit};
@@ -22,10 +20,8 @@ pub fn generate(alloc: Global, seed: u32, samples: u32) -> Result<Outcome, Fault
     ensures made { IfOk result (λ outcome. GeneratedStage seed samples (Ok outcome)) }
     ensures memory { IfErr result (λ fault. fault ≡ of_none Reason.NoMemory) }
 {
-    match judge_made(alloc, seed, samples) {
-        Ok((bytes, verdicts)) => Ok(Outcome::Made(seed as u64, samples, bytes, verdicts)),
-        Err(_) => Err(of_none(Reason::NoMemory)),
-    }
+    let (bytes, verdicts) = judge_made(alloc, seed, samples)?;
+    Ok(Outcome::Made(seed as u64, samples, bytes, verdicts))
 }
 
 /// How many bytes the made recording has, and the verdicts on it.

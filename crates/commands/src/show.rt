@@ -8,10 +8,8 @@ ghost use Rattle.commands.specs.Stages.{IsStage, IsReading};
 ghost use Rattle.commands.specs.Waves.{LinesReading, ShowStage, line_of};
 
 use crate::directives::directives;
-use crate::faults::of_none;
 use crate::inputs::load_inputs;
 use crate::outcome::{Fault, Line, Lines};
-use crate::reason::Reason;
 use clock_rewrite::unclock;
 use psl_base::{NoMemory, Shelf, Text};
 use psl_grammar::UnitTree;
@@ -32,10 +30,7 @@ fn lines(alloc: Global, tree: &UnitTree, names: &Names, unit: &str) -> Result<Li
     ensures { IsReading unit.now (LinesReading unit.now tree.now names.now) result }
 {
     let directives = directives(alloc, tree, names, unit)?;
-    match lines_of(alloc, directives.as_slice(), names) {
-        Ok(lines) => Ok(lines),
-        Err(_) => Err(of_none(Reason::NoMemory)),
-    }
+    Ok(lines_of(alloc, directives.as_slice(), names)?)
 }
 
 /// A line for each directive.

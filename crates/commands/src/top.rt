@@ -107,10 +107,8 @@ fn made(alloc: Global, outcome: Outcome) -> Result<Planned, Fault>
     ensures text { IfOk result (λ made. made.text ≡ text_of made.outcome) }
     ensures memory { IfErr result (λ fault. fault ≡ of_none Reason.NoMemory) }
 {
-    match report(alloc, &outcome) {
-        Ok(text) => Ok(Planned { outcome, text }),
-        Err(_) => Err(of_none(Reason::NoMemory)),
-    }
+    let text = report(alloc, &outcome)?;
+    Ok(Planned { outcome, text })
 }
 
 /// A law of the definitions: words over contents have one first refusal, or none.

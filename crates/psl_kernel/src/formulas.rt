@@ -7,6 +7,13 @@ use psl_elaboration::{InfixOperator, PrefixOperator};
 use psl_sugar::{MeasuredBool, MeasuredFl, MeasuredSere, Strength, SugarFault};
 use std::alloc::Global;
 
+/// An operator between its operands, and whether it is the strong one.
+#[derive(Clone, Copy)]
+pub(crate) struct Operation {
+    pub operator: InfixOperator,
+    pub strength: Strength,
+}
+
 /// An operator before a property.
 pub(crate) fn prefixed_formula(
     alloc: Global,
@@ -50,16 +57,16 @@ pub(crate) fn connected_formulas(
 #[tactic(auto, using(crate::proofs::Sizes::until_row_size))]
 pub(crate) fn until_formulas(
     alloc: Global,
-    operator: InfixOperator,
-    strength: Strength,
+    operation: Operation,
     left: Result<MeasuredFl, SugarFault>,
     right: Result<MeasuredFl, SugarFault>,
 ) -> Result<MeasuredFl, SugarFault>
-    ensures { FormulasRow (until_row operator strength) left right result }
+    ensures { FormulasRow (until_row operation.operator operation.strength) left right result }
 {
     let left = left?;
     let right = right?;
-    match operator {
+    let strength = operation.strength;
+    match operation.operator {
         InfixOperator::UntilOverlap => left.until_overlapping(alloc, strength, right),
         InfixOperator::Before => left.before(alloc, strength, right),
         InfixOperator::BeforeOverlap => left.before_overlapping(alloc, strength, right),

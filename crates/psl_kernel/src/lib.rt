@@ -14,8 +14,6 @@ mod repetitions;
 mod scope;
 mod sequences;
 mod signals;
-#[cfg(test)]
-mod tests;
 
 pub use expressions::Elaborator;
 pub use meaning::Meaning;

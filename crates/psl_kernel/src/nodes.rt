@@ -10,6 +10,7 @@ ghost use Rattle.psl_kernel.specs.Rows as rows;
 
 use crate::Meaning;
 use crate::expressions::{Elaborator, Part};
+use crate::formulas::Operation;
 use crate::occurrences::{next_event, next_form};
 use crate::operators::{clocked_in, grouped, infix, prefixed};
 use crate::repetitions::{alone, optional_count, repeated};
@@ -21,7 +22,6 @@ use psl_grammar::{Count, Expression, Path};
 use psl_kinds::operator_before;
 use psl_lexer::Token;
 use psl_names::{NameIndex, edge_of, path_text, prefix_operator, repetition_operator, strength_of};
-use psl_sugar::Strength;
 use std::alloc::Global;
 
 /// An operator between its operands, as it was written.
@@ -190,26 +190,24 @@ impl<'s, 'd, 'n> Elaborator<'s, 'd, 'n> {
     {
         let left = Box::into_inner(left?);
         let right = Box::into_inner(right?);
-        let operator = operator_before(in_sere, operands.token.kind, operands.right);
-        let strength = strength_of(operands.token.kind);
-        boxed(
-            self.alloc,
-            self.operated(operator, strength, operands, left, right),
-        )
+        let operation = Operation {
+            operator: operator_before(in_sere, operands.token.kind, operands.right),
+            strength: strength_of(operands.token.kind),
+        };
+        boxed(self.alloc, self.operated(operation, operands, left, right))
     }
 
     // An operator between its operands, as it is read before the right one.
     fn operated(
         &self,
-        operator: InfixOperator,
-        strength: Strength,
+        operation: Operation,
         operands: Operands,
         left: Meaning,
         right: Meaning,
     ) -> Meaning
-        ensures { rows.MeaningsRow (kernel.operated self.now.names.now operator strength operands.entry.left.now operands.entry.right.now) left right result }
+        ensures { rows.MeaningsRow (kernel.operated self.now.names.now operation.operator operation.strength operands.entry.left.now operands.entry.right.now) left right result }
     {
-        match comparison(operator) {
+        match comparison(operation.operator) {
             Some(is_equal) => {
                 Meaning::Boolean(compared(
                     self.alloc,
@@ -219,7 +217,7 @@ impl<'s, 'd, 'n> Elaborator<'s, 'd, 'n> {
                     operands.right,
                 ))
             }
-            None => infix(self.alloc, operator, strength, left, right),
+            None => infix(self.alloc, operation, left, right),
         }
     }
 

@@ -1,12 +1,28 @@
 // Next forms and next events.
+ghost use Rattle.std.specs.Prelude.{◌≡◌};
 ghost use Rattle.psl_elaboration.specs.Kernel as kernel;
+ghost use Rattle.psl_elaboration.specs.Operators as operators;
+ghost use Rattle.psl_elaboration.specs.Texts as texts;
 ghost use Rattle.psl_kernel.specs.Rows.{FormulaRow, FormulaTestRow};
 
 use psl_grammar::Count;
-use psl_lexer::TokenKind;
+use psl_lexer::{Token, TokenKind};
 use psl_names::{number_of, quantifier_of, strength_of};
-use psl_sugar::{MeasuredBool, MeasuredFl, SugarFault};
+use psl_sugar::{MeasuredBool, MeasuredFl, Range, SugarFault};
 use std::alloc::Global;
+
+// The range of a next form's word and its two numbers.
+fn range_of(word: TokenKind, low: &Token, high: &Token) -> Range
+    ensures quantifier { result.quantifier ≡ operators.quantifier_of word }
+    ensures low { result.low ≡ texts.number_of low.now }
+    ensures high { result.high ≡ texts.number_of high.now }
+{
+    Range {
+        quantifier: quantifier_of(word),
+        low: number_of(low),
+        high: number_of(high),
+    }
+}
 
 /// A next form, with one number or a range.
 #[tactic(auto, using(crate::proofs::Sizes::next_size))]
@@ -22,10 +38,7 @@ pub(crate) fn next_form(
     let strength = strength_of(word);
     match count {
         Count::Times(times) => part.next_times(alloc, strength, number_of(times)),
-        Count::Between(low, high) => {
-            let (low, high) = (number_of(low), number_of(high));
-            part.next_range(alloc, quantifier_of(word), strength, low, high)
-        }
+        Count::Between(low, high) => { part.next_range(alloc, strength, range_of(word, low, high)) }
     }
 }
 
@@ -49,8 +62,7 @@ pub(crate) fn next_event(
             part.next_event_times(alloc, strength, test, number_of(times))
         }
         Some(Count::Between(low, high)) => {
-            let (low, high) = (number_of(low), number_of(high));
-            part.next_event_range(alloc, quantifier_of(word), strength, test, low, high)
+            part.next_event_range(alloc, strength, test, range_of(word, low, high))
         }
     }
 }

@@ -7,8 +7,8 @@ use crate::Meaning;
 use crate::booleans::{connected_booleans, negated_boolean};
 use crate::connective::Connective;
 use crate::formulas::{
-    aborted_formula, clocked_formula, connected_formulas, prefixed_formula, suffix_formula,
-    until_formulas,
+    Operation, aborted_formula, clocked_formula, connected_formulas, prefixed_formula,
+    suffix_formula, until_formulas,
 };
 use crate::sequences::{clocked_sequence, in_sequence};
 use psl_elaboration::{InfixOperator, PrefixOperator};
@@ -95,29 +95,18 @@ fn aborted(alloc: Global, operator: InfixOperator, left: Meaning, right: Meaning
 }
 
 // An operator of properties that is strong or weak.
-fn lasting(
-    alloc: Global,
-    operator: InfixOperator,
-    strength: Strength,
-    left: Meaning,
-    right: Meaning,
-) -> Meaning
-    ensures { MeaningsRow (lasting operator strength) left right result }
+fn lasting(alloc: Global, operation: Operation, left: Meaning, right: Meaning) -> Meaning
+    ensures { MeaningsRow (lasting operation.operator operation.strength) left right result }
 {
     let (left, right) = (left.into_formula(), right.into_formula());
-    Meaning::Property(until_formulas(alloc, operator, strength, left, right))
+    Meaning::Property(until_formulas(alloc, operation, left, right))
 }
 
 /// An operator between its operands that is no comparison.
-pub(crate) fn infix(
-    alloc: Global,
-    operator: InfixOperator,
-    strength: Strength,
-    left: Meaning,
-    right: Meaning,
-) -> Meaning
-    ensures { MeaningsRow (kernel.infix_meaning operator strength) left right result }
+pub(crate) fn infix(alloc: Global, operation: Operation, left: Meaning, right: Meaning) -> Meaning
+    ensures { MeaningsRow (kernel.infix_meaning operation.operator operation.strength) left right result }
 {
+    let operator = operation.operator;
     match operator {
         InfixOperator::Conjunction => connect(alloc, Connective::Conjunction, left, right),
         InfixOperator::Disjunction => connect(alloc, Connective::Disjunction, left, right),
@@ -135,10 +124,10 @@ pub(crate) fn infix(
         InfixOperator::SuffixNext => suffixed(alloc, operator, left, right),
         InfixOperator::Abort => aborted(alloc, operator, left, right),
         InfixOperator::SyncAbort => aborted(alloc, operator, left, right),
-        InfixOperator::Until => lasting(alloc, operator, strength, left, right),
-        InfixOperator::UntilOverlap => lasting(alloc, operator, strength, left, right),
-        InfixOperator::Before => lasting(alloc, operator, strength, left, right),
-        InfixOperator::BeforeOverlap => lasting(alloc, operator, strength, left, right),
+        InfixOperator::Until => lasting(alloc, operation, left, right),
+        InfixOperator::UntilOverlap => lasting(alloc, operation, left, right),
+        InfixOperator::Before => lasting(alloc, operation, left, right),
+        InfixOperator::BeforeOverlap => lasting(alloc, operation, left, right),
     }
 }
 

@@ -26,10 +26,8 @@ pub fn declare<'a>(scope: &mut Scope<'a>, text: &'a [u8], meaning: Meaning) -> R
     if scope.contains_key(text) {
         return Ok(());
     }
-    match scope.insert(text, meaning) {
-        Ok(_) => Ok(()),
-        Err(_) => Err(NoMemory),
-    }
+    scope.insert(text, meaning)?;
+    Ok(())
 }
 
 /// What a text is declared as, if it is declared.

@@ -12,8 +12,8 @@ use psl_elaboration::Reference;
 use psl_grammar::{Expression, Path};
 use psl_lexer::{Token, TokenKind};
 use psl_names::{NameIndex, literal_value, reference};
-use psl_sugar::{MOST_CONSTRUCTORS, MeasuredBool, SugarFault, Vector};
-use psl_tree::{Atom, Edge};
+use psl_sugar::{MeasuredBool, SugarFault, Vector};
+use psl_tree::{Atom, Edge, MOST_CONSTRUCTORS};
 use std::alloc::Global;
 
 // What a path stands for as a signal, perhaps with an index.
@@ -38,7 +38,7 @@ fn vector(signal: u32, lowest: u32, width: u64) -> Result<Vector, SugarFault>
     ensures places { IfOk result (λ new. new.lowest + new.width ≤ 2 ^ 32) }
     ensures wide { IfErr result (λ fault. 4096 < width) }
 {
-    if width > u64::from(MOST_CONSTRUCTORS) {
+    if width > MOST_CONSTRUCTORS {
         return Err(SugarFault::TooLarge);
     }
     Ok(Vector {

@@ -9,7 +9,7 @@ use psl_base::NoMemory;
 use psl_elaboration::DeclarationWord;
 use psl_grammar::Statement;
 use psl_kernel::{Elaborator, Meaning, Scope, declare, no_names};
-use psl_names::{NameIndex, declaration_word};
+use psl_names::{NameIndex, declaration_word, declares_clock};
 use psl_sugar::{MeasuredBool, SugarFault};
 use std::alloc::Global;
 
@@ -44,19 +44,6 @@ pub(crate) fn grow<'a>(
         DeclarationWord::DefaultClock => return Ok(()),
     };
     declare(scope, name.text.as_slice(), meaning)
-}
-
-// Whether a statement declares the default clock.
-fn declares_clock(statement: &Statement) -> bool
-    ensures { result ≡ flaws.declares_clock statement.now }
-{
-    match statement {
-        Statement::Directive { .. } => false,
-        Statement::Declaration { word, .. } => match declaration_word(word.kind) {
-            DeclarationWord::DefaultClock => true,
-            DeclarationWord::Sequence | DeclarationWord::Property => false,
-        },
-    }
 }
 
 // Whether some statement declares the default clock.

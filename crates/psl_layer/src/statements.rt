@@ -11,8 +11,8 @@ use psl_grammar::Statement;
 use psl_kernel::{Elaborator, no_names};
 use psl_lexer::Token;
 use psl_names::{NameIndex, directive_kind_of};
-use psl_sugar::{MOST_CONSTRUCTORS, SugarFault};
-use psl_tree::{Directive, Unit};
+use psl_sugar::SugarFault;
+use psl_tree::{Directive, MOST_CONSTRUCTORS, Unit};
 use std::alloc::Global;
 
 // The text of a label, if there is one.
@@ -66,7 +66,7 @@ fn with_statement(
         Err(SugarFault::TooLarge) => return Err(LayerFault::TooLarge(word.place)),
         Err(SugarFault::NoMemory) => return Err(LayerFault::NoMemory),
     };
-    let size = formula.size();
+    let size = u64::from(formula.size());
     prove!(size <= MOST_CONSTRUCTORS);
     let number = next_number(&unit)?;
     let label = label_text(before.alloc, label)?;

@@ -67,9 +67,9 @@ fn keep_first<'a>(
 {
     match first_at(firsts, text) {
         Some(_) => Ok(()),
-        None => match firsts.insert(text, first) {
-            Ok(_) => Ok(()),
-            Err(_) => Err(NoMemory),
-        },
+        None => {
+            firsts.insert(text, first)?;
+            Ok(())
+        }
     }
 }

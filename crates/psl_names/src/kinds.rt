@@ -19,7 +19,7 @@ pub(crate) fn declared_kind(word: DeclarationWord) -> Option<ExpressionKind>
 }
 
 /// Whether a statement declares the default clock.
-pub(crate) fn declares_clock(statement: &Statement) -> bool
+pub fn declares_clock(statement: &Statement) -> bool
     ensures { result ≡ flaws.declares_clock statement.now }
 {
     match statement {

@@ -13,6 +13,7 @@ mod texts;
 mod values;
 
 pub use declared::{Declarations, Scope, declared_as, has_clock};
+pub use kinds::declares_clock;
 pub use matching::{NameIndex, look_up};
 pub use operators::{
     declaration_word, directive_kind_of, edge_of, infix_operator, is_endless, prefix_operator,

@@ -25,23 +25,15 @@ pub(crate) fn sorted_by_ends<'a>(
 fn references<'a>(alloc: Global, names: &'a [Name]) -> Result<Vec<&'a Name>, NoMemory>
     ensures { IfOk result (λ references. names_of references.items ≡ names.now) }
 {
-    match names.iter().collect(alloc) {
-        Ok(references) => Ok(references),
-        Err(_) => Err(NoMemory),
-    }
+    Ok(names.iter().collect(alloc)?)
 }
 
 // Sorts names by their ends.
 fn sort_by_ends(names: &mut Vec<&Name>) -> Result<(), NoMemory>
     ensures { OnOk result (IsSorting (names_of names.old.items) (names_of names.new.items)) }
 {
-    match names.sort_by(|first, second| compare_ends(
-        first.text.as_slice(),
-        second.text.as_slice(),
-    )) {
-        Ok(()) => Ok(()),
-        Err(_) => Err(NoMemory),
-    }
+    names.sort_by(|first, second| compare_ends(first.text.as_slice(), second.text.as_slice()))?;
+    Ok(())
 }
 
 /// For each name, how many directly behind it have its signal and its range.
@@ -63,10 +55,8 @@ pub(crate) fn alike_counts(alloc: Global, names: &[&Name]) -> Result<Vec<usize>,
 fn add_count(counts: &mut Vec<usize>, count: usize) -> Result<(), NoMemory>
     ensures { OnOk result (counts.new.items ≡ counts.old.items ++ count ∷ []) }
 {
-    match counts.push(count) {
-        Ok(()) => Ok(()),
-        Err(_) => Err(NoMemory),
-    }
+    counts.push(count)?;
+    Ok(())
 }
 
 // How many directly behind a name have its signal and its range, where it is known for the first of those.

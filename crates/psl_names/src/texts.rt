@@ -1,8 +1,8 @@
 // The texts of paths.
-ghost use Rattle.std.specs.Prelude.{◌≡◌, ◌++◌, IfOk, OnOk, OnErr};
+ghost use Rattle.std.specs.Prelude.{◌≡◌, ◌++◌, IfOk, OnOk};
 ghost use Rattle.psl_elaboration.specs.Texts as spec;
 
-use psl_base::{NoMemory, Text};
+use psl_base::{NoMemory, Text, add_bytes, add_number};
 use psl_lexer::Token;
 use std::alloc::Global;
 
@@ -10,30 +10,21 @@ use std::alloc::Global;
 pub fn path_text(alloc: Global, path: &[Token]) -> Result<Text, NoMemory>
     ensures { IfOk result (λ text. text ≡ spec.path_text path.now) }
 {
-    match path {
-        [first, more @ ..] => with_names(first.text.copy(alloc)?, more),
-        [] => Ok(Text::new(alloc)),
+    let mut text = Vec::new(alloc);
+    if let [first, more @ ..] = path {
+        add_bytes(&mut text, first.text.as_slice())?;
+        add_names(&mut text, more)?;
     }
+    Ok(Text::from_vec(text))
 }
 
-// A text and names behind it, each behind a dot.
-fn with_names(text: Text, more: &[Token]) -> Result<Text, NoMemory>
-    ensures { IfOk result (λ new. new ≡ text ++ spec.dotted more.now) }
+// Adds names at the end of a text, each behind a dot.
+fn add_names(text: &mut Vec<u8>, more: &[Token]) -> Result<(), NoMemory>
+    ensures { OnOk result (text.new.items ≡ text.old.items ++ spec.dotted more.now) }
 {
-    let mut text = text;
     for name in more {
-        text.push(b'.')?;
-        append(&mut text, name.text.as_slice())?;
-    }
-    Ok(text)
-}
-
-// Adds bytes at the end of a text.
-fn append(text: &mut Text, bytes: &[u8]) -> Result<(), NoMemory>
-    ensures { OnOk result (text.new ≡ text.old ++ bytes.now) }
-{
-    for byte in bytes {
-        text.push(*byte)?;
+        add_bytes(text, b".")?;
+        add_bytes(text, name.text.as_slice())?;
     }
     Ok(())
 }
@@ -42,9 +33,10 @@ fn append(text: &mut Text, bytes: &[u8]) -> Result<(), NoMemory>
 pub fn indexed_text(alloc: Global, text: &[u8], index: u64) -> Result<Text, NoMemory>
     ensures { IfOk result (λ new. new ≡ spec.indexed_text text.now index) }
 {
-    let mut new = Text::from_slice(alloc, text)?;
-    new.push(b'[')?;
-    append(&mut new, itoa::Buffer::new().format(index).as_bytes())?;
-    new.push(b']')?;
-    Ok(new)
+    let mut new = Vec::new(alloc);
+    add_bytes(&mut new, text)?;
+    add_bytes(&mut new, b"[")?;
+    add_number(&mut new, index)?;
+    add_bytes(&mut new, b"]")?;
+    Ok(Text::from_vec(new))
 }

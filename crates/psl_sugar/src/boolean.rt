@@ -23,7 +23,7 @@ impl Model for MeasuredBool {
     ghost use Rattle.std.specs.Prelude.{◌≡◌, ◌≤◌};
     ghost use Rattle.psl_tree.specs.Counts.{boolean_size};
     ghost use Rattle.psl_tree.specs.Trees.{Boolean, boolean_of};
-    ghost use Rattle.psl_sugar.specs.Codes.{boolean_code};
+    ghost use Rattle.psl_tree.specs.Codes.{boolean_code};
 
     ghost Value = { Boolean };
 

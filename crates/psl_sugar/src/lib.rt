@@ -14,13 +14,10 @@ mod occurrence;
 mod operator;
 mod sequence;
 mod sequence_sugar;
-#[cfg(test)]
-mod tests;
 
 pub use boolean::{MeasuredBool, Vector};
-pub use budget::MOST_CONSTRUCTORS;
 pub use count::Count;
 pub use fault::SugarFault;
 pub use formula::MeasuredFl;
-pub use operator::{Quantifier, Strength};
+pub use operator::{Quantifier, Range, Strength};
 pub use sequence::MeasuredSere;

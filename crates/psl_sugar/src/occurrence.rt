@@ -2,7 +2,7 @@
 ghost use Rattle.psl_sugar.specs.Budget.{GivesFormula};
 ghost use Rattle.psl_sugar.specs.Properties.{next_steps, next_times, next_event, next_event_times, joined, next_range, next_event_range};
 
-use crate::{MeasuredBool, MeasuredFl, Quantifier, Strength, SugarFault};
+use crate::{MeasuredBool, MeasuredFl, Quantifier, Range, Strength, SugarFault};
 use std::alloc::Global;
 
 impl MeasuredFl {
@@ -90,13 +90,16 @@ impl MeasuredFl {
     pub fn next_range(
         self,
         alloc: Global,
-        quantifier: Quantifier,
         strength: Strength,
-        low: u64,
-        high: u64,
+        range: Range,
     ) -> Result<MeasuredFl, SugarFault>
-        ensures { GivesFormula result (next_range quantifier strength low high self) }
+        ensures { GivesFormula result (next_range range.quantifier strength range.low range.high self) }
     {
+        let Range {
+            quantifier,
+            low,
+            high,
+        } = range;
         let mut all = self.copy(alloc)?.next_times(alloc, strength, low)?;
         for more in 0..high.saturating_sub(low) {
             let part = self.copy(alloc)?;
@@ -111,14 +114,17 @@ impl MeasuredFl {
     pub fn next_event_range(
         self,
         alloc: Global,
-        quantifier: Quantifier,
         strength: Strength,
         test: MeasuredBool,
-        low: u64,
-        high: u64,
+        range: Range,
     ) -> Result<MeasuredFl, SugarFault>
-        ensures { GivesFormula result (next_event_range quantifier strength test low high self) }
+        ensures { GivesFormula result (next_event_range range.quantifier strength test range.low range.high self) }
     {
+        let Range {
+            quantifier,
+            low,
+            high,
+        } = range;
         let event = test.copy(alloc)?;
         let mut all = self
             .copy(alloc)?

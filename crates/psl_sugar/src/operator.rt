@@ -15,3 +15,11 @@ pub enum Quantifier {
     /// At least one of them, as in `next_e` and `next_event_e`.
     Exists,
 }
+
+/// The range of a next form: the numbers from `low` to `high`, and of which of them a property is asked.
+#[derive(Clone, Copy, Debug, PartialEq, Eq)]
+pub struct Range {
+    pub quantifier: Quantifier,
+    pub low: u64,
+    pub high: u64,
+}

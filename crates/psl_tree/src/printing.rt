@@ -6,8 +6,7 @@ ghost use Rattle.psl_tree.specs.Trees.{boolean_of, sequence_of, formula_of};
 
 use crate::naming::{index_of, name_of};
 use crate::{Atom, Bool, Edge, Fl, Name, Names, Sere};
-use itoa::Buffer;
-use psl_base::{NoMemory, Text};
+use psl_base::{NoMemory, Text, add_bytes, add_number};
 use std::alloc::Global;
 
 /// The canonical text of a formula, by the names of its signals. It is for reading. Of several names
@@ -35,33 +34,33 @@ fn add_formula(text: &mut Vec<u8>, names: &[Name], f: &Fl) -> Result<(), NoMemor
         Fl::And(left, right) => {
             add_formula_in(text, names, b"(", left, b") && (")?;
             add_formula(text, names, right)?;
-            add(text, b")")
+            add_bytes(text, b")")
         }
         Fl::Next(part) => add_formula_in(text, names, b"X! (", part, b")"),
         Fl::Until(left, right) => {
             add_formula_in(text, names, b"(", left, b") U (")?;
             add_formula(text, names, right)?;
-            add(text, b")")
+            add_bytes(text, b")")
         }
         Fl::Suffix(sequence, part) => {
             add_sequence_in(text, names, b"{", sequence, b"} |-> (")?;
             add_formula(text, names, part)?;
-            add(text, b")")
+            add_bytes(text, b")")
         }
         Fl::Abort(part, test) => {
             add_formula_in(text, names, b"(", part, b") async_abort (")?;
             add_boolean(text, names, test)?;
-            add(text, b")")
+            add_bytes(text, b")")
         }
         Fl::SyncAbort(part, test) => {
             add_formula_in(text, names, b"(", part, b") sync_abort (")?;
             add_boolean(text, names, test)?;
-            add(text, b")")
+            add_bytes(text, b")")
         }
         Fl::Clocked(part, clock) => {
             add_formula_in(text, names, b"(", part, b") @ (")?;
             add_boolean(text, names, clock)?;
-            add(text, b")")
+            add_bytes(text, b")")
         }
     }
 }
@@ -78,9 +77,9 @@ fn add_formula_in(
     requires { AtomsOfFormula (AtomInRange names.now) (formula_of f.now) }
     ensures { OnOk result (text.new.items ≡ text.old.items ++ (before.now ++ formula_text names.now (formula_of f.now) ++ after.now)) }
 {
-    add(text, before)?;
+    add_bytes(text, before)?;
     add_formula(text, names, f)?;
-    add(text, after)
+    add_bytes(text, after)
 }
 
 #[cycle(sequence)]
@@ -89,33 +88,33 @@ fn add_sequence(text: &mut Vec<u8>, names: &[Name], sequence: &Sere) -> Result<(
     ensures { OnOk result (text.new.items ≡ text.old.items ++ sequence_text names.now (sequence_of sequence.now)) }
 {
     match sequence {
-        Sere::Empty => add(text, b"[*0]"),
+        Sere::Empty => add_bytes(text, b"[*0]"),
         Sere::One(test) => add_boolean(text, names, test),
         Sere::Concat(left, right) => {
             add_sequence_in(text, names, b"{", left, b"};{")?;
             add_sequence(text, names, right)?;
-            add(text, b"}")
+            add_bytes(text, b"}")
         }
         Sere::Fuse(left, right) => {
             add_sequence_in(text, names, b"{", left, b"}:{")?;
             add_sequence(text, names, right)?;
-            add(text, b"}")
+            add_bytes(text, b"}")
         }
         Sere::Either(left, right) => {
             add_sequence_in(text, names, b"{", left, b"}|{")?;
             add_sequence(text, names, right)?;
-            add(text, b"}")
+            add_bytes(text, b"}")
         }
         Sere::Both(left, right) => {
             add_sequence_in(text, names, b"{", left, b"}&&{")?;
             add_sequence(text, names, right)?;
-            add(text, b"}")
+            add_bytes(text, b"}")
         }
         Sere::Star(part) => add_sequence_in(text, names, b"{", part, b"}[*]"),
         Sere::Clocked(part, clock) => {
             add_sequence_in(text, names, b"{", part, b"}@(")?;
             add_boolean(text, names, clock)?;
-            add(text, b")")
+            add_bytes(text, b")")
         }
     }
 }
@@ -132,9 +131,9 @@ fn add_sequence_in(
     requires { AtomsOfSequence (AtomInRange names.now) (sequence_of sequence.now) }
     ensures { OnOk result (text.new.items ≡ text.old.items ++ (before.now ++ sequence_text names.now (sequence_of sequence.now) ++ after.now)) }
 {
-    add(text, before)?;
+    add_bytes(text, before)?;
     add_sequence(text, names, sequence)?;
-    add(text, after)
+    add_bytes(text, after)
 }
 
 #[cycle(boolean)]
@@ -143,19 +142,19 @@ fn add_boolean(text: &mut Vec<u8>, names: &[Name], test: &Bool) -> Result<(), No
     ensures { OnOk result (text.new.items ≡ text.old.items ++ boolean_text names.now (boolean_of test.now)) }
 {
     match test {
-        Bool::Const(true) => add(text, b"true"),
-        Bool::Const(false) => add(text, b"false"),
+        Bool::Const(true) => add_bytes(text, b"true"),
+        Bool::Const(false) => add_bytes(text, b"false"),
         Bool::Test(atom) => add_atom(text, names, atom),
         Bool::Not(part) => add_boolean_in(text, names, b"!(", part, b")"),
         Bool::And(left, right) => {
             add_boolean_in(text, names, b"(", left, b") && (")?;
             add_boolean(text, names, right)?;
-            add(text, b")")
+            add_bytes(text, b")")
         }
         Bool::Or(left, right) => {
             add_boolean_in(text, names, b"(", left, b") || (")?;
             add_boolean(text, names, right)?;
-            add(text, b")")
+            add_bytes(text, b")")
         }
     }
 }
@@ -172,9 +171,9 @@ fn add_boolean_in(
     requires { AtomsOfBoolean (AtomInRange names.now) (boolean_of test.now) }
     ensures { OnOk result (text.new.items ≡ text.old.items ++ (before.now ++ boolean_text names.now (boolean_of test.now) ++ after.now)) }
 {
-    add(text, before)?;
+    add_bytes(text, before)?;
     add_boolean(text, names, test)?;
-    add(text, after)
+    add_bytes(text, after)
 }
 
 fn add_atom(text: &mut Vec<u8>, names: &[Name], atom: &Atom) -> Result<(), NoMemory>
@@ -182,8 +181,8 @@ fn add_atom(text: &mut Vec<u8>, names: &[Name], atom: &Atom) -> Result<(), NoMem
     ensures { OnOk result (text.new.items ≡ text.old.items ++ atom_text names.now atom.now) }
 {
     let name = name_of(names, atom);
-    add(text, edge_word(atom.edge))?;
-    add(text, name.text.as_slice())?;
+    add_bytes(text, edge_word(atom.edge))?;
+    add_bytes(text, name.text.as_slice())?;
     add_index(text, name, atom.bit)
 }
 
@@ -195,9 +194,9 @@ fn add_index(text: &mut Vec<u8>, name: &Name, bit: u32) -> Result<(), NoMemory>
     if name.left == name.right {
         return Ok(());
     }
-    add(text, b"[")?;
-    add(text, Buffer::new().format(index_of(name, bit)).as_bytes())?;
-    add(text, b"]")
+    add_bytes(text, b"[")?;
+    add_number(text, u64::from(index_of(name, bit)))?;
+    add_bytes(text, b"]")
 }
 
 // What stands before a bit.
@@ -208,14 +207,5 @@ fn edge_word(edge: Edge) -> &'static [u8]
         Edge::Value => b"",
         Edge::Rise => b"posedge ",
         Edge::Fall => b"negedge ",
-    }
-}
-
-fn add(text: &mut Vec<u8>, piece: &[u8]) -> Result<(), NoMemory>
-    ensures { OnOk result (text.new.items ≡ text.old.items ++ piece.now) }
-{
-    match text.extend_from_slice(piece) {
-        Ok(()) => Ok(()),
-        Err(_) => Err(NoMemory),
     }
 }

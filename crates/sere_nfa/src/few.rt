@@ -47,9 +47,7 @@ impl<T: Default + Drop> Few<T> {
         ensures ok { OnOk result (self.new ≡ self.old ++ member ∷ []) }
         ensures err { OnErr result (self.new ≡ self.old) }
     {
-        match self.members.push(member) {
-            Ok(()) => Ok(()),
-            Err(_) => Err(NoMemory),
-        }
+        self.members.push(member)?;
+        Ok(())
     }
 }

@@ -20,7 +20,7 @@ impl Marking {
         ensures { IfOk result (λ marking. marking_of marking ≡ record { marks = replicate count false; waiting = [] }) }
     {
         Ok(Marking {
-            marks: vec![in alloc; false; count].map_err(|_| NoMemory)?,
+            marks: vec![in alloc; false; count]?,
             waiting: Vec::new(alloc),
         })
     }
@@ -32,7 +32,7 @@ impl Marking {
     {
         if !self.marks[number as usize] {
             self.marks[number as usize] = true;
-            self.waiting.push(number).map_err(|_| NoMemory)?;
+            self.waiting.push(number)?;
         }
         Ok(())
     }

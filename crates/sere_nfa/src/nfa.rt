@@ -129,7 +129,7 @@ fn finished(alloc: Global, r: &Sere) -> Result<Nfa, NoMemory>
     let Part { start, mut states } = build(alloc, 0, r)?;
     let mut initial = Items::new(alloc);
     initial.push(states.len() as u32)?;
-    states.push(start).map_err(|_| NoMemory)?;
+    states.push(start)?;
     let alive = alive_marks(alloc, states.as_slice())?;
     Ok(Nfa {
         initial,

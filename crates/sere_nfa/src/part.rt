@@ -59,7 +59,7 @@ fn one_state(alloc: Global, offset: u32, test: &Bool) -> Result<Part, NoMemory>
         ending: None,
     };
     let mut states = Vec::new(alloc);
-    states.push(last).map_err(|_| NoMemory)?;
+    states.push(last)?;
     Ok(Part {
         start: State {
             is_final: false,

@@ -50,7 +50,7 @@ impl Product {
     {
         for second in seconds {
             let new = self.pair(first, second)?;
-            into.push(new).map_err(|_| NoMemory)?;
+            into.push(new)?;
         }
         Ok(())
     }

@@ -27,7 +27,7 @@ fn no_sources(alloc: Global, count: usize) -> Result<Vec<Numbers>, NoMemory>
 {
     let mut sources = Vec::new(alloc);
     for _added in 0..count {
-        sources.push(Items::new(alloc)).map_err(|_| NoMemory)?;
+        sources.push(Items::new(alloc))?;
     }
     Ok(sources)
 }

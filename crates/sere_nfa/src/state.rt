@@ -110,5 +110,6 @@ pub(crate) fn fuse_all(alloc: Global, states: &mut [State], next: &State) -> Res
 pub(crate) fn add_states(states: &mut Vec<State>, mut rest: Vec<State>) -> Result<(), NoMemory>
     ensures { OnOk result (states.new.items ≡ states.old.items ++ rest.items) }
 {
-    states.append(&mut rest).map_err(|_| NoMemory)
+    states.append(&mut rest)?;
+    Ok(())
 }

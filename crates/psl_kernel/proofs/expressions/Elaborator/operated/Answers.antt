@@ -8,9 +8,9 @@ use Rattle.psl_kernel.proofs.expressions.Elaborator.operated.Goals as goal
 pub returns-in-Some : goal.returns-in-Some
 returns-in-Some c first second is_first is_second =
     let P : Meaning → Type 0 = λ wanted. Gives (meanings.Boolean c.compared.result) wanted in
-    subst P (sym (compared_is c.args.self.now.names.now c.args.operator c.args.strength c.args.operands.left.now c.args.operands.right.now first second c.in-Some.is_equal (sym c.comparison.ensures ∙ c.in-Some.is))) c.compared.ensures
+    subst P (sym (compared_is c.args.self.now.names.now c.args.operation.operator c.args.operation.strength c.args.operands.left.now c.args.operands.right.now first second c.in-Some.is_equal (sym c.comparison.ensures ∙ c.in-Some.is))) c.compared.ensures
 
 pub returns-in-None : goal.returns-in-None
 returns-in-None c =
-    as_row (infix_meaning c.args.operator c.args.strength) (operated c.args.self.now.names.now c.args.operator c.args.strength c.args.operands.left.now c.args.operands.right.now) _ _ _
-    (λ first second. sym (not_compared c.args.self.now.names.now c.args.operator c.args.strength c.args.operands.left.now c.args.operands.right.now first second (sym c.comparison.ensures ∙ c.in-None.is))) c.infix.ensures
+    as_row (infix_meaning c.args.operation.operator c.args.operation.strength) (operated c.args.self.now.names.now c.args.operation.operator c.args.operation.strength c.args.operands.left.now c.args.operands.right.now) _ _ _
+    (λ first second. sym (not_compared c.args.self.now.names.now c.args.operation.operator c.args.operation.strength c.args.operands.left.now c.args.operands.right.now first second (sym c.comparison.ensures ∙ c.in-None.is))) c.infix.ensures

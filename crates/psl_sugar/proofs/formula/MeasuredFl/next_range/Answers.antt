@@ -9,18 +9,18 @@ use Rattle.psl_sugar.proofs.formula.MeasuredFl.next_range.Goals as goal
 pub returns-in_err-all : goal.returns-in_err-all
 returns-in_err-all c =
     let part : ℕ → Formula = λ count. next_times c.args.strength count c.args.self in
-    let fits = joined_holds c.args.quantifier part c.args.low (c.args.high - c.args.low) in
+    let fits = joined_holds c.args.range.quantifier part c.args.range.low (c.args.range.high - c.args.range.low) in
     grind (arith, common_steps)
 
 pub returns-in_err-part-2 : goal.returns-in_err-part-2
 returns-in_err-part-2 c =
     let part : ℕ → Formula = λ count. next_times c.args.strength count c.args.self in
-    let both = joined_size c.args.quantifier (joined_parts c.args.quantifier part c.args.low c.loop-more.more) (part (c.args.low + (c.loop-more.more + 1))) in
-    let fits = joined_within c.args.quantifier part c.args.low c.loop-more.more (c.args.high - c.args.low) (omega arith) in
+    let both = joined_size c.args.range.quantifier (joined_parts c.args.range.quantifier part c.args.range.low c.loop-more.more) (part (c.args.range.low + (c.loop-more.more + 1))) in
+    let fits = joined_within c.args.range.quantifier part c.args.range.low c.loop-more.more (c.args.range.high - c.args.range.low) (omega arith) in
     grind (arith, common_steps)
 
 pub returns-in_err-all-2 : goal.returns-in_err-all-2
 returns-in_err-all-2 c =
     let part : ℕ → Formula = λ count. next_times c.args.strength count c.args.self in
-    let fits = joined_within c.args.quantifier part c.args.low c.loop-more.more (c.args.high - c.args.low) (omega arith) in
+    let fits = joined_within c.args.range.quantifier part c.args.range.low c.loop-more.more (c.args.range.high - c.args.range.low) (omega arith) in
     grind (arith, common_steps)
