@@ -33,6 +33,8 @@ pub struct Case<'a> {
     pub status: Option<u8>,
     /// The calls of the files that fail, counted from 1.
     pub unread: Numbers,
+    /// How many bytes a call of the files gives at the most.
+    pub piece: Option<u32>,
     /// The calls of the standard output that fail, and how many bytes it takes.
     pub unwritten: Numbers,
     pub room: Option<u32>,
@@ -79,6 +81,7 @@ impl<'a> Case<'a> {
             command: None,
             status: None,
             unread: Numbers::new(alloc),
+            piece: None,
             unwritten: Numbers::new(alloc),
             room: None,
             untold: Numbers::new(alloc),
@@ -121,6 +124,7 @@ impl<'a> Case<'a> {
             (None, _, _) => {}
             (Some("pslc"), _, _) => self.command = Some(line),
             (Some("status"), Some(number), None) => self.status = number.parse::<u8>().ok(),
+            (Some("piece"), Some(size), None) => self.piece = size.parse::<u32>().ok(),
             (Some("room"), Some("out"), Some(size)) => self.room = size.parse::<u32>().ok(),
             (Some("room"), Some("err"), Some(size)) => self.error_room = size.parse::<u32>().ok(),
             (Some("fail"), Some(where_), Some(number)) => {

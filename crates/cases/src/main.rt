@@ -5,6 +5,7 @@
 mod case;
 mod content;
 mod fault;
+mod pieces;
 mod reading;
 mod running;
 

@@ -1,6 +1,9 @@
+ghost use Rattle.std.specs.Prelude.{◌<◌};
+
 use crate::case::Case;
 use crate::content::content_of;
 use crate::fault::Fault;
+use crate::pieces::Pieces;
 use commands::run;
 use psl_base::{Bytes, File, Files, MemShelf, MemSink};
 use std::alloc::Global;
@@ -59,7 +62,10 @@ fn outputs_of<'a>(alloc: Global, common: &Case<'a>, case: &Case<'a>) -> Result<O
     let mut files = Files::new(alloc);
     add_files(alloc, common, common, &mut files)?;
     add_files(alloc, common, case, &mut files)?;
-    let mut shelf = MemShelf::new(alloc, &files, 0, 0, &case.unread)?;
+    let mut shelf = Pieces {
+        shelf: MemShelf::new(alloc, &files, 0, 0, &case.unread)?,
+        most: most_of(case.piece),
+    };
     let room = case.room.unwrap_or(ROOM);
     let mut out = MemSink::new(alloc, room, &case.unwritten)?;
     let room = case.error_room.unwrap_or(ROOM);
@@ -67,6 +73,16 @@ fn outputs_of<'a>(alloc: Global, common: &Case<'a>, case: &Case<'a>) -> Result<O
     let report = run(alloc, words.as_slice(), &mut shelf, &mut out, &mut err);
     let status = report.status;
     Ok(Outputs { out, err, status })
+}
+
+/// How many bytes a call gives at the most: at least one, and as many as are asked for where nothing is said.
+fn most_of(piece: Option<u32>) -> usize
+    ensures { 0 < result }
+{
+    match piece {
+        Some(size) if size > 0 => size as usize,
+        _ => usize::MAX,
+    }
 }
 
 /// The words behind the program's name.

@@ -4,8 +4,6 @@
 
 mod rewriting;
 mod rows;
-#[cfg(test)]
-mod tests;
 mod ticks;
 mod trees;
 

@@ -6,9 +6,8 @@ ghost use Rattle.psl_tree.specs.Trees.{formula_of};
 
 use crate::fault::Fault;
 use crate::rows::Row;
-use crate::satisfied::is_satisfied;
 use crate::scenes::recording;
-use crate::words::Letter;
+use plain_satisfaction::{Letter, is_satisfied};
 use psl_grammar::UnitTree;
 use psl_layer::resolve;
 use psl_lexer::lex;

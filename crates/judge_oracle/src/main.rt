@@ -6,10 +6,7 @@
 mod comparing;
 mod fault;
 mod rows;
-mod satisfied;
 mod scenes;
-mod tight;
-mod words;
 
 use crate::comparing::difference;
 use crate::fault::Fault;

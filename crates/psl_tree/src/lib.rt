@@ -12,12 +12,8 @@ mod letter;
 mod name;
 mod naming;
 mod printing;
-#[cfg(test)]
-mod printing_tests;
 mod range;
 mod sere;
-#[cfg(test)]
-mod tests;
 
 pub use atom::{Atom, Atoms, Edge, same_atom};
 pub use boolean::Bool;

@@ -17,6 +17,3 @@ pub use edge::{Edges, NfaEdge, States};
 pub use few::Few;
 pub use marking::Marking;
 pub use nfa::{Nfa, NfaFault, of};
-
-#[cfg(test)]
-mod tests;

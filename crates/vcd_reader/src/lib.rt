@@ -15,8 +15,6 @@ mod recording;
 mod sections;
 mod shape;
 mod signal;
-#[cfg(test)]
-mod tests;
 
 pub use body::SAMPLE_LIMIT;
 pub use fault::VcdFault;

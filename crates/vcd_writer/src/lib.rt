@@ -8,8 +8,6 @@ ghost use Rattle.vcd_reader.specs.Meaning.{reading};
 ghost use Rattle.vcd_reader.specs.Rules.{sample_limit};
 
 mod making;
-#[cfg(test)]
-mod tests;
 
 pub use making::make_recording;
 
