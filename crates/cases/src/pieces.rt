@@ -1,3 +1,5 @@
+ghost use Rattle.std.specs.Prelude.{◌<◌};
+
 use psl_base::{Failed, MemShelf, Shelf};
 
 /// A shelf of which each call gives a few bytes at the most.

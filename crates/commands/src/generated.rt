@@ -1,6 +1,7 @@
 ghost use Rattle.std.specs.Prelude.{◌≡◌, ◌≤◌, length, codes, IfOk, IfErr, Ok, Some};
 ghost use Rattle.psl_base.specs.Files.{content_of};
 ghost use Rattle.commands.specs.Faults.{of_none};
+ghost use Rattle.commands.specs.declared.reason.Reason.{Reason};
 ghost use Rattle.commands.specs.Generated.{AreMade, AreAnswered, GeneratedStage, answered, value_of};
 ghost use Rattle.vcd_writer.specs.Made.{made_text, made_sampled};
 ghost use Rattle.vcd_reader.specs.Rules.{sample_limit};
