@@ -1,0 +1,4 @@
+pub mod Flats
+pub mod Lives
+pub mod Soundness
+pub mod Within

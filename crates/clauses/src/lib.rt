@@ -1,0 +1,10 @@
+//! Clauses and clause logs: what they are, when a log refutes a formula, and that a refuted formula has no model.
+#![tactic(auto)]
+
+mod cnf;
+mod flat;
+mod laws;
+
+pub use cnf::Cnf;
+pub use flat::{Clauses, CnfFault, MOST_VARIABLES, MOST_WORDS};
+pub use laws::refutation_law;
