@@ -1,4 +1,5 @@
 pub mod Flats
 pub mod Lives
+pub mod Packed
 pub mod Soundness
 pub mod Within

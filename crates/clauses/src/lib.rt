@@ -4,7 +4,9 @@
 mod cnf;
 mod flat;
 mod laws;
+mod log;
 
 pub use cnf::Cnf;
 pub use flat::{Clauses, CnfFault, MOST_VARIABLES, MOST_WORDS};
 pub use laws::refutation_law;
+pub use log::{Entries, Entry, Log, MOST_LOG_WORDS};
