@@ -1,0 +1,3 @@
+pub use Rattle.word_pool.specs.Region
+pub mod Fields
+pub mod Stored

@@ -1,0 +1,9 @@
+//! Clauses by place, which come and go, in one region of memory.
+#![tactic(auto)]
+
+mod store;
+#[cfg(test)]
+mod tests;
+
+pub use psl_base::NoMemory;
+pub use store::Store;
