@@ -1,0 +1,5 @@
+pub mod Leaving
+pub mod Marking
+pub mod Propagating
+pub mod Running
+pub mod Taking

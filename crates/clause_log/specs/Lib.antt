@@ -1,0 +1,10 @@
+pub use Rattle.clauses.specs.Logs
+pub use Rattle.clauses.specs.Live
+pub mod Checked
+pub mod CheckerFields
+pub mod Checking
+pub mod Codes
+pub mod Lefts
+pub mod LiveClauses
+pub mod MarkFields
+pub mod Marks
