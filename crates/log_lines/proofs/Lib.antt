@@ -1,0 +1,4 @@
+pub mod Numerals
+pub mod Once
+pub mod ReadLines
+pub mod Splitting

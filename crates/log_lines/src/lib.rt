@@ -1,0 +1,16 @@
+//! Clause logs as lines of text.
+#![tactic(auto)]
+
+mod fault;
+mod laws;
+mod numbers;
+mod printing;
+mod reading;
+#[cfg(test)]
+mod tests;
+mod words;
+
+pub use fault::{LogFault, MOST_READ_WORDS};
+pub use laws::one_log_law;
+pub use printing::{print_log, print_log2};
+pub use reading::{read_log, read_log2};

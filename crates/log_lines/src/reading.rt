@@ -1,0 +1,138 @@
+// Lines of a log, read one by one.
+ghost use Rattle.std.specs.Prelude.{◌≡◌, ◌≤◌, ℕ, Bool, true, false, IfOk, IfErr, IfSome, IfNone};
+ghost use Rattle.clauses.specs.Logs.LogEntry.{Forget};
+ghost use Rattle.log_lines.specs.Lines.{entry_text, has_line};
+ghost use Rattle.clauses.specs.Logs.{is_entry, entry_words, log_words};
+ghost use Rattle.clauses.specs.Entries.{entry_of};
+ghost use Rattle.log_lines.specs.declared.fault.TheConstants.{MOST_READ_WORDS};
+ghost use Rattle.log_lines.specs.Adding.{Adds, AddsLine};
+ghost use Rattle.log_lines.specs.Readings.{StandsFor, IsFirstFault};
+
+use crate::words::{ReadLemma, length_before, read_drop, read_lemma};
+use crate::{LogFault, MOST_READ_WORDS};
+use clauses::{Entry, Log};
+use psl_base::NoMemory;
+use std::alloc::Global;
+
+/// The log that lemma lines stand for, or the first fault of the text.
+///
+/// A lemma line is the lemma's literals and a 0, and its hints and a 0, with one blank between two of them and a line
+/// feed at its end. Numbers are decimal, without leading zeros, and at most `MOST_VARIABLES`.
+pub fn read_log(alloc: Global, bytes: &[u8]) -> Result<Log, LogFault>
+    ensures log { IfOk result (StandsFor false bytes.now) }
+    ensures fault { IfErr result (IsFirstFault false bytes.now) }
+{
+    read_lines(alloc, bytes, false)
+}
+
+/// The log that lemma lines and drop lines stand for, or the first fault of the text. A drop line is a `d`, a blank and
+/// the number of the lemma.
+pub fn read_log2(alloc: Global, bytes: &[u8]) -> Result<Log, LogFault>
+    ensures log { IfOk result (StandsFor true bytes.now) }
+    ensures fault { IfErr result (IsFirstFault true bytes.now) }
+{
+    read_lines(alloc, bytes, true)
+}
+
+fn read_lines(alloc: Global, bytes: &[u8], drops: bool) -> Result<Log, LogFault>
+    ensures log { IfOk result (StandsFor drops bytes.now) }
+    ensures fault { IfErr result (IsFirstFault drops bytes.now) }
+{
+    let mut log = Log::new(alloc);
+    let mut lemma = ReadLemma::new(alloc);
+    let mut rest = bytes;
+    let mut line: u64 = 1;
+    while !rest.is_empty() {
+        let (text, behind) = rest.split_at(length_before(b'\n', rest));
+        let Some((_, next)) = behind.split_first() else {
+            return Err(LogFault::Truncated(line));
+        };
+        match add_line(&mut log, text, drops, &mut lemma)? {
+            Added::Added => {}
+            Added::NoEntry => return Err(LogFault::BadLine(line)),
+            Added::TooLong => return Err(LogFault::TooLong(line)),
+        }
+        rest = next;
+        line += 1;
+    }
+    Ok(log)
+}
+
+/// What became of a line.
+#[derive(Clone, Copy, Drop)]
+enum Added {
+    /// It is an entry's, which is added.
+    Added,
+    /// It is no entry's.
+    NoEntry,
+    /// With its entry the words of the log would be too many.
+    TooLong,
+}
+
+/// Adds the entry of a line.
+fn add_line(
+    log: &mut Log,
+    line: &[u8],
+    drops: bool,
+    lemma: &mut ReadLemma,
+) -> Result<Added, NoMemory>
+    requires { log_words log.old ≤ MOST_READ_WORDS }
+    ensures { IfOk result (λ added. AddsLine drops log.old line.now added log.new) }
+{
+    match drop_of(drops, line) {
+        Some(number) => {
+            let added = add(log, Entry::Forget(number))?;
+            Ok(added)
+        }
+        None => {
+            let added = add_lemma(log, line, lemma)?;
+            Ok(added)
+        }
+    }
+}
+
+/// The number that a drop line names, where drops have lines.
+fn drop_of(drops: bool, line: &[u8]) -> Option<u32>
+    ensures some { IfSome result (λ number. (has_line drops (Forget number) ≡ true) × (line.now ≡ entry_text (Forget number))) }
+    ensures none { IfNone result ((number : ℕ) → has_line drops (Forget number) ≡ true → line.now ≡ entry_text (Forget number) → ⊥) }
+{
+    if drops { read_drop(line) } else { None }
+}
+
+/// Adds the lemma of a line.
+fn add_lemma(log: &mut Log, line: &[u8], lemma: &mut ReadLemma) -> Result<Added, NoMemory>
+    requires { log_words log.old ≤ MOST_READ_WORDS }
+    ensures { IfOk result (λ added. AddsLine false log.old line.now added log.new) }
+{
+    if !read_lemma(line, lemma)? {
+        return Ok(Added::NoEntry);
+    }
+    let entry = Entry::Lemma {
+        literals: &lemma.literals,
+        hints: &lemma.hints,
+    };
+    let added = add(log, entry)?;
+    Ok(added)
+}
+
+/// Adds an entry, unless the words would be too many.
+fn add(log: &mut Log, entry: Entry<'_>) -> Result<Added, NoMemory>
+    requires few { log_words log.old ≤ MOST_READ_WORDS }
+    requires some { is_entry (entry_of entry) ≡ true }
+    ensures { IfOk result (λ added. Adds log.old (entry_of entry.entry) added log.new) }
+{
+    if words_of(entry) > MOST_READ_WORDS - log.words() {
+        return Ok(Added::TooLong);
+    }
+    log.push(entry)?;
+    Ok(Added::Added)
+}
+
+fn words_of(entry: Entry<'_>) -> usize
+    ensures { result ≡ entry_words (entry_of entry.entry) }
+{
+    match entry {
+        Entry::Lemma { literals, hints } => literals.len() + hints.len() + 2,
+        Entry::Forget(_) => 0,
+    }
+}
