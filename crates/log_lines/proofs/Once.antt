@@ -1,5 +1,5 @@
 -- A line is that of one entry, and a text that of one log.
-use Rattle.std.proofs.Common.{◌≡◌, ◌∙◌, ap, sym, subst, ℕ, ◌<◌, ℤ, pos, negsuc, Bool, true, false, not, eqb, ◌||◌, List, [], ◌∷◌, ◌++◌, map, get_or, arith, refl, append_assoc}
+use Rattle.std.proofs.Common.{◌≡◌, ◌∙◌, ap, sym, subst, ℕ, ◌<◌, ℤ, pos, negsuc, Bool, true, false, not, eqb, ◌||◌, List, [], ◌∷◌, ◌++◌, map, get_or, arith, refl, append_assoc, ◌≤◌, ◌+◌, length}
 use Rattle.std.specs.Prelude.{decimal}
 use Rattle.std.specs.Fmt.{signed_decimal}
 use Rattle.std.specs.Bool.{IsTrue}
@@ -13,7 +13,10 @@ use Rattle.clauses.specs.declared.flat.TheConstants.{MOST_VARIABLES}
 use Rattle.clauses.specs.Logs.{LogEntry, is_number, is_entry, is_lemma, entry_words, log_words}
 use Rattle.clauses.specs.Logs.LogEntry.{Lemma, Forget}
 use Rattle.log_lines.specs.Lines.{lacks, literals_text, hints_text, entry_text, lines_of, lemmas_alone, has_line}
-use Rattle.std.proofs.lemmas.List.Sums.{sum_by-cons}
+use Rattle.std.proofs.lemmas.List.Sums.{sum_by-append, sum_by-cons}
+use Rattle.log_lines.specs.declared.fault.LogFault.{LogFault}
+use Rattle.log_lines.specs.declared.fault.LogFault.TheVariants as faults
+use Rattle.log_lines.specs.Readings.{StandsFor, IsFirstFault}
 use Rattle.log_lines.specs.Words.{Ends, Begins, AreNumbers, AreHints, IsLemmaLine}
 use Rattle.log_lines.proofs.Numerals.{AreDigits, decimal_are_digits, number_parts}
 use Rattle.log_lines.proofs.Splitting.{split_once, first_literal, literal_lacks, decimal_lacks, mag_small, within_parts}
@@ -207,3 +210,75 @@ lemma_words [] = refl
 lemma_words (Lemma literals hints ∷ log) =
     omega (arith, sum_by-cons entry_words (Lemma literals hints) (lemmas_alone log), sum_by-cons entry_words (Lemma literals hints) log, lemma_words log)
 lemma_words (Forget number ∷ log) = omega (arith, sum_by-cons entry_words (Forget number) log, lemma_words log)
+
+-- lines that begin with those of other entries go on with lines
+record GoesOnWith (log before : List LogEntry) (rest : List ℕ) : Type 0 where
+  more : List LogEntry
+  is : log ≡ before ++ more
+  lines : rest ≡ lines_of more
+
+goes_on_with : (drops : Bool) (log before : List LogEntry) (rest : List ℕ) → IsTrue (list_all (has_line drops) log) → IsTrue (list_all (has_line drops) before) →
+    lines_of log ≡ lines_of before ++ rest → GoesOnWith log before rest
+goes_on_with drops log [] rest all also same = record { more = log; is = refl; lines = sym same }
+goes_on_with drops [] (entry ∷ before) rest all also same =
+    absurd (not_empty (entry_text entry) (lines_of before ++ rest) (same ∙ append_assoc (entry_text entry) (10 ∷ lines_of before) rest))
+goes_on_with drops (first ∷ log) (entry ∷ before) rest all also same =
+    let some = entries_parts drops first log all in
+    let more = entries_parts drops entry before also in
+    let split = split_once 10 (entry_text first) (10 ∷ lines_of log) (entry_text entry) (10 ∷ (lines_of before ++ rest))
+    (entry_lacks 10 first (omega arith) some.0) (entry_lacks 10 entry (omega arith) more.0) refl refl
+    (same ∙ append_assoc (entry_text entry) (10 ∷ lines_of before) rest) in
+    let tails : lines_of log ≡ lines_of before ++ rest = (let end = split.1 in cc) in
+    let next = goes_on_with drops log before rest some.1 more.1 tails in
+    record {
+      more = next.more;
+      is = ap (λ es. first ∷ es) next.is ∙ ap (λ e. e ∷ (before ++ next.more)) (entry_once first entry some.0 more.0 split.0);
+      lines = next.lines;
+    }
+
+all_of_more : (drops : Bool) (log before more : List LogEntry) → IsTrue (list_all (has_line drops) log) → log ≡ before ++ more → IsTrue (list_all (has_line drops) more)
+all_of_more drops log before more all is =
+    (and_parts (list_all (has_line drops) before) (list_all (has_line drops) more) (sym (list_all-append (has_line drops) before more) ∙ sym (ap (list_all (has_line drops)) is) ∙ all)).1
+
+words_of_more : (log before more : List LogEntry) → log ≡ before ++ more → log_words log ≡ log_words before + log_words more
+words_of_more log before more is = ap log_words is ∙ sum_by-append entry_words before more
+
+-- a line that is no entry's does not come next
+no_bad_line : (drops : Bool) (more : List LogEntry) (bytes behind : List ℕ) → IsTrue (list_all (has_line drops) more) → lacks 10 bytes ≡ true →
+    bytes ++ 10 ∷ behind ≡ lines_of more → ((entry : LogEntry) → has_line drops entry ≡ true → bytes ≡ entry_text entry → ⊥) → ⊥
+no_bad_line drops [] bytes behind all whole same bad = not_empty bytes behind (sym same)
+no_bad_line drops (entry ∷ more) bytes behind all whole same bad =
+    let parts = and_parts (has_line drops entry) (list_all (has_line drops) more) all in
+    bad entry parts.0 (split_once 10 bytes (10 ∷ behind) (entry_text entry) (10 ∷ lines_of more) whole (entry_lacks 10 entry (omega arith) (entries_parts drops entry more all).0) refl refl same).0
+
+-- nor does a line that does not end
+no_open_line : (drops : Bool) (more : List LogEntry) (bytes : List ℕ) → IsTrue (list_all (has_line drops) more) → lacks 10 bytes ≡ true → 0 < length bytes → bytes ≡ lines_of more → ⊥
+no_open_line drops [] bytes all inside some same = absurd (omega (arith, ap (λ (bs : List ℕ). length bs) same))
+no_open_line drops (entry ∷ more) bytes all inside some same =
+    let split = split_once 10 bytes [] (entry_text entry) (10 ∷ lines_of more) inside (entry_lacks 10 entry (omega arith) (entries_parts drops entry more all).0) tt refl (append-nil bytes ∙ same) in
+    let end = split.1 in
+    cc
+
+-- nor one with which the words are too many
+no_long_line : (drops : Bool) (more : List LogEntry) (entry : LogEntry) (behind : List ℕ) → IsTrue (list_all (has_line drops) more) → has_line drops entry ≡ true →
+    entry_text entry ++ 10 ∷ behind ≡ lines_of more → entry_words entry ≤ log_words more
+no_long_line drops [] entry behind all has same = absurd (not_empty (entry_text entry) behind (sym same))
+no_long_line drops (first ∷ more) entry behind all has same =
+    let one = (and_parts (is_entry entry) (drops || is_lemma entry) has).0 in
+    let other = (entries_parts drops first more all).0 in
+    let is = entry_once entry first one other (split_once 10 (entry_text entry) (10 ∷ behind) (entry_text first) (10 ∷ lines_of more) (entry_lacks 10 entry (omega arith) one) (entry_lacks 10 first (omega arith) other) refl refl same).0 in
+    omega (arith, ap entry_words is, sum_by-cons entry_words first more)
+
+-- the lines of a log have no fault
+pub no_fault : (drops : Bool) (text : List ℕ) (log : List LogEntry) (fault : LogFault) → StandsFor drops text log → IsFirstFault drops text fault → fault ≡ faults.NoMemory
+no_fault drops text log (faults.BadLine line) stands fault =
+    let next = goes_on_with drops log fault.before (fault.bytes ++ 10 ∷ fault.behind) stands.entries fault.at.entries (sym stands.lines ∙ fault.at.is) in
+    absurd (no_bad_line drops next.more fault.bytes fault.behind (all_of_more drops log fault.before next.more stands.entries next.is) fault.whole next.lines fault.bad)
+no_fault drops text log (faults.Truncated line) stands fault =
+    let next = goes_on_with drops log fault.before fault.bytes stands.entries fault.at.entries (sym stands.lines ∙ fault.at.is) in
+    absurd (no_open_line drops next.more fault.bytes (all_of_more drops log fault.before next.more stands.entries next.is) fault.inside fault.some next.lines)
+no_fault drops text log (faults.TooLong line) stands fault =
+    let next = goes_on_with drops log fault.before (entry_text fault.entry ++ 10 ∷ fault.behind) stands.entries fault.at.entries (sym stands.lines ∙ fault.at.is) in
+    let long = no_long_line drops next.more fault.entry fault.behind (all_of_more drops log fault.before next.more stands.entries next.is) fault.here next.lines in
+    absurd (omega (arith, long, fault.many, stands.few, words_of_more log fault.before next.more next.is))
+no_fault drops text log faults.NoMemory stands fault = refl

@@ -1,6 +1,6 @@
 // What no clause says: that calls succeed with ample memory, and the printed texts.
 use crate::{LogFault, print_log, print_log2, read_log, read_log2};
-use clauses::Log;
+use psl_base::add_bytes;
 use std::alloc::Global;
 use std::process::Abort;
 use std::test::Fail;
@@ -46,5 +46,17 @@ fn faults_have_their_lines(rt: HostRuntime) -> Result<(), Fail> {
         fault_of(rt.alloc(), &rt, b"0 0\n0 0"),
         LogFault::Truncated(2)
     );
+    Ok(())
+}
+
+// The words of one lemma pass the limit alone.
+#[test]
+fn a_lemma_of_too_many_words(rt: HostRuntime) -> Result<(), Fail> {
+    let mut text = Vec::new(rt.alloc());
+    for _ in 0..100_000_000u32 {
+        add_bytes(&mut text, b"1 ")?;
+    }
+    add_bytes(&mut text, b"0 0\n")?;
+    assert_eq!(rt; fault_of(rt.alloc(), &rt, &text), LogFault::TooLong(1));
     Ok(())
 }

@@ -1,5 +1,5 @@
 use Rattle.std.proofs.Common.{sym, ◌∙◌, refl, arith}
-use Rattle.log_lines.proofs.Once.{lines_once, lemmas_have_lines, lemma_words}
+use Rattle.log_lines.proofs.Once.{lines_once, lemmas_have_lines, lemma_words, no_fault}
 use Rattle.log_lines.proofs.laws.one_log_law.Goals as goal
 
 pub returns-clause-lemma_lines : goal.returns-clause-lemma_lines
@@ -7,3 +7,6 @@ returns-clause-lemma_lines c = λ log all few. record { lines = refl; entries = 
 
 pub returns-clause-one : goal.returns-clause-one
 returns-clause-one c = λ drops text log other one also. lines_once drops log other one.entries also.entries (sym one.lines ∙ also.lines)
+
+pub returns-clause-faultless : goal.returns-clause-faultless
+returns-clause-faultless c = λ drops text log fault stands found. no_fault drops text log fault stands found
