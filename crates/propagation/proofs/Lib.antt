@@ -1,7 +1,12 @@
+pub mod Joining
+pub mod Attaching
+pub mod Dropping
+pub mod Leveling
 pub mod Looking
 pub mod Members
 pub mod Reasons
 pub mod Settling
+pub mod Starting
 pub mod Stepping
 pub mod Turning
 pub mod Visiting

@@ -49,16 +49,17 @@ pub other_stands : (clauses : Numbered ℕ) (pairs : List Pair) (codes number li
 other_stands clauses pairs codes number literal other paired (inl both) clause live = rw (sym both.1) (paired.second number clause live)
 other_stands clauses pairs codes number literal other paired (inr both) clause live = rw (sym both.0) (paired.first number clause live)
 
-pub other_within : (clauses : Numbered ℕ) (pairs : List Pair) (codes number literal other : ℕ) → IsPaired clauses pairs codes → IsPairOf (pair_of pairs number) literal other → number < length pairs → other < codes
-other_within clauses pairs codes number literal other paired (inl both) below = rw (sym both.1) (paired.within number below).1
-other_within clauses pairs codes number literal other paired (inr both) below = rw (sym both.0) (paired.within number below).0
+pub other_within : (clauses : Numbered ℕ) (pairs : List Pair) (codes number literal other : ℕ) → IsPaired clauses pairs codes → IsPairOf (pair_of pairs number) literal other → 0 < number → number < length pairs → other < codes
+other_within clauses pairs codes number literal other paired (inl both) some below = rw (sym both.1) (paired.within number some below).1
+other_within clauses pairs codes number literal other paired (inr both) some below = rw (sym both.0) (paired.within number some below).0
 
 -- an entry with the other watched literal as its blocker, of a clause of more than two literals
 pub other_entry : (clauses : Numbered ℕ) (pairs : List Pair) (codes literal other : ℕ) (watch : Watch) → IsPaired clauses pairs codes → IsPairOf (pair_of pairs watch.number) literal other
     → watch.is_short ≡ false → IsEntry clauses (length pairs) codes literal watch → IsEntry clauses (length pairs) codes literal record { number = watch.number; blocker = other; is_short = watch.is_short }
 other_entry clauses pairs codes literal other watch paired is long entry = record {
+  some = entry.some;
   number = entry.number;
-  within = other_within clauses pairs codes watch.number literal other paired is entry.number;
+  within = other_within clauses pairs codes watch.number literal other paired is entry.some entry.number;
   blocks = other_stands clauses pairs codes watch.number literal other paired is;
   short = λ short. absurd (never watch.is_short short long);
 }

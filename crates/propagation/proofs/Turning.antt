@@ -6,16 +6,16 @@ use Rattle.std.proofs.lemmas.List.{get_or-set_same, get_or-set_other, length-set
 use Rattle.std.proofs.lemmas.List.Elements.{All-nil, All-append, Contains-push_cases}
 use Rattle.clauses.specs.Live.{Numbered, clause_of}
 use Rattle.trail.specs.Literals.{opposite}
-use Rattle.trail.specs.Path.{Path, IsPath}
+use Rattle.trail.specs.Path.{Path}
 use Rattle.trail.proofs.Numbers.{opposite-opposite}
 use Rattle.propagation.specs.declared.watch.Pair.{Pair}
 use Rattle.propagation.specs.declared.watch.Watch.{Watch}
 use Rattle.propagation.specs.Watching.{pair_of, list_of, Watches, HasTrue, IsEntry, IsWorked, IsWatched, IsVisiting}
 
-pub taken : (clauses : Numbered ℕ) (pairs : List Pair) (lists : List (List Watch)) (path : Path) (head literal : ℕ) (any : List Watch) → IsPath path
+pub taken : (clauses : Numbered ℕ) (pairs : List Pair) (lists : List (List Watch)) (path : Path) (head literal : ℕ) (any : List Watch)
     → Contains path.literals (opposite literal) → IsWatched clauses pairs lists path head
     → IsVisiting clauses pairs (set lists literal any) path head literal [] (list_of lists literal)
-taken clauses pairs lists path head literal any is falsified at = record {
+taken clauses pairs lists path head literal any falsified at = record {
   paired = at.paired;
   within = at.within;
   size = rw (length-set lists literal any) at.size;
@@ -27,9 +27,9 @@ taken clauses pairs lists path head literal any is falsified at = record {
   listed_here = λ number clause live differs watches. at.listed number clause literal live differs watches;
   left = λ number clause live differs watches. inr (at.listed number clause literal live differs watches);
   false_ = falsified;
-  reasons = is.reasons;
+  reasons = at.reasons;
   inside = at.inside;
-  begun = λ level inside. let begun = is.begun level inside in omega arith;
+  begun = at.begun;
   worked = at.worked;
   levels = at.levels;
 }
@@ -54,6 +54,8 @@ put_back clauses pairs lists path head literal seen rest below at = record {
         | inr elsewhere ↦ rw (get_or-set_other lists literal other (seen ++ rest) [] elsewhere) (at.listed number clause other live differs watches elsewhere)
       ];
   inside = at.inside;
+  reasons = at.reasons;
+  begun = at.begun;
   worked = at.worked;
   levels = at.levels;
 }
@@ -100,6 +102,8 @@ put_back_done clauses pairs lists path head literal seen below inside is at =
       entries = back.entries;
       listed = back.listed;
       inside = omega arith;
+      reasons = back.reasons;
+      begun = back.begun;
       worked = worked_off clauses pairs lists path head literal seen inside is at;
       levels = back.levels;
     }

@@ -105,7 +105,7 @@ visiting-pushed clauses pairs lists path head literal seen rest new reason at = 
 }
 
 -- a list that got an entry more names what it named
-list_more : (lists : List (List Watch)) (place other : ℕ) (more : List Watch) (number : ℕ) → place < length lists → Names (list_of lists other) number
+pub list_more : (lists : List (List Watch)) (place other : ℕ) (more : List Watch) (number : ℕ) → place < length lists → Names (list_of lists other) number
     → Names (list_of (set lists place (list_of lists place ++ more)) other) number
 list_more lists place other more number within named =
     elim (cases_eq other place) [
@@ -132,8 +132,8 @@ visiting-moved clauses pairs lists path head literal seen rest old new pairs' li
         first = λ other clause live. by_pair other (λ pair. Contains clause pair.first) (λ same. rw (one clause other live same) can.first) (at.paired.first other clause live);
         second = λ other clause live. by_pair other (λ pair. Contains clause pair.second) (λ same. rw (one clause other live same) second_stands) (at.paired.second other clause live);
         single = λ other clause live. by_pair other (λ pair. pair.first ≡ pair.second → All (λ l. l ≡ pair.first) clause) (λ same is. absurd (can.differs is)) (at.paired.single other clause live);
-        within = λ other below.
-            by_pair other (λ pair. (pair.first < 2 * path.variables) × (pair.second < 2 * path.variables)) (λ same. (first_within, second_within)) (at.paired.within other (rw (length-set pairs old.number new) at below));
+        within = λ other some below.
+            by_pair other (λ pair. (pair.first < 2 * path.variables) × (pair.second < 2 * path.variables)) (λ same. (first_within, second_within)) (at.paired.within other some (rw (length-set pairs old.number new) at below));
       };
       within = at.within;
       size = rw (length-set lists new.first (list_of lists new.first ++ moved_entry old new ∷ [])) at.size;
@@ -225,6 +225,7 @@ visiting-moved clauses pairs lists path head literal seen rest old new pairs' li
 
     new_entry : IsEntry clauses (length pairs) (2 * path.variables) new.first (moved_entry old new)
     new_entry = record {
+      some = head_entry.some;
       number = below;
       within = second_within;
       blocks = λ clause live. rw (one_some (clause_of clauses old.number) clause can.clause live can.live) second_stands;

@@ -1,3 +1,4 @@
+pub mod Adding
 pub mod State
 pub mod Watching
 pub mod Visits

@@ -1,5 +1,5 @@
 -- What unit propagation works on: clauses by number and a trail. A clause is a list of literals, as numbers.
-use Rattle.std.specs.Prelude.{◌≡◌, ◌⊎◌, ℕ, ◌*◌, ◌<◌, ◌≤◌, List, ◌++◌, length, take, slice_index, Some}
+use Rattle.std.specs.Prelude.{◌≡◌, ◌≢◌, ◌⊎◌, ℕ, ◌*◌, ◌<◌, ◌≤◌, List, ◌++◌, length, take, slice_index, Some}
 use Rattle.std.specs.List.{All, Contains}
 use Rattle.clauses.specs.Live.{Numbered, clause_of}
 use Rattle.clauses.specs.Passing.{IsOpen}
@@ -50,3 +50,20 @@ pub record Extends (old new : Path) : Type 0 where
   pub limits : new.limits ≡ old.limits
   pub more : List ℕ
   pub literals : new.literals ≡ old.literals ++ more
+
+-- A clause can watch a literal: propagation was not yet there where it became false, if it is, and no level below the
+-- current one has it false.
+pub record CanWatch (state : State) (literal : ℕ) : Type 0 where
+  pub ahead : Contains (take state.head state.path.literals) (opposite literal) → ⊥
+  pub levels : (level : ℕ) → level < length state.path.limits → Contains (literals_to state.path level) (opposite literal) → ⊥
+
+-- A clause can be learned: one literal of it is neither true nor false, and its others are false; another literal of it
+-- is not false at any level below the current one.
+pub record CanLearn (path : Path) (clause : List ℕ) (asserted other : ℕ) : Type 0 where
+  pub has_asserted : Contains clause asserted
+  pub not_true : Contains path.literals asserted → ⊥
+  pub not_false : Contains path.literals (opposite asserted) → ⊥
+  pub others : All (λ literal. (literal ≡ asserted) ⊎ Contains path.literals (opposite literal)) clause
+  pub has_other : Contains clause other
+  pub differs : asserted ≢ other
+  pub levels : (level : ℕ) → level < length path.limits → Contains (literals_to path level) (opposite other) → ⊥

@@ -33,7 +33,7 @@ pub record IsPaired (clauses : Numbered ℕ) (pairs : List Pair) (codes : ℕ) :
   pub second : (number : ℕ) (clause : List ℕ) → clause_of clauses number ≡ Some clause → Contains clause (pair_of pairs number).second
   pub single : (number : ℕ) (clause : List ℕ) → clause_of clauses number ≡ Some clause
       → (pair_of pairs number).first ≡ (pair_of pairs number).second → All (λ literal. literal ≡ (pair_of pairs number).first) clause
-  pub within : (number : ℕ) → number < length pairs → ((pair_of pairs number).first < codes) × ((pair_of pairs number).second < codes)
+  pub within : (number : ℕ) → 0 < number → number < length pairs → ((pair_of pairs number).first < codes) × ((pair_of pairs number).second < codes)
 
 -- a live clause of two literals: that in whose list it is named, and the blocker
 pub record IsShort (clauses : Numbered ℕ) (literal : ℕ) (watch : Watch) : Type 0 where
@@ -44,6 +44,7 @@ pub record IsShort (clauses : Numbered ℕ) (literal : ℕ) (watch : Watch) : Ty
 
 -- an entry of the list of a literal: while the clause is live, the blocker is one of its literals
 pub record IsEntry (clauses : Numbered ℕ) (size codes literal : ℕ) (watch : Watch) : Type 0 where
+  pub some : 0 < watch.number
   pub number : watch.number < size
   pub within : watch.blocker < codes
   pub blocks : (clause : List ℕ) → clause_of clauses watch.number ≡ Some clause → Contains clause watch.blocker
@@ -77,6 +78,8 @@ pub record IsWatched (clauses : Numbered ℕ) (pairs : List Pair) (lists : List 
   pub listed : (number : ℕ) (clause : List ℕ) (literal : ℕ) → clause_of clauses number ≡ Some clause
       → (pair_of pairs number).first ≢ (pair_of pairs number).second → Watches (pair_of pairs number) literal → Names (list_of lists literal) number
   pub inside : head ≤ length path.literals
+  pub reasons : length path.reasons ≡ length path.literals
+  pub begun : (level : ℕ) → level < length path.limits → start_of path level ≤ length path.literals
   pub worked : IsWorked clauses pairs (take head path.literals) path.literals
   pub levels : AreLevelsWorked clauses pairs path
 

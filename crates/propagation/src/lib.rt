@@ -1,6 +1,7 @@
 //! Unit propagation by watched literals, over clauses by number and a trail.
 #![tactic(auto)]
 
+mod adding;
 mod propagator;
 mod visit;
 mod watch;

@@ -1,12 +1,16 @@
 // The clauses, the trail and what is watched.
-ghost use Rattle.std.specs.Prelude.{◌≡◌, ◌≢◌, ℕ, [], ◌∷◌, ◌++◌, ◌+◌, ◌*◌, ◌^◌, ◌<◌, ◌≤◌, length, take, slice_index, slice_set, Some, None, IsSome, IfOk, OnOk, IfSome, IfNone};
+ghost use Rattle.std.specs.Prelude.{IsSomeAnd, ◌⊎◌, ◌-◌, OnErr, ◌≡◌, ◌≢◌, ℕ, [], ◌∷◌, ◌++◌, ◌+◌, ◌*◌, ◌^◌, ◌<◌, ◌≤◌, length, take, slice_index, slice_set, Some, None, IsSome, IfOk, OnOk, IfSome, IfNone};
 ghost use Rattle.std.specs.List.{All, Contains};
 ghost use Rattle.clauses.specs.Live.{clause_of};
 ghost use Rattle.trail.specs.Literals.{opposite};
 ghost use Rattle.trail.specs.Path.{Path, pushed, decided, undone, literals_to, start_of};
-ghost use Rattle.propagation.specs.State.{State, Extends, IsConflict, IsSettled};
+ghost use Rattle.propagation.specs.State.{State, Extends, IsConflict, IsSettled, CanWatch, CanLearn};
+ghost use Rattle.propagation.specs.Adding.{KeepsClauses};
 ghost use Rattle.propagation.specs.Visits.{StopsFor};
+ghost use Rattle.clause_store.specs.Stored.{stored_words};
+ghost use Rattle.word_pool.specs.declared.region.TheConstants.{MOST_WORDS};
 
+use crate::adding::{add, empty_lists, store};
 use crate::visit::clause_at;
 use crate::watch::{Pair, Stop, Watch, WatchList, close_gap};
 use crate::work::visit_list;
@@ -47,6 +51,30 @@ impl Model for Propagator {
 }
 
 impl Propagator {
+    /// No clause, and the trail of so many variables on which no literal is true.
+    pub fn new(alloc: Global, variables: u32) -> Result<Propagator, NoMemory>
+        requires { variables < 2 ^ 31 }
+        ensures { IfOk result (λ propagator. propagator ≡ record {
+          clauses = [];
+          path = record { variables = variables; literals = []; reasons = []; limits = [] };
+          head = 0;
+        }) }
+    {
+        let mut pairs = Vec::new(alloc);
+        pairs.push(Pair {
+            first: 0,
+            second: 0,
+        })?;
+        Ok(Propagator {
+            clauses: Store::new(alloc),
+            trail: Trail::new(alloc, variables)?,
+            pairs,
+            lists: empty_lists(alloc, 2 * variables as usize)?,
+            working: Vec::new(alloc),
+            head: 0,
+        })
+    }
+
     /// The trail, and what holds at every moment: reasons, and where propagation has ended.
     pub fn trail(&self) -> &Trail
         ensures is { result.now ≡ self.now.path }
@@ -54,6 +82,13 @@ impl Propagator {
     {
         let _on_trail = self.trail.literals();
         &self.trail
+    }
+
+    /// The clauses, of which that with the number n stands at the place n - 1.
+    pub fn clauses(&self) -> &Store
+        ensures { result.now ≡ self.now.clauses }
+    {
+        &self.clauses
     }
 
     /// The live clause of a number.
@@ -110,5 +145,123 @@ impl Propagator {
             self.head += 1;
         }
         gap.stop
+    }
+
+    /// Begins a level with a literal that is neither true nor false, where all of the trail was propagated.
+    pub fn decide(&mut self, literal: u32)
+        requires within { literal < 2 * self.old.path.variables }
+        requires not_true { Contains self.old.path.literals literal → ⊥ }
+        requires not_false { Contains self.old.path.literals (opposite literal) → ⊥ }
+        requires propagated { self.old.head ≡ length self.old.path.literals }
+        ensures { self.new ≡ record self.old { path = decided self.old.path literal } }
+    {
+        self.trail.decide(literal);
+    }
+
+    /// Takes back all above a level.
+    pub fn undo_to(&mut self, level: usize)
+        requires { level < length self.old.path.limits }
+        ensures { self.new ≡ record self.old { path = undone self.old.path level; head = start_of self.old.path level } }
+    {
+        self.head = self.trail.limits()[level] as usize;
+        self.trail.undo_to(level);
+    }
+
+    /// Drops a clause of more than two literals that is the reason of none of the trail. It takes no memory.
+    pub fn remove(&mut self, number: u32)
+        requires long { IsSomeAnd (clause_of self.old.clauses number) (λ clause. 2 < length clause) }
+        requires unused { All (λ reason. reason ≢ number) self.old.path.reasons }
+        ensures { self.new ≡ record self.old { clauses = slice_set self.old.clauses (number - 1) None } }
+    {
+        self.clauses.remove(number as usize - 1);
+    }
+
+    /// Adds a clause, of which two literals are to be watched. It gets the next number.
+    ///
+    /// # Errors
+    ///
+    /// `NoMemory` if memory is refused. The trail, and the clauses that there are, then stay.
+    pub fn attach(&mut self, clause: &[u32], first: u32, second: u32) -> Result<(), NoMemory>
+        requires within { All (λ literal. literal < 2 * self.old.path.variables) clause.now }
+        requires first { Contains clause.now first }
+        requires second { Contains clause.now second }
+        requires differ { first ≢ second }
+        requires first_watch { CanWatch self.old first }
+        requires second_watch { CanWatch self.old second }
+        requires words { stored_words self.old.clauses + length clause.now ≤ MOST_WORDS }
+        requires numbers { length self.old.clauses < 2 ^ 32 - 1 }
+        ensures ok { OnOk result (self.new ≡ record self.old { clauses = self.old.clauses ++ Some clause.now ∷ [] }) }
+        ensures err_clauses { OnErr result (KeepsClauses self.old.clauses self.new.clauses) }
+        ensures err { OnErr result ((self.new.path ≡ self.old.path) × (self.new.head ≡ self.old.head)) }
+    {
+        add(
+            &mut self.clauses,
+            &mut self.pairs,
+            &mut self.lists,
+            clause,
+            Pair { first, second },
+        )?;
+        Ok(())
+    }
+
+    /// Adds a clause, of which all literals are false but the first, and makes that one true because of it.
+    ///
+    /// # Errors
+    ///
+    /// `NoMemory` if memory is refused. The trail, and the clauses that there are, then stay.
+    pub fn learn(&mut self, clause: &[u32], first: u32, second: u32) -> Result<(), NoMemory>
+        requires within { All (λ literal. literal < 2 * self.old.path.variables) clause.now }
+        requires learn { CanLearn self.old.path clause.now first second }
+        requires words { stored_words self.old.clauses + length clause.now ≤ MOST_WORDS }
+        requires numbers { length self.old.clauses < 2 ^ 32 - 1 }
+        ensures ok { OnOk result (self.new ≡ record self.old {
+          clauses = self.old.clauses ++ Some clause.now ∷ [];
+          path = pushed self.old.path first (length self.old.clauses + 1);
+        }) }
+        ensures err_clauses { OnErr result (KeepsClauses self.old.clauses self.new.clauses) }
+        ensures err { OnErr result ((self.new.path ≡ self.old.path) × (self.new.head ≡ self.old.head)) }
+    {
+        let number = add(
+            &mut self.clauses,
+            &mut self.pairs,
+            &mut self.lists,
+            clause,
+            Pair { first, second },
+        )?;
+        self.trail.push(first, number);
+        Ok(())
+    }
+
+    /// Adds a clause of one literal, however often it stands there, and makes that one true because of it. There is
+    /// no level but the lowest.
+    ///
+    /// # Errors
+    ///
+    /// `NoMemory` if memory is refused. The trail, and the clauses that there are, then stay.
+    pub fn attach_unit(&mut self, clause: &[u32], literal: u32) -> Result<(), NoMemory>
+        requires within { All (λ literal. literal < 2 * self.old.path.variables) clause.now }
+        requires has { Contains clause.now literal }
+        requires alone { All (λ other. other ≡ literal) clause.now }
+        requires lowest { self.old.path.limits ≡ [] }
+        requires not_false { Contains self.old.path.literals (opposite literal) → ⊥ }
+        requires words { stored_words self.old.clauses + length clause.now ≤ MOST_WORDS }
+        requires numbers { length self.old.clauses < 2 ^ 32 - 1 }
+        ensures clauses { OnOk result (self.new.clauses ≡ self.old.clauses ++ Some clause.now ∷ []) }
+        ensures was_true { OnOk result (Contains self.old.path.literals literal → self.new.path ≡ self.old.path) }
+        ensures asserted { OnOk result ((Contains self.old.path.literals literal → ⊥)
+            → self.new.path ≡ pushed self.old.path literal (length self.old.clauses + 1)) }
+        ensures head { self.new.head ≡ self.old.head }
+        ensures err_clauses { OnErr result (KeepsClauses self.old.clauses self.new.clauses) }
+        ensures err { OnErr result (self.new.path ≡ self.old.path) }
+    {
+        let pair = Pair {
+            first: literal,
+            second: literal,
+        };
+        let number = store(&mut self.clauses, &mut self.pairs, clause, pair)?;
+        if !self.trail.is_true(literal) {
+            self.trail.push(literal, number);
+        }
+        Ok(())
     }
 }

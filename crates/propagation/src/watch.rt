@@ -1,5 +1,5 @@
 // What a clause watches, the lists of those that watch a literal, and what is found there.
-ghost use Rattle.std.specs.Prelude.{◌≡◌, ◌≢◌, ◌≤◌, ◌+◌, [], ◌∷◌, ◌++◌, take, drop, length, IfSome, IfNone, OnOk, OnErr};
+ghost use Rattle.std.specs.Prelude.{◌≡◌, ◌≢◌, ◌≤◌, ◌+◌, ◌-◌, [], ◌∷◌, ◌++◌, take, drop, length, IfSome, IfNone, OnOk, OnErr};
 ghost use Rattle.propagation.specs.Watching.{Watches, IsPairOf};
 
 use psl_base::NoMemory;
@@ -103,6 +103,13 @@ impl WatchList {
     {
         self.entries.push(watch)?;
         Ok(())
+    }
+
+    /// Takes away the last entry.
+    pub(crate) fn pop(&mut self)
+        ensures { self.new ≡ take (length self.old - 1) self.old }
+    {
+        let _last = self.entries.pop();
     }
 
     /// Exchanges the entries for others.

@@ -30,10 +30,10 @@ fn visit(
 {
     match look_at(clauses, pairs, trail, watch, literal) {
         Visit::Keep(watch) => Outcome::Keep(watch),
-        Visit::Force(watch) => match trail.push(watch.blocker, watch.number) {
-            Ok(()) => Outcome::Keep(watch),
-            Err(_) => Outcome::Stop(Stop::NoMemory),
-        },
+        Visit::Force(watch) => {
+            trail.push(watch.blocker, watch.number);
+            Outcome::Keep(watch)
+        }
         Visit::Move(pair) => move_watch(pairs, lists, watch.number, pair),
         Visit::Gone => Outcome::Gone,
         Visit::Conflict => Outcome::Stop(Stop::Conflict(watch.number)),

@@ -1,7 +1,7 @@
 -- What the fields of a trail keep says of the trail.
-use Rattle.std.proofs.Common.{◌≡◌, ℕ, ◌*◌, ◌<◌, ◌≤◌, Bool, List, length, get_or, eqb, eq-eqb, sym, ap, ◌∙◌, arith}
+use Rattle.std.proofs.Common.{◌≡◌, ℕ, zero, suc, ◌+◌, ◌*◌, ◌<◌, ◌≤◌, Bool, true, List, [], ◌∷◌, ◌++◌, length, get_or, set, eqb, eq-eqb, refl, sym, ap, ◌∙◌, arith}
 use Rattle.std.specs.List.{All, Contains}
-use Rattle.std.proofs.lemmas.List.{get_or_default}
+use Rattle.std.proofs.lemmas.List.{get_or_default, length-set, length_push}
 use Rattle.std.proofs.lemmas.List.Elements.{Contains-get_or}
 use Rattle.std.proofs.lemmas.List.Folds.{list_any_at}
 use Rattle.std.proofs.lemmas.Map.Steps.{le-length_from_below}
@@ -9,7 +9,7 @@ use Rattle.trail.specs.Literals.{variable, opposite}
 use Rattle.trail.specs.Path.{Path, IsPath}
 use Rattle.trail.specs.Fields.{IsMarked, KnowsPlaces, IsRising}
 use Rattle.trail.proofs.Numbers.{variable-opposite, opposite-differs}
-use Rattle.trail.proofs.Marks.{mark_within}
+use Rattle.trail.proofs.Marks.{mark_within, marked-push, places-push}
 
 within_at : (marks : List Bool) (literals : List ℕ) (place : ℕ) → IsMarked marks literals → place < length literals → get_or literals place 0 < length marks
 within_at marks literals place is within = mark_within marks (get_or literals place 0) (is.marked (get_or literals place 0) (Contains-get_or literals place 0 within))
@@ -37,6 +37,34 @@ few marks places literals is knows size =
     le-length_from_below places (length literals) (λ place within.
     let below = within_at marks literals place is within in
     list_any_at (eqb place) places (variable (get_or literals place 0)) 0 (omega arith) (eq-eqb place (get_or places (variable (get_or literals place 0)) 0) (sym (knows place within))))
+
+-- a literal that is neither true nor false has room among the variables
+pub few_more : (marks : List Bool) (places literals : List ℕ) (literal : ℕ) → IsMarked marks literals → KnowsPlaces places literals → length marks ≡ 2 * length places
+    → literal < 2 * length places → (Contains literals literal → ⊥) → (Contains literals (opposite literal) → ⊥) → length literals + 1 ≤ length places
+few_more marks places literals literal is knows size within not_true not_false =
+    let marks' = set marks literal true in
+    let places' = set places (variable literal) (length literals) in
+    let size' : length marks' ≡ 2 * length places' = omega (arith, length-set marks literal true, length-set places (variable literal) (length literals)) in
+    let most = few marks' places' (literals ++ literal ∷ []) (marked-push marks literals literal is (omega arith)) (places-push places literals literal knows not_true not_false (omega arith)) size' in
+    omega (arith, length_push literals literal, length-set places (variable literal) (length literals))
+
+-- rising numbers below a bound are no more than it
+rising_at : (limits : List ℕ) (level : ℕ) → IsRising limits → level < length limits → level ≤ get_or limits level 0
+rising_at limits zero rising within = omega arith
+rising_at limits (suc level) rising within =
+    let below = rising_at limits level rising (omega arith) in
+    let next = rising level (suc level) (omega arith) within in
+    omega arith
+
+rising_some : (limits : List ℕ) (size level : ℕ) → IsRising limits → All (λ limit. limit < size) limits → length limits ≡ level → length limits ≤ size
+rising_some limits size zero rising begun is = omega arith
+rising_some limits size (suc level) rising begun is =
+    let last = rising_at limits level rising (omega arith) in
+    let below = begun level 0 (omega arith) in
+    omega arith
+
+pub rising_few : (limits : List ℕ) (size : ℕ) → IsRising limits → All (λ limit. limit < size) limits → length limits ≤ size
+rising_few limits size rising begun = rising_some limits size (length limits) rising begun refl
 
 pub path : (p : Path) (marks : List Bool) (places : List ℕ) → IsMarked marks p.literals → KnowsPlaces places p.literals → length marks ≡ 2 * length places → length places ≡ p.variables
     → length p.reasons ≡ length p.literals → IsRising p.limits → All (λ limit. limit < length p.literals) p.limits → IsPath p

@@ -1,5 +1,5 @@
 -- What a trail keeps of its fields, and what they stand for.
-use Rattle.std.specs.Prelude.{◌≡◌, ℕ, ◌*◌, ◌<◌, ◌^◌, Bool, true, false, List, length, slice_index, slice_index_or}
+use Rattle.std.specs.Prelude.{◌≡◌, ℕ, ◌*◌, ◌<◌, ◌≤◌, ◌^◌, Bool, true, false, List, length, slice_index, slice_index_or, vec_capacity}
 use Rattle.std.specs.List.{All, Contains}
 use Rattle.trail.specs.declared.path.Trail.TheInside.{Inside}
 use Rattle.trail.specs.Literals.{variable}
@@ -33,3 +33,6 @@ pub record IsTrail (trail : Inside) : Type 0 where
   pub reasons : length trail.reasons.items ≡ length trail.literals.items
   pub rising : IsRising trail.limits.items
   pub begun : All (λ limit. limit < length trail.literals.items) trail.limits.items
+  -- so that nothing but `new` takes memory
+  pub room : (length trail.places.items ≤ vec_capacity trail.literals) × (length trail.places.items ≤ vec_capacity trail.reasons)
+      × (length trail.places.items ≤ vec_capacity trail.limits)

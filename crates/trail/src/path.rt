@@ -11,6 +11,7 @@ use std::marker::Model;
 /// The literals that are true, in the order in which they came to be.
 ///
 /// Levels are counted from 0. Each but the lowest begins with a decision. A place is an index of a true literal.
+/// It takes its memory when it is made, and none later.
 #[derive(Drop)]
 pub struct Trail {
     literals: Vec<u32>,
@@ -43,9 +44,9 @@ impl Trail {
         ensures { IfOk result (λ trail. trail ≡ record { variables = variables; literals = []; reasons = []; limits = [] }) }
     {
         Ok(Trail {
-            literals: Vec::new(alloc),
-            reasons: Vec::new(alloc),
-            limits: Vec::new(alloc),
+            literals: Vec::with_capacity(alloc, variables as usize)?,
+            reasons: Vec::with_capacity(alloc, variables as usize)?,
+            limits: Vec::with_capacity(alloc, variables as usize)?,
             marks: vec![in alloc; false; 2 * variables as usize]?,
             places: vec![in alloc; 0; variables as usize]?,
         })
@@ -68,7 +69,8 @@ impl Trail {
 
     /// Where each level but the lowest begins.
     pub fn limits(&self) -> &[u32]
-        ensures { result.now ≡ self.now.limits }
+        ensures is { result.now ≡ self.now.limits }
+        ensures path { IsPath self.now }
     {
         &self.limits
     }
@@ -90,44 +92,30 @@ impl Trail {
         self.marks[literal as usize]
     }
 
-    /// Adds a literal that is neither true nor false, with the clause that makes it true. Where memory is refused, the
-    /// trail stays.
-    pub fn push(&mut self, literal: u32, reason: u32) -> Result<(), NoMemory>
+    /// Adds a literal that is neither true nor false, with the number of the clause that makes it true.
+    pub fn push(&mut self, literal: u32, reason: u32)
         requires within { literal < 2 * self.old.variables }
         requires not_true { Contains self.old.literals literal → ⊥ }
         requires not_false { Contains self.old.literals (opposite literal) → ⊥ }
-        ensures ok { OnOk result (self.new ≡ pushed self.old literal reason) }
-        ensures err { OnErr result (self.new ≡ self.old) }
+        ensures { self.new ≡ pushed self.old literal reason }
     {
         let place = self.literals.len() as u32;
-        self.reasons.reserve(1)?;
-        self.literals.push(literal)?;
-        let Ok(()) = self.reasons.push(reason) else {
-            unreachable!()
-        };
+        self.literals.push_reserved(literal);
+        self.reasons.push_reserved(reason);
         self.marks[literal as usize] = true;
         self.places[(literal / 2) as usize] = place;
-        Ok(())
     }
 
-    /// Begins a level with a literal that is neither true nor false. Where memory is refused, the trail stays.
-    pub fn decide(&mut self, literal: u32) -> Result<(), NoMemory>
+    /// Begins a level with a literal that is neither true nor false.
+    pub fn decide(&mut self, literal: u32)
         requires within { literal < 2 * self.old.variables }
         requires not_true { Contains self.old.literals literal → ⊥ }
         requires not_false { Contains self.old.literals (opposite literal) → ⊥ }
-        ensures ok { OnOk result (self.new ≡ decided self.old literal) }
-        ensures err { OnErr result (self.new ≡ self.old) }
+        ensures { self.new ≡ decided self.old literal }
     {
-        let place = self.literals.len() as u32;
-        self.reasons.reserve(1)?;
-        self.limits.reserve(1)?;
-        self.literals.push(literal)?;
-        let (Ok(()), Ok(())) = (self.reasons.push(0), self.limits.push(place)) else {
-            unreachable!()
-        };
-        self.marks[literal as usize] = true;
-        self.places[(literal / 2) as usize] = place;
-        Ok(())
+        let start = self.literals.len() as u32;
+        self.push(literal, 0);
+        self.limits.push_reserved(start);
     }
 
     /// Takes back all above a level, in the time of what is taken back.

@@ -24,7 +24,7 @@ visit_list-gap-requires-clause-visiting c =
     let read : c.index_mut.result.now ≡ list_of of.lists.items c.opposite-literal.result =
     get_or_read of.lists.items c.opposite-literal.result c.index_mut.result.now below c.index_mut.ensures.value [] in
     rw (c.deref_mut.ensures.value, c.deref_mut-2.ensures.value, c.deref_mut-3.ensures.value, c.swap.ensures.there, read, is)
-    (taken of.clauses of.pairs.items of.lists.items path of.head (opposite literal) c.swap.new.self c.literals.ensures.path there watched)
+    (taken of.clauses of.pairs.items of.lists.items path of.head (opposite literal) c.swap.new.self there watched)
 
 at_none : {X : Type 0} → (o : Option X) (P : Type 0) → is_some o ≡ false → IfNone o P → P
 at_none None P none then = then

@@ -34,6 +34,7 @@ invariant_of-self c =
       size = omega (arith, ap length marks, c.unmark.auto.marks, ap length c.deref_mut.ensures.value, keeps.size);
       variables = keeps.variables;
       reasons = omega (arith, ap length c.truncate.ensures.items, ap length c.truncate-2.ensures.items, length-take start of.literals.items, length-take start of.reasons.items, keeps.reasons);
+      room = rw (c.truncate.ensures.capacity, c.truncate-2.ensures.capacity, c.truncate-3.ensures.capacity) keeps.room;
       rising = rw c.truncate-3.ensures.items (rising-undo of.limits.items level keeps.rising);
       begun = rw (c.truncate-3.ensures.items, c.truncate.ensures.items, read) (begun-undo of.limits.items of.literals.items level inside keeps.rising keeps.begun);
     }
