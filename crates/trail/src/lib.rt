@@ -3,6 +3,8 @@
 
 mod literals;
 mod path;
+#[cfg(test)]
+mod tests;
 
 pub use literals::{number_of, opposite, signed};
 pub use path::Trail;
