@@ -3,6 +3,8 @@
 
 mod adding;
 mod propagator;
+#[cfg(test)]
+mod tests;
 mod visit;
 mod watch;
 mod work;
