@@ -1,3 +1,4 @@
 pub mod Literals
 pub mod Path
+pub mod Renaming
 pub mod Fields
