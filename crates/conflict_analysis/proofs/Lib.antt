@@ -1,0 +1,12 @@
+pub mod Collecting
+pub mod Counting
+pub mod Exploring
+pub mod Learning
+pub mod Literals
+pub mod Members
+pub mod Passing
+pub mod Reaching
+pub mod Searching
+pub mod Settling
+pub mod Starting
+pub mod Sweeping

@@ -1,0 +1,15 @@
+use Rattle.std.proofs.Common.{◌≤◌, inl, inr, sym, ◌∙◌}
+use Rattle.std.proofs.lemmas.Bool.{cases_lt, true≢false}
+use Rattle.conflict_analysis.specs.Trails.{steps_of}
+use Rattle.conflict_analysis.proofs.Settling.{settled_kept}
+use Rattle.conflict_analysis.proofs.settle.settle.Goals as goal
+
+pub returns-else-is_redundant : goal.returns-else-is_redundant
+returns-else-is_redundant c =
+    let steps = steps_of c.args.trail.now in
+    let above : steps.fixed ≤ c.args.place =
+    elim (cases_lt c.args.place steps.fixed) [
+      | inl below ↦ absurd (true≢false (sym (c.is_redundant.ensures.fixed below) ∙ c.if-is_redundant.false))
+      | inr above ↦ above
+    ] in
+    settled_kept c.args.clauses.now steps c.args.place c.args.standings.now c.args.reached.now.items c.requires.listed c.in-Waiting.is above

@@ -1,0 +1,10 @@
+use Rattle.std.proofs.Common.{◌-◌}
+use Rattle.conflict_analysis.specs.Trails.{steps_of, size_of}
+use Rattle.conflict_analysis.specs.Standings.{IsSettling}
+use Rattle.conflict_analysis.proofs.settle.settle_lower.Given as goal
+
+abbrev pub invariant-loop-index : goal.invariant-loop-index
+invariant-loop-index l = IsSettling l.fn.clauses (steps_of l.fn.trail) l.index l.fn.standings l.standings l.reached.items
+
+abbrev pub decreases-loop-index : goal.decreases-loop-index
+decreases-loop-index l = size_of (steps_of l.fn.trail) - l.index

@@ -1,0 +1,17 @@
+//! The analysis of a conflict: from a trail and a clause that is false to a lemma with its hints.
+#![tactic(auto)]
+
+mod analyzer;
+mod collect;
+mod explain;
+mod reach;
+mod search;
+mod settle;
+mod standing;
+mod sweep;
+mod trail;
+
+pub use analyzer::Analyzer;
+pub use collect::{Lemma, opposite};
+pub use psl_base::NoMemory;
+pub use trail::TrailView;

@@ -1,0 +1,100 @@
+// The lower levels: which literals the lemma needs.
+ghost use Rattle.std.specs.Prelude.{◌≡◌, ◌≢◌, ℕ, ◌<◌, ◌≤◌, length, IsTrue, IfOk};
+ghost use Rattle.std.specs.List.{All};
+ghost use Rattle.conflict_analysis.specs.declared.standing.Standing.TheVariants.{Waiting};
+ghost use Rattle.conflict_analysis.specs.Trails.{steps_of, size_of, reason_at, IsTrail, KnowsPlaces};
+ghost use Rattle.conflict_analysis.specs.Standings.{IsListed, IsReadable, IsSettled, IsSettling, standing_at};
+
+use crate::TrailView;
+use crate::explain::{clause_at, explain};
+use crate::standing::Standing;
+use clause_store::Store;
+use psl_base::NoMemory;
+
+/// Settles each place of a lower level: it is kept, or explained where the lemma can do without it.
+pub fn settle_lower(
+    trail: &TrailView<'_>,
+    clauses: &Store,
+    standings: &mut [Standing],
+    reached: &mut Vec<u32>,
+) -> Result<(), NoMemory>
+    requires trail { IsTrail clauses.now (steps_of trail.now) }
+    requires places { KnowsPlaces (steps_of trail.now) trail.now.places.now }
+    requires room { size_of (steps_of trail.now) ≤ length standings.old }
+    requires listed { IsListed (size_of (steps_of trail.now)) standings.old reached.old.items }
+    requires lower { (place : ℕ) → standing_at standings.old place ≡ Waiting → place < trail.now.start }
+    ensures { IfOk result
+        (λ _. IsSettling clauses.now (steps_of trail.now) (length reached.new.items) standings.old standings.new reached.new.items) }
+{
+    let mut index = 0;
+    while index < reached.len() {
+        settle(reached[index] as usize, trail, clauses, standings, reached)?;
+        index += 1;
+    }
+    Ok(())
+}
+
+/// Settles a place, if it waits.
+fn settle(
+    place: usize,
+    trail: &TrailView<'_>,
+    clauses: &Store,
+    standings: &mut [Standing],
+    reached: &mut Vec<u32>,
+) -> Result<(), NoMemory>
+    requires trail { IsTrail clauses.now (steps_of trail.now) }
+    requires places { KnowsPlaces (steps_of trail.now) trail.now.places.now }
+    requires place { place < size_of (steps_of trail.now) }
+    requires room { size_of (steps_of trail.now) ≤ length standings.old }
+    requires listed { IsListed (size_of (steps_of trail.now)) standings.old reached.old.items }
+    ensures { IfOk result
+        (λ _. IsSettled clauses.now (steps_of trail.now) place standings.old reached.old.items standings.new reached.new.items) }
+{
+    let Standing::Waiting = standings[place] else {
+        return Ok(());
+    };
+    if is_redundant(place, trail, clauses, standings) {
+        explain(place, trail, clauses, standings, reached)?;
+    } else {
+        standings[place] = Standing::Kept;
+    }
+    Ok(())
+}
+
+/// Whether the lemma can do without a literal: it is of level 0, or its reason names no literal but such as were
+/// reached or are of level 0. (Local minimization: Beame, Kautz and Sabharwal, 2004; Sorensson and Biere, 2009.)
+fn is_redundant(
+    place: usize,
+    trail: &TrailView<'_>,
+    clauses: &Store,
+    standings: &[Standing],
+) -> bool
+    requires trail { IsTrail clauses.now (steps_of trail.now) }
+    requires places { KnowsPlaces (steps_of trail.now) trail.now.places.now }
+    requires place { place < size_of (steps_of trail.now) }
+    requires room { size_of (steps_of trail.now) ≤ length standings.now }
+    ensures reasoned { IsTrue result → reason_at (steps_of trail.now) place ≢ 0 }
+    ensures fixed { place < trail.now.fixed → IsTrue result }
+{
+    if place < trail.fixed {
+        return true;
+    }
+    let reason = trail.reasons[place];
+    reason != 0 && all_known(clause_at(clauses, reason), place, trail, standings)
+}
+
+/// Whether the literals of a reason but its own were all reached, or are of level 0.
+fn all_known(reason: &[u32], own: usize, trail: &TrailView<'_>, standings: &[Standing]) -> bool
+    requires places { KnowsPlaces (steps_of trail.now) trail.now.places.now }
+    requires own { own < size_of (steps_of trail.now) }
+    requires readable { All (IsReadable (steps_of trail.now) own) reason.now }
+    requires room { size_of (steps_of trail.now) ≤ length standings.now }
+{
+    for literal in reason {
+        let place = trail.places[(*literal / 2) as usize] as usize;
+        if place != own && place >= trail.fixed && matches!(standings[place], Standing::Untouched) {
+            return false;
+        }
+    }
+    true
+}
