@@ -7,7 +7,7 @@ use Rattle.std.proofs.lemmas.List.Elements.{All-weaker}
 use Rattle.clauses.specs.Live.{Numbered, clause_of}
 use Rattle.conflict_analysis.specs.declared.standing.Standing.{Standing}
 use Rattle.conflict_analysis.specs.declared.standing.Standing.TheVariants.{Untouched, Waiting, Explained, Kept}
-use Rattle.conflict_analysis.specs.Trails.{Steps, HasReason, IsFalseBelow, size_of, literal_at, reason_at}
+use Rattle.conflict_theory.specs.Trails.{Steps, HasReason, IsFalseBelow, size_of, literal_at, reason_at}
 use Rattle.conflict_analysis.specs.Standings.{standing_at, IsListed, IsReadable, IsReached, IsReaching, IsExplained, IsNamed, IsExplored, IsExplaining}
 use Rattle.conflict_analysis.proofs.Counting.{touched_within, standing-same, standing-other, waiting-behind}
 use Rattle.conflict_analysis.proofs.Reaching.{touched-set}

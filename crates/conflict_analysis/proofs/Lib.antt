@@ -1,10 +1,7 @@
+pub mod Closing
 pub mod Collecting
 pub mod Counting
 pub mod Exploring
-pub mod Learning
-pub mod Literals
-pub mod Members
-pub mod Passing
 pub mod Reaching
 pub mod Searching
 pub mod Settling

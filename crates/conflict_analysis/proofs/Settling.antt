@@ -10,7 +10,7 @@ use Rattle.std.proofs.lemmas.Map.Steps.{length-le_from_distinct_below}
 use Rattle.clauses.specs.Live.{Numbered}
 use Rattle.conflict_analysis.specs.declared.standing.Standing.{Standing}
 use Rattle.conflict_analysis.specs.declared.standing.Standing.TheVariants.{Waiting, Kept}
-use Rattle.conflict_analysis.specs.Trails.{Steps, size_of}
+use Rattle.conflict_theory.specs.Trails.{Steps, size_of}
 use Rattle.conflict_analysis.specs.Standings.{standing_at, IsListed, IsExplaining, IsSettled, IsSettling}
 use Rattle.conflict_analysis.proofs.Counting.{touched_within, standing-same, standing-other}
 use Rattle.conflict_analysis.proofs.Exploring.{listed-set, explored-kept, waiting_touched}

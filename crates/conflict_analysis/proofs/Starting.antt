@@ -2,14 +2,15 @@
 use Rattle.std.proofs.Common.{◌≡◌, ◌≢◌, ℕ, ◌<◌, ◌≤◌, List, [], length, Some, inl, inr, refl, sym, ap, ◌∙◌, subst, arith}
 use Rattle.std.specs.List.{All, Contains}
 use Rattle.std.proofs.lemmas.Bool.{cases_lt}
-use Rattle.std.proofs.lemmas.List.{get_or_default, get_or-take, length-take-le}
-use Rattle.std.proofs.lemmas.List.Elements.{All-contains, Contains-get_or}
+use Rattle.std.proofs.lemmas.List.{get_or_default}
+use Rattle.std.proofs.lemmas.List.Elements.{All-contains}
 use Rattle.clauses.specs.Live.{Numbered, clause_of}
 use Rattle.conflict_analysis.specs.declared.standing.Standing.{Standing}
 use Rattle.conflict_analysis.specs.declared.standing.Standing.TheVariants.{Untouched, Waiting, Explained, Kept}
-use Rattle.conflict_analysis.specs.Trails.{Steps, IsTrail, IsConflict, HasEnded, lower_literals, opposite, size_of, literal_at}
+use Rattle.conflict_theory.specs.Trails.{Steps, IsTrail, IsConflict, HasEnded, lower_literals, opposite, size_of, literal_at}
 use Rattle.conflict_analysis.specs.Standings.{standing_at, waiting_below, IsListed, IsReadable, IsReached, IsReaching, IsExplored, IsSweeping}
-use Rattle.conflict_analysis.proofs.Literals.{opposite-opposite, clash}
+use Rattle.conflict_theory.proofs.Literals.{opposite-opposite, clash}
+use Rattle.conflict_theory.proofs.Lower.{lower_contains, lower_at}
 use Rattle.conflict_analysis.proofs.Counting.{waiting_none, waiting_untouched}
 
 -- nothing is known at first
@@ -61,32 +62,11 @@ explored_first clauses steps number clause old reached new reached' waiting live
       (number, clause, live, waits.2, inl refl);
 }
 
--- what stands below the current level
-contains_lower : (clauses : Numbered ℕ) (steps : Steps) (place : ℕ) → IsTrail clauses steps → place < steps.start → Contains (lower_literals steps) (literal_at steps place)
-contains_lower clauses steps place trail below =
-    let size = length-take-le steps.start steps.literals trail.within in
-    subst (Contains (lower_literals steps)) (get_or-take steps.start steps.literals place 0 below) (Contains-get_or (lower_literals steps) place 0 (omega (arith, size)))
-
-lower_place : (clauses : Numbered ℕ) (steps : Steps) (literal : ℕ) → IsTrail clauses steps → Contains (lower_literals steps) literal → (place : ℕ) × (place < steps.start) × (literal_at steps place ≡ literal)
-lower_place clauses steps literal trail member =
-    let size = length-take-le steps.start steps.literals trail.within in
-    let below : member.0 < steps.start = omega (arith, size, member.1) in (
-      member.0,
-      below,
-      get_or_default steps.literals member.0 0 literal (omega (arith, trail.within)) ∙ sym (get_or-take steps.start steps.literals member.0 literal below) ∙ member.2,
-    )
-
-pub lower_contains : (clauses : Numbered ℕ) (steps : Steps) (place : ℕ) → IsTrail clauses steps → place < steps.start → Contains (lower_literals steps) (literal_at steps place)
-lower_contains clauses steps place trail below = contains_lower clauses steps place trail below
-
-pub lower_at : (clauses : Numbered ℕ) (steps : Steps) (literal : ℕ) → IsTrail clauses steps → Contains (lower_literals steps) literal → (place : ℕ) × (place < steps.start) × (literal_at steps place ≡ literal)
-lower_at clauses steps literal trail member = lower_place clauses steps literal trail member
-
 -- a false literal that is not false below the current level has its place there
 current_place : (clauses : Numbered ℕ) (steps : Steps) (literal place : ℕ) → IsTrail clauses steps → literal ≡ opposite (literal_at steps place) → (Contains (lower_literals steps) (opposite literal) → ⊥) → steps.start ≤ place
 current_place clauses steps literal place trail is not_false =
     elim (cases_lt place steps.start) [
-      | inl below ↦ absurd (not_false (subst (Contains (lower_literals steps)) (sym (ap opposite is ∙ opposite-opposite (literal_at steps place))) (contains_lower clauses steps place trail below)))
+      | inl below ↦ absurd (not_false (subst (Contains (lower_literals steps)) (sym (ap opposite is ∙ opposite-opposite (literal_at steps place))) (lower_contains clauses steps place trail below)))
       | inr above ↦ above
     ]
 
@@ -98,7 +78,7 @@ some_waits clauses steps number clause old reached new reached' waiting trail en
     elim (ended number clause live) [
       | inl holds ↦
           let false_at = All-contains (IsReached steps new (size_of steps)) clause holds.0 all holds.1 in
-          let true_at = lower_place clauses steps holds.0 trail holds.2 in
+          let true_at = lower_at clauses steps holds.0 trail holds.2 in
           absurd (clash clauses steps false_at.0 true_at.0 trail false_at.1 (omega (arith, true_at.1, trail.within)) (sym false_at.2 ∙ sym true_at.2))
       | inr two ↦
           let false_at = All-contains (IsReached steps new (size_of steps)) clause two.0 all two.2 in

@@ -4,7 +4,7 @@ use Rattle.std.proofs.lemmas.Bool.{cases_eq, cases_lt, cases_order}
 use Rattle.clauses.specs.Live.{Numbered}
 use Rattle.conflict_analysis.specs.declared.standing.Standing.{Standing}
 use Rattle.conflict_analysis.specs.declared.standing.Standing.TheVariants.{Waiting, Kept}
-use Rattle.conflict_analysis.specs.Trails.{Steps, size_of}
+use Rattle.conflict_theory.specs.Trails.{Steps, size_of}
 use Rattle.conflict_analysis.specs.Standings.{standing_at, waiting_below, IsListed, IsExplored, IsExplaining, IsSweeping, IsSwept}
 use Rattle.conflict_analysis.proofs.Counting.{touched_within, standing-same, standing-other, waiting_none}
 use Rattle.conflict_analysis.proofs.Exploring.{listed-set, explored-kept, waiting_touched}

@@ -1,5 +1,6 @@
+pub use Rattle.conflict_theory.specs.Lemmas
+pub use Rattle.conflict_theory.specs.Trails
 pub use Rattle.clauses.specs.Live
 pub use Rattle.clauses.specs.Passing
-pub mod Trails
-pub mod Lemmas
 pub mod Standings
+pub mod Views

@@ -1,7 +1,8 @@
 // The analysis of a conflict.
 ghost use Rattle.std.specs.Prelude.{◌≡◌, ◌≤◌, ◌<◌, ℕ, length, slice_index, OnOk, IfOk};
-ghost use Rattle.conflict_analysis.specs.Trails.{steps_of, size_of, IsTrail, IsConflict, KnowsPlaces, HasEnded};
-ghost use Rattle.conflict_analysis.specs.Lemmas.{IsLearned, IsRefuted};
+ghost use Rattle.conflict_theory.specs.Trails.{size_of, IsTrail, IsConflict, KnowsPlaces, HasEnded};
+ghost use Rattle.conflict_analysis.specs.Views.{steps_of};
+ghost use Rattle.conflict_theory.specs.Lemmas.{IsLearned, IsRefuted};
 
 use crate::collect::Lemma;
 use crate::search::search_and_clear;

@@ -2,7 +2,8 @@
 ghost use Rattle.std.specs.Prelude.{◌≡◌, ◌≢◌, ℕ, ◌++◌, ◌<◌, ◌≤◌, length, reverse, IfOk, OnOk};
 ghost use Rattle.std.specs.List.{All, Contains};
 ghost use Rattle.conflict_analysis.specs.declared.standing.Standing.TheVariants.{Untouched};
-ghost use Rattle.conflict_analysis.specs.Trails.{opposite as opposite_of, steps_of, size_of, IsTrail};
+ghost use Rattle.conflict_theory.specs.Trails.{opposite as opposite_of, size_of, IsTrail};
+ghost use Rattle.conflict_analysis.specs.Views.{steps_of};
 ghost use Rattle.conflict_analysis.specs.Standings.{standing_at, hints_at, literals_at, IsListed, IsCollected};
 
 use crate::TrailView;

@@ -1,7 +1,8 @@
 // The places at which the literals of a clause are false.
 ghost use Rattle.std.specs.Prelude.{◌<◌, ◌≤◌, length, IfOk};
 ghost use Rattle.std.specs.List.{All};
-ghost use Rattle.conflict_analysis.specs.Trails.{steps_of, size_of, KnowsPlaces};
+ghost use Rattle.conflict_theory.specs.Trails.{size_of, KnowsPlaces};
+ghost use Rattle.conflict_analysis.specs.Views.{steps_of};
 ghost use Rattle.conflict_analysis.specs.Standings.{IsListed, IsReadable, IsReaching, ReachesPlace};
 
 use crate::TrailView;

@@ -1,7 +1,8 @@
 // The search from a conflict, over what is known of the places.
 ghost use Rattle.std.specs.Prelude.{◌≡◌, ◌≤◌, ℕ, length, OnOk, IfOk};
-ghost use Rattle.conflict_analysis.specs.Trails.{steps_of, size_of, IsTrail, IsConflict, KnowsPlaces, HasEnded};
-ghost use Rattle.conflict_analysis.specs.Lemmas.{IsLearned, IsRefuted};
+ghost use Rattle.conflict_theory.specs.Trails.{size_of, IsTrail, IsConflict, KnowsPlaces, HasEnded};
+ghost use Rattle.conflict_analysis.specs.Views.{steps_of};
+ghost use Rattle.conflict_theory.specs.Lemmas.{IsLearned, IsRefuted};
 ghost use Rattle.conflict_analysis.specs.Standings.{IsClear};
 
 use crate::TrailView;

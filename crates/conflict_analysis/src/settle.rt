@@ -2,7 +2,8 @@
 ghost use Rattle.std.specs.Prelude.{◌≡◌, ◌≢◌, ℕ, ◌<◌, ◌≤◌, length, IsTrue, IfOk};
 ghost use Rattle.std.specs.List.{All};
 ghost use Rattle.conflict_analysis.specs.declared.standing.Standing.TheVariants.{Waiting};
-ghost use Rattle.conflict_analysis.specs.Trails.{steps_of, size_of, reason_at, IsTrail, KnowsPlaces};
+ghost use Rattle.conflict_theory.specs.Trails.{size_of, reason_at, IsTrail, KnowsPlaces};
+ghost use Rattle.conflict_analysis.specs.Views.{steps_of};
 ghost use Rattle.conflict_analysis.specs.Standings.{IsListed, IsReadable, IsSettled, IsSettling, standing_at};
 
 use crate::TrailView;

@@ -1,7 +1,8 @@
 // The sweep down the current level, to its first unique implication point.
 ghost use Rattle.std.specs.Prelude.{◌≡◌, ◌≢◌, ℕ, ◌+◌, ◌<◌, ◌≤◌, length, IfOk};
 ghost use Rattle.conflict_analysis.specs.declared.standing.Standing.TheVariants.{Waiting};
-ghost use Rattle.conflict_analysis.specs.Trails.{steps_of, size_of, IsTrail, KnowsPlaces};
+ghost use Rattle.conflict_theory.specs.Trails.{size_of, IsTrail, KnowsPlaces};
+ghost use Rattle.conflict_analysis.specs.Views.{steps_of};
 ghost use Rattle.conflict_analysis.specs.Standings.{IsListed, IsSweeping, IsSwept, standing_at, waiting_below};
 
 use crate::TrailView;

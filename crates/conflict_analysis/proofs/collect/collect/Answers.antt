@@ -1,6 +1,7 @@
 use Rattle.std.proofs.Common.{length, arith, refl}
 use Rattle.std.proofs.lemmas.List.Sorted.{Contains-permutation, IsNonDecreasingBy-from_sort}
-use Rattle.conflict_analysis.specs.Trails.{steps_of, size_of}
+use Rattle.conflict_theory.specs.Trails.{size_of}
+use Rattle.conflict_analysis.specs.Views.{steps_of}
 use Rattle.conflict_analysis.proofs.Collecting.{permuted_within}
 use Rattle.conflict_analysis.proofs.collect.collect.Goals as goal
 

@@ -1,7 +1,7 @@
 use Rattle.std.proofs.Common.{length, set}
 use Rattle.std.proofs.lemmas.Result.{IfOk-weaker}
 use Rattle.conflict_analysis.specs.declared.standing.Standing.TheVariants.{Explained}
-use Rattle.conflict_analysis.specs.Trails.{steps_of}
+use Rattle.conflict_analysis.specs.Views.{steps_of}
 use Rattle.conflict_analysis.specs.Standings.{IsReaching, IsExplaining}
 use Rattle.conflict_analysis.proofs.Exploring.{explaining_from}
 use Rattle.conflict_analysis.proofs.explain.explain.Goals as goal

@@ -1,5 +1,6 @@
 use Rattle.std.proofs.Common.{ℕ, ◌≡◌, ◌/◌, ◌<◌, ◌≤◌, length, get_or, subst, arith}
-use Rattle.conflict_analysis.specs.Trails.{steps_of, size_of}
+use Rattle.conflict_theory.specs.Trails.{size_of}
+use Rattle.conflict_analysis.specs.Views.{steps_of}
 use Rattle.conflict_analysis.specs.Standings.{IsReaching}
 use Rattle.conflict_analysis.proofs.Reaching.{reaching_none, reaching_more, readable_place, fresh_few}
 use Rattle.conflict_analysis.proofs.reach.reach_clause.Goals as goal

@@ -1,4 +1,4 @@
-use Rattle.conflict_analysis.specs.Trails.{steps_of}
+use Rattle.conflict_analysis.specs.Views.{steps_of}
 use Rattle.conflict_analysis.specs.Standings.{IsReaching}
 use Rattle.conflict_analysis.proofs.reach.reach_clause.Given as goal
 

@@ -1,7 +1,8 @@
 use Rattle.std.proofs.Common.{◌≡◌}
 use Rattle.std.proofs.lemmas.Result.{IfOk-weaker}
-use Rattle.conflict_analysis.specs.Trails.{steps_of, size_of, HasEnded}
-use Rattle.conflict_analysis.specs.Lemmas.{IsLearned, IsRefuted}
+use Rattle.conflict_theory.specs.Trails.{size_of, HasEnded}
+use Rattle.conflict_analysis.specs.Views.{steps_of}
+use Rattle.conflict_theory.specs.Lemmas.{IsLearned, IsRefuted}
 use Rattle.conflict_analysis.specs.Standings.{IsCollected}
 use Rattle.conflict_analysis.proofs.Starting.{conflict_readable, listed_none, sweeping_first}
 use Rattle.conflict_analysis.proofs.Searching.{IsSearch, search-learned, search-refuted}

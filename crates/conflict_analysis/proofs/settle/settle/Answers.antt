@@ -1,6 +1,6 @@
 use Rattle.std.proofs.Common.{◌≤◌, inl, inr, sym, ◌∙◌}
 use Rattle.std.proofs.lemmas.Bool.{cases_lt, true≢false}
-use Rattle.conflict_analysis.specs.Trails.{steps_of}
+use Rattle.conflict_analysis.specs.Views.{steps_of}
 use Rattle.conflict_analysis.proofs.Settling.{settled_kept}
 use Rattle.conflict_analysis.proofs.settle.settle.Goals as goal
 

@@ -1,6 +1,7 @@
 use Rattle.std.proofs.Common.{◌≡◌, ◌<◌, length, get_or, arith, sym}
 use Rattle.std.proofs.lemmas.List.{get_or_read}
-use Rattle.conflict_analysis.specs.Trails.{steps_of, size_of}
+use Rattle.conflict_theory.specs.Trails.{size_of}
+use Rattle.conflict_analysis.specs.Views.{steps_of}
 use Rattle.conflict_analysis.proofs.Settling.{listed_few, settling_more}
 use Rattle.conflict_analysis.proofs.settle.settle_lower.Goals as goal
 

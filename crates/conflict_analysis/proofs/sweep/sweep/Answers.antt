@@ -1,5 +1,6 @@
 use Rattle.std.proofs.Common.{◌≡◌, ◌<◌, arith, subst}
-use Rattle.conflict_analysis.specs.Trails.{steps_of, size_of}
+use Rattle.conflict_theory.specs.Trails.{size_of}
+use Rattle.conflict_analysis.specs.Views.{steps_of}
 use Rattle.conflict_analysis.specs.Standings.{IsSweeping}
 use Rattle.conflict_analysis.proofs.Counting.{waiting_past, waiting_few}
 use Rattle.conflict_analysis.proofs.Sweeping.{IsLast, sweeping_more, swept_from, swept_none}

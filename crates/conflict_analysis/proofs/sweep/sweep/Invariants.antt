@@ -1,5 +1,6 @@
 use Rattle.std.proofs.Common.{ℕ, ◌<◌}
-use Rattle.conflict_analysis.specs.Trails.{steps_of, size_of}
+use Rattle.conflict_theory.specs.Trails.{size_of}
+use Rattle.conflict_analysis.specs.Views.{steps_of}
 use Rattle.conflict_analysis.specs.Standings.{IsListed, IsSweeping, IsExplored}
 use Rattle.conflict_analysis.proofs.sweep.sweep.Given as goal
 

@@ -4,7 +4,6 @@ use Rattle.std.specs.Prelude.{◌≡◌, ◌≢◌, ◌⊎◌, ℕ, ◌+◌, ◌
 use Rattle.std.specs.List.{All, Contains}
 use Rattle.clauses.specs.Live.{Numbered, clause_of}
 use Rattle.clauses.specs.Passing.{IsOpen}
-use Rattle.conflict_analysis.specs.declared.trail.TrailView.{TrailView}
 
 -- the negation of a literal
 abbrev pub opposite : ℕ → ℕ
@@ -17,9 +16,6 @@ pub record Steps : Type 0 where
   pub reasons : List ℕ
   pub fixed : ℕ
   pub start : ℕ
-
-abbrev pub steps_of : TrailView → Steps
-steps_of view = record { literals = view.literals.now; reasons = view.reasons.now; fixed = view.fixed; start = view.start }
 
 -- how many places there are
 abbrev pub size_of : Steps → ℕ

@@ -3,13 +3,7 @@ use Rattle.std.specs.Prelude.{◌≡◌, ◌≢◌, ℕ, ◌<◌, ◌≤◌, Lis
 use Rattle.std.specs.List.{All, AllPairs, Contains}
 use Rattle.clauses.specs.Live.{Numbered, clause_of}
 use Rattle.clauses.specs.Passing.{Passes, AddsPropagation}
-use Rattle.conflict_analysis.specs.Trails.{Steps, opposite, size_of, literal_at}
-
--- how many places an analyzer serves, and what the last analysis gave
-pub record Analysis : Type 0 where
-  pub size : ℕ
-  pub literals : List ℕ
-  pub hints : List ℕ
+use Rattle.conflict_theory.specs.Trails.{Steps, opposite, size_of, literal_at}
 
 -- The literals of a lemma are false by places that fall: the first is of the current level, the others are of lower
 -- levels, but none is of level 0.

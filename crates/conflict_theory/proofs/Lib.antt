@@ -1,0 +1,5 @@
+pub mod Learning
+pub mod Literals
+pub mod Lower
+pub mod Members
+pub mod Passing
