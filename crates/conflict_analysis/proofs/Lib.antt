@@ -7,3 +7,4 @@ pub mod Searching
 pub mod Settling
 pub mod Starting
 pub mod Sweeping
+pub mod Worked

@@ -9,6 +9,8 @@ mod search;
 mod settle;
 mod standing;
 mod sweep;
+#[cfg(test)]
+mod tests;
 mod trail;
 
 pub use analyzer::Analyzer;
