@@ -1,0 +1,12 @@
+pub mod Advancing
+pub mod Chains
+pub mod Closing
+pub mod Components
+pub mod Ending
+pub mod Entering
+pub mod Leading
+pub mod Leaving
+pub mod Lists
+pub mod Merging
+pub mod Turning
+pub mod Wires

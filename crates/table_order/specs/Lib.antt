@@ -1,0 +1,4 @@
+pub mod Graph
+pub mod Wires
+pub mod State
+pub mod Sound

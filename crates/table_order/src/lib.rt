@@ -1,0 +1,16 @@
+//! The order in which tables can be computed, or the first table on a combinational cycle.
+//!
+//! A table reads signals, and a signal may be driven by a table. That makes a dependency graph. `order_of` gives a
+//! topological order of it, in which each table stands after all those that it reads; where there is none, it names
+//! the table with the lowest number that depends on itself. It takes time linear in the number of tables and inputs.
+#![tactic(auto)]
+
+mod order;
+mod search;
+#[cfg(test)]
+mod tests;
+mod wiring;
+
+pub use order::order_of;
+pub use psl_base::NoMemory;
+pub use wiring::Wiring;
