@@ -1,0 +1,4 @@
+pub mod Hierarchy
+pub mod Unfolds
+pub mod Numbers
+pub mod Trees
