@@ -1,0 +1,7 @@
+pub mod Driving
+pub mod Filled
+pub mod Following
+pub mod Held
+pub mod RowLists
+pub mod Uniqueness
+pub mod Walking
