@@ -10,6 +10,8 @@ mod netlist;
 mod rows;
 mod run;
 mod table;
+#[cfg(test)]
+mod tests;
 mod word;
 
 pub use latch::{Init, Latch, Latches};
