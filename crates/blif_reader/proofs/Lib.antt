@@ -1,0 +1,3 @@
+pub mod ExamplesHold
+pub mod Going
+pub mod Growing

@@ -1,0 +1,10 @@
+pub mod Commands
+pub mod Examples
+pub mod Lines
+pub mod Meaning
+pub mod Models
+pub mod Pieces
+pub mod Rules
+pub mod Scanning
+pub mod Shapes
+pub mod Standing

@@ -1,0 +1,13 @@
+//! A reader of netlists in the Berkeley Logic Interchange Format: the netlist that a text says, or its first fault.
+#![tactic(auto)]
+
+mod class;
+mod command;
+mod fault;
+mod laws;
+mod names;
+mod pieces;
+
+pub use command::Command;
+pub use fault::BlifFault;
+pub use laws::worked_examples;
