@@ -1,3 +1,4 @@
 pub mod ExamplesHold
 pub mod Going
 pub mod Growing
+pub mod Latches

@@ -8,3 +8,4 @@ pub mod Rules
 pub mod Scanning
 pub mod Shapes
 pub mod Standing
+pub mod Words

@@ -1,5 +1,5 @@
 -- The pieces that are left of a text, as it is gone over.
-use Rattle.std.specs.Prelude.{◌≡◌, ℕ, ◌+◌, false, List, [], ◌∷◌, drop, map, slice_range, None, Some}
+use Rattle.std.specs.Prelude.{◌≡◌, ℕ, ◌+◌, ◌≤◌, false, List, [], ◌∷◌, drop, length, map, slice_range, None, Some}
 use Rattle.psl_base.specs.Places.{place_at}
 use Rattle.psl_base.specs.Tokens.{PlacedToken, token_at}
 use Rattle.blif_reader.specs.declared.class.Class.{Class}
@@ -23,6 +23,16 @@ left_at whole at = record { whole = whole; pieces = pieces_from whole at false (
 -- the word that a span is
 abbrev pub word_of : List ℕ → Span → PlacedToken
 word_of whole span = token_at whole span.at (slice_range whole span.at (span.at + span.len))
+
+-- a span of the text
+abbrev pub IsWithin : List ℕ → Span → Type 0
+IsWithin whole span = span.at + span.len ≤ length whole
+
+abbrev pub IsFoundWithin : List ℕ → Found → Type 0
+IsFoundWithin whole (founds.Word span) = IsWithin whole span
+IsFoundWithin whole founds.LineEnd = Unit {0}
+IsFoundWithin whole (founds.Backslash at) = Unit {0}
+IsFoundWithin whole founds.Nothing = Unit {0}
 
 -- the first piece was taken, or there is none
 abbrev pub IsNext : Found → List ℕ → List Piece → List Piece → Type 0

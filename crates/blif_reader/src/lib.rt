@@ -7,6 +7,7 @@ mod fault;
 mod laws;
 mod names;
 mod pieces;
+mod shapes;
 
 pub use command::Command;
 pub use fault::BlifFault;

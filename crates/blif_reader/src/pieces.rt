@@ -1,8 +1,8 @@
-ghost use Rattle.std.specs.Prelude.{◌≡◌, ◌+◌, ◌<◌, ◌≤◌, ◌∷◌, false, true, length, drop, slice_range, slice_index, IfOk};
+ghost use Rattle.std.specs.Prelude.{◌≡◌, ◌+◌, ◌<◌, ◌≤◌, ◌∷◌, false, true, length, drop, slice_range, slice_index, All, IfOk};
 ghost use Rattle.psl_base.specs.Places.{file_limit};
 ghost use Rattle.psl_base.specs.Tokens.{token_at};
 ghost use Rattle.blif_reader.specs.Pieces.{class_of, is_part as part, pieces, pieces_from, Word};
-ghost use Rattle.blif_reader.specs.Scanning.{IsNext, IsPieceStart, IsTaken};
+ghost use Rattle.blif_reader.specs.Scanning.{IsFoundWithin, IsNext, IsPieceStart, IsTaken, IsWithin};
 ghost use Rattle.blif_reader.specs.declared.class.Class.{Class};
 
 use crate::class::{Class, class_at};
@@ -75,6 +75,7 @@ impl<'a> Pieces<'a> {
     pub fn next(&mut self) -> Found
         ensures whole { self.new.whole ≡ self.old.whole }
         ensures next { IsNext result self.old.whole self.old.pieces self.new.pieces }
+        ensures within { IsFoundWithin self.old.whole result }
     {
         let start = piece_start(self.whole, self.at);
         if start == self.whole.len() {
@@ -108,6 +109,7 @@ impl<'a> Pieces<'a> {
     pub fn next_line(&mut self, words: &mut Vec<Span>) -> Result<Taken, NoMemory>
         ensures whole { self.new.whole ≡ self.old.whole }
         ensures taken { IfOk result (λ taken. IsTaken taken self.old.whole words.new.items self.old.pieces self.new.pieces) }
+        ensures within { IfOk result (λ _. All (IsWithin self.old.whole) words.new.items) }
         ensures fewer { length self.new.pieces ≤ length self.old.pieces }
     {
         words.clear();
