@@ -2,3 +2,4 @@ pub mod ExamplesHold
 pub mod Going
 pub mod Growing
 pub mod Latches
+pub mod Places

@@ -3,6 +3,7 @@ pub mod Examples
 pub mod Lines
 pub mod Meaning
 pub mod Models
+pub mod Names
 pub mod Pieces
 pub mod Rules
 pub mod Scanning

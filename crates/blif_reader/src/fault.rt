@@ -1,4 +1,6 @@
-use psl_base::{NoMemory, Place, ReadAllFault};
+ghost use Rattle.std.specs.Prelude.{◌≡◌};
+
+use psl_base::{NoMemory, Place};
 use thiserror::Error;
 
 /// Why a netlist was not read. A fault of the text has the place of its word. Of several in one line the first in it is
@@ -70,4 +72,14 @@ pub enum BlifFault {
     /// The allocator refused memory.
     #[error("out of memory")]
     NoMemory,
+}
+
+impl From<NoMemory> for BlifFault {
+    ghost use Rattle.blif_reader.specs.declared.fault.BlifFault.TheVariants.{NoMemory as MemoryFault};
+
+    ghost from_gives = { λ _ fault. fault ≡ MemoryFault };
+
+    fn from(_refused: NoMemory) -> BlifFault {
+        BlifFault::NoMemory
+    }
 }

@@ -8,6 +8,7 @@ mod laws;
 mod names;
 mod pieces;
 mod shapes;
+mod signals;
 
 pub use command::Command;
 pub use fault::BlifFault;
