@@ -1,3 +1,7 @@
+ghost use Rattle.std.specs.Prelude.{◌≡◌, List};
+ghost use Rattle.blif_reader.specs.Models.{Mention, names_of};
+ghost use Rattle.blif_reader.specs.Names.{named_by, rule_of};
+ghost use Rattle.blif_reader.specs.Rules.{name_rule};
 ghost use Rattle.blif_reader.specs.Examples.{LinesAreJoined, BackslashIsPart, NamesInOrder, UnknownWord, ModelBehindInputs, RowWithoutTable, RowOfAnotherOutput, LatchOfOneWord, LatchOfALevel, LatchesOfTwoClocks, InputTwice, OutputOfNothing, BackslashAtTheEnd, LineBehindTheEnd};
 
 /// Worked examples of the definitions, as laws: texts with the words of their lines, and one text for each fault of a
@@ -18,4 +22,10 @@ pub fn worked_examples()
     ensures undriven { OutputOfNothing }
     ensures stray { BackslashAtTheEnd }
     ensures behind { LineBehindTheEnd }
+{}
+
+/// A law of the definitions: the names that are kept say of each mention what the mentions before it say.
+pub fn naming_law()
+    ensures names { (mentions : List Mention) → names_of mentions ≡ (named_by mentions).names }
+    ensures rule { (before : List Mention) (mention : Mention) → name_rule before mention ≡ rule_of (named_by before) mention.word.text mention.drives }
 {}

@@ -12,4 +12,4 @@ mod signals;
 
 pub use command::Command;
 pub use fault::BlifFault;
-pub use laws::worked_examples;
+pub use laws::{naming_law, worked_examples};

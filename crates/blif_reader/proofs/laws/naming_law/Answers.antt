@@ -1,0 +1,8 @@
+use Rattle.blif_reader.proofs.Naming.{naming-names, naming-rule}
+use Rattle.blif_reader.proofs.laws.naming_law.Goals as goal
+
+pub returns-clause-names : goal.returns-clause-names
+returns-clause-names c = naming-names
+
+pub returns-clause-rule : goal.returns-clause-rule
+returns-clause-rule c = naming-rule
