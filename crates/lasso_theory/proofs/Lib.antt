@@ -1,0 +1,7 @@
+pub mod Aborts
+pub mod Cells
+pub mod LawsHold
+pub mod Raised
+pub mod Reaching
+pub mod Walks
+pub mod Words

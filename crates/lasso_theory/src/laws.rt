@@ -1,0 +1,23 @@
+ghost use Rattle.std.specs.Prelude.{◌≡◌, ◌<◌, ℕ, length};
+ghost use Rattle.psl_meaning.specs.Clockless.{IsPlain};
+ghost use Rattle.psl_meaning.specs.Trace.{trace_of};
+ghost use Rattle.psl_tree.specs.Trees.{Boolean, Formula};
+ghost use Rattle.psl_tree.specs.declared.letter.Letter.TheVariants.{Top};
+ghost use Rattle.psl_tree.specs.declared.letter.Word.{Word};
+ghost use Rattle.lasso_theory.specs.Courses.{Course, course_of, read_from};
+ghost use Rattle.lasso_theory.specs.Laws.{IsCutAtFirst};
+
+/// A law: the trace of a word with a loop is what its course reads from the first place on.
+#[tactic(auto, using(crate::proofs::Words::word_read))]
+pub fn word_is_read()
+    ensures { (word : Word) → 0 < length word.looped → trace_of word ≡ read_from (course_of word) 0 }
+{}
+
+/// A law: an abort needs one course alone. `f async_abort b` is satisfied from a place exactly where f
+/// is on the course that goes on at Top for ever from the first place on which b holds (IEEE 1850,
+/// Annex B, the abort row).
+#[tactic(auto, using(crate::proofs::LawsHold::cut_at_first))]
+pub fn abort_is_cut_at_first()
+    ensures { (course : Course) → (test : Boolean) → (sink : ℕ) → course.letter sink ≡ Top → course.next sink ≡ sink
+        → (formula : Formula) → IsPlain formula → (place : ℕ) → IsCutAtFirst course test sink formula place }
+{}
