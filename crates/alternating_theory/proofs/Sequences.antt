@@ -51,7 +51,7 @@ all-below states n b (m ∷ ns) = append-below n (state_at states m).edges (edge
 pub entry-below : (r : Sequence) → sequences.HasNoClock r → LeadBelow (length (nfa_of r).states) (entry (nfa_of r))
 entry-below r h = all-below (nfa_of r).states (length (nfa_of r).states) (nfa-below r h) (nfa_of r).initial
 
-on-tight : (r : Sequence) → sequences.HasNoClock r → (v : Trace) (j : ℕ) → IsTrue (is_place v 0) → On (nfa_of r).states (entry (nfa_of r)) (first (suc j) v) ↔ Tight None r (first (suc j) v)
+pub on-tight : (r : Sequence) → sequences.HasNoClock r → (v : Trace) (j : ℕ) → IsTrue (is_place v 0) → On (nfa_of r).states (entry (nfa_of r)) (first (suc j) v) ↔ Tight None r (first (suc j) v)
 on-tight r h v j p = at (v 0) p
   where
     at : (o : Option Letter) → IsTrue (is_some o) → On (nfa_of r).states (entry (nfa_of r)) (joined o (first j (suffix v 1))) ↔ Tight None r (joined o (first j (suffix v 1)))
@@ -60,7 +60,7 @@ on-tight r h v j p = at (v 0) p
         let same = finished-accepts (sequences.part_of 0 r) r (part-means 0 r h) (y ∷ first j (suffix v 1)) in
         (λ k. same.0 (entry-accepts (nfa_of r) y (first j (suffix v 1)) k), λ k. accepts-entry (nfa_of r) y (first j (suffix v 1)) (same.1 k))
 
-reads-tight : (r : Sequence) → sequences.HasNoClock r → (v : Trace) → ((i : ℕ) → IsTrue (is_place v i) → IsTrue (is_place v 0))
+pub reads-tight : (r : Sequence) → sequences.HasNoClock r → (v : Trace) → ((i : ℕ) → IsTrue (is_place v i) → IsTrue (is_place v 0))
     → Reads (nfa_of r).states v (entry (nfa_of r)) ↔ HasTightPrefix v r None
 reads-tight r h v starts = exists-same (λ j. (λ u. (u.0, (on-tight r h v j (starts j u.0)).0 u.1), λ u. (u.0, (on-tight r h v j (starts j u.0)).1 u.1)))
 
@@ -74,7 +74,7 @@ at-states g [] k h = absurd (omega arith)
 at-states g (s ∷ ss) zero h = refl
 at-states g (s ∷ ss) (suc k) h = at-states g ss k (omega arith)
 
-placed-at : (g : State → Obligation) (offset : ℕ) (ss : List State) (q : ℕ) → q < length ss → numbered offset (map g ss) (offset + q) ≡ g (state_at ss q)
+pub placed-at : (g : State → Obligation) (offset : ℕ) (ss : List State) (q : ℕ) → q < length ss → numbered offset (map g ss) (offset + q) ≡ g (state_at ss q)
 placed-at g offset ss q h = ap (λ n. obligation_at (map g ss) n) (back-again offset q) ∙ at-states g ss q h
   where
     back-again : (m n : ℕ) → m + n - m ≡ n

@@ -19,7 +19,7 @@ count-at_most (suc n) f = let e = count-at_most n (λ q. f (suc q)) in at (f zer
 abbrev pub SameBelow : ℕ → (ℕ → Truth) → (ℕ → Truth) → Type 0
 SameBelow n f g = (q : ℕ) → q < n → g q ≡ f q
 
-same-or_more : (n : ℕ) (f g : ℕ → Truth) → ((q : ℕ) → IsTrue (f q) → IsTrue (g q))
+pub same-or_more : (n : ℕ) (f g : ℕ → Truth) → ((q : ℕ) → IsTrue (f q) → IsTrue (g q))
     → (SameBelow n f g × (count_below n f ≤ count_below n g)) ⊎ (count_below n f < count_below n g)
 same-or_more zero f g m = inl ((λ q h. absurd (omega arith)), omega arith)
 same-or_more (suc n) f g m = at (f zero) (g zero) refl refl (same-or_more n (λ q. f (suc q)) (λ q. g (suc q)) (λ q h. m (suc q) h))

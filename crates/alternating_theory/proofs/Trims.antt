@@ -42,7 +42,7 @@ module _ (os : List Obligation) (start : ℕ) (last : length os ≡ start + 1)
   past-renumbered Tops o = refl
   past-renumbered Bottoms o = refl
 
-  owed-kept : (q r : ℕ) → q < length os → IsTrue (keep q) → IsTrue (owes (obligation_at os q).delta r) → (r < start) × IsTrue (keep r)
+  pub owed-kept : (q r : ℕ) → q < length os → IsTrue (keep q) → IsTrue (owes (obligation_at os q).delta r) → (r < start) × IsTrue (keep r)
   owed-kept q r l h o =
       let w = owed-within 0 start (obligation_at os q).delta (below q l) r o in
       (w.1, reached-closed os start q r l (omega (arith, w.1)) h o)
@@ -55,7 +55,7 @@ module _ (os : List Obligation) (start : ℕ) (last : length os ≡ start + 1)
       ∙ met-owed (obligation_at os q).delta x (λ n. value_of after p (after (new n)) xs) (λ n. value_of (obligation_at os) p (obligation_at os n) xs)
       (λ r o. let k = owed-kept q r l h o in same-value p xs r (omega (arith, k.0)) k.1)
 
-  start-kept : IsTrue (keep start)
+  pub start-kept : IsTrue (keep start)
   start-kept = start-reached os start
 
   pub trimmed-value : (p : Past) (xs : List Letter) → value_on (trimmed os start) p xs ≡ value_of (obligation_at os) p (obligation_at os start) xs
@@ -69,7 +69,7 @@ module _ (os : List Obligation) (start : ℕ) (last : length os ≡ start + 1)
   pub trimmed-fewer : length (trimmed os start).obligations ≤ length os
   trimmed-fewer = omega (arith, new-count, count-at_most (length os) keep)
 
-  origin : (q : ℕ) → q < length (trimmed os start).obligations → (j : ℕ) × (j < length os) × IsTrue (keep j) × (q ≡ new j)
+  pub origin : (q : ℕ) → q < length (trimmed os start).obligations → (j : ℕ) × (j < length os) × IsTrue (keep j) × (q ≡ new j)
   origin q l = kept-origin keep os q (omega (arith, length-map (kept keep os) (λ (obligation : Obligation). renumbered_obligation new obligation)))
 
   -- no obligation owes the start or a number past it

@@ -1,5 +1,6 @@
 pub mod Aborts
 pub mod Cells
+pub mod Ends
 pub mod LawsHold
 pub mod Raised
 pub mod Reaching

@@ -1,0 +1,3 @@
+//! Acceptance of words with a loop by alternating automata, and the law that ties it to satisfaction.
+//! It holds definitions and lemmas; its functions state laws.
+#![tactic(auto)]
