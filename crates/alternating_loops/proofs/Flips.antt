@@ -34,11 +34,14 @@ owes-opposite (Owed n) q = refl
 owes-opposite (And p r) q = let a = owes-opposite p q in let b = owes-opposite r q in cc
 owes-opposite (Or p r) q = let a = owes-opposite p q in let b = owes-opposite r q in cc
 
+-- the opposite is met on a letter where the dual letter does not meet the combination with the negated values
+pub met-turned : (d : Positive) (x : Letter) (f g : ℕ → Truth) → ((r : ℕ) → not (f r) ≡ g r) → met (positive.opposite d) x f ≡ not (met d (dual_letter x) g)
+met-turned d x f g e = met-opposite d x f ∙ ap (λ (h : ℕ → Truth). not (met d (dual_letter x) h)) (fun_ext e)
+
 module _ (c : Course) (n top bottom low high : ℕ) (look : ℕ → Obligation) (s : Scored (opposite c) n bottom top low high look) where
   turned : (p q : ℕ) (f g : ℕ → Truth) → ((r : ℕ) → not (f r) ≡ g r)
       → met (positive.opposite (look q).delta) (c.letter p) f ≡ not (met (look q).delta (dual_letter (c.letter p)) g)
-  turned p q f g e = met-opposite (look q).delta (c.letter p) f
-      ∙ ap (λ (h : ℕ → Truth). not (met (look q).delta (dual_letter (c.letter p)) h)) (fun_ext e)
+  turned p q f g e = met-turned (look q).delta (c.letter p) f g e
 
   pub flipped-score : Scored c n top bottom low high (λ q. opposite_obligation (look q))
   flipped-score = record {

@@ -2,6 +2,10 @@ pub mod Accepts
 pub mod Blocks
 pub mod Flips
 pub mod MetOwed
+pub mod Pairs
 pub mod Rounds
 pub mod Scores
+pub mod Scoring
+pub mod Singles
 pub mod Splits
+pub mod Starts

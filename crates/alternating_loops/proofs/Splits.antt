@@ -185,6 +185,10 @@ module _ (c : Course) (n top bottom low mid high : ℕ) (look : ℕ → Obligati
     ends = ends;
   }
 
+  pub split-value : (p q : ℕ) → split-score.value p q ≡ below_or mid q (old.value p q) (u.value p q)
+  unfolding split-score
+  split-value p q = refl
+
   pub split-left : (p q : ℕ) → q < mid → split-score.value p q ≡ old.value p q
   unfolding split-score
   split-left p q k = value-left p q k
