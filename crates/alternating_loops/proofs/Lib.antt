@@ -3,9 +3,12 @@ pub mod Blocks
 pub mod Flips
 pub mod MetOwed
 pub mod Pairs
+pub mod PrefixScoring
 pub mod Rounds
 pub mod Scores
 pub mod Scoring
 pub mod Singles
 pub mod Splits
 pub mod Starts
+pub mod States
+pub mod SuffixScoring

@@ -9,7 +9,7 @@ use Rattle.psl_meaning.specs.Clockless.{HasNoClock}
 use Rattle.psl_meaning.specs.Followed.{Tops, followed}
 use Rattle.psl_meaning.specs.Satisfaction.{Sat}
 use Rattle.psl_meaning.specs.Tight.{Tight}
-use Rattle.psl_meaning.specs.Trace.{Trace, first, cut, is_place}
+use Rattle.psl_meaning.specs.Trace.{Trace, dual_letter, first, cut, is_place}
 use Rattle.psl_meaning.proofs.Choice.{from-exists, exists-map, exists-same}
 use Rattle.psl_meaning.proofs.Traces.{behind, zero-below, suc-below, cut-zero}
 use Rattle.psl_tree.specs.Holds.{holds}
@@ -132,11 +132,41 @@ module _ (states : List State) where
           ((accepts-tight r n (first (suc j) (read_from (opposite c) p))).0 (subst (λ (ss : List State). AcceptsFrom ss (start_of r) (first (suc j) (read_from (opposite c) p))) e a))),
     )
 
+    module _ (F : ℕ → Type 0) where
+      pub follows-here : (p q t : ℕ) → To q (dual_letter (c.letter p)) t → Ends t → Follows F p q → F p
+      follows-here p q t s e h = h 0 (subst (λ (l : List Letter). AcceptsFrom states q l) (sym (first-read (opposite c) p 0))
+          (make-step (state_at states q).edges (dual_letter (c.letter p)) t (λ r. AcceptsFrom states r []) s e))
+
+      pub follows-later : (p q t : ℕ) → To q (dual_letter (c.letter p)) t → Follows F p q → Follows F (c.next p) t
+      follows-later p q t s h j a = h (suc j) (subst (λ (l : List Letter). AcceptsFrom states q l) (sym (first-read (opposite c) p (suc j)))
+          (make-step (state_at states q).edges (dual_letter (c.letter p)) t (λ r. AcceptsFrom states r (first (suc j) (read_from (opposite c) (c.next p)))) s a))
+
+      -- a set of cells of which each that ends stands at a place with F, and leads to cells of the set alone
+      pub follows-most : (n : ℕ) → ((p : ℕ) → p < n → c.next p < n) → (Live : ℕ → Type 0) → ((q : ℕ) (y : Letter) (ys : List Letter) → AcceptsFrom states q (y ∷ ys) → Live q)
+          → (S : ℕ → ℕ → Truth)
+          → ((p q t : ℕ) → p < n → IsTrue (S p q) → To q (dual_letter (c.letter p)) t → Ends t → F p)
+          → ((p q t : ℕ) → p < n → IsTrue (S p q) → To q (dual_letter (c.letter p)) t → Live t → IsTrue (S (c.next p) t))
+          → (p q : ℕ) → p < n → IsTrue (S p q) → Follows F p q
+      follows-most n stays Live live S here later p q l h j a = at j p q l h a
+        where
+          step : (p q k : ℕ) → AcceptsFrom states q (first (suc k) (read_from (opposite c) p))
+              → (t : ℕ) × To q (dual_letter (c.letter p)) t × AcceptsFrom states t (first k (read_from (opposite c) (c.next p)))
+          step p q k a = take-step (state_at states q).edges (dual_letter (c.letter p)) (λ r. AcceptsFrom states r (first k (read_from (opposite c) (c.next p))))
+              (subst (λ (l : List Letter). AcceptsFrom states q l) (first-read (opposite c) p k) a)
+
+          alive : (p q k : ℕ) → AcceptsFrom states q (first (suc k) (read_from (opposite c) p)) → Live q
+          alive p q k a = live q (dual_letter (c.letter p)) (first k (read_from (opposite c) (c.next p)))
+              (subst (λ (l : List Letter). AcceptsFrom states q l) (first-read (opposite c) p k) a)
+
+          at : (j p q : ℕ) → p < n → IsTrue (S p q) → AcceptsFrom states q (first (suc j) (read_from (opposite c) p)) → F (walk c.next j p)
+          at zero p q l h a = let s = step p q 0 a in here p q s.0 l h s.1 s.2
+          at (suc j) p q l h a = let s = step p q (suc j) a in at j (c.next p) s.0 (stays p l) (later p q s.0 l h s.1 (alive (c.next p) s.0 j s.2)) s.2
+
     -- a prefix is read from the state wherever the trace is cut
     abbrev pub Lasts : ℕ → ℕ → Type 0
     Lasts p q = (j : ℕ) → Reads (cut (read_from c p) (suc j)) q
 
-    cut-place : (p j i : ℕ) → IsTrue (is_place (cut (read_from c p) j) i)
+    pub cut-place : (p j i : ℕ) → IsTrue (is_place (cut (read_from c p) j) i)
     cut-place p j i = at (nat_lt i j)
       where
         at : (t : Truth) → IsTrue (is_some (if t then read_from c p i else Some Top))
@@ -154,7 +184,7 @@ module _ (states : List State) where
           ((accepts-tight r n (first (suc i) (cut (read_from c p) (suc j)))).1 a.1)) (h j refl),
     )
 
-    cut-read : (p j : ℕ) → cut (read_from c p) (suc j) ≡ behind (c.letter p) (cut (read_from c (c.next p)) j)
+    pub cut-read : (p j : ℕ) → cut (read_from c p) (suc j) ≡ behind (c.letter p) (cut (read_from c (c.next p)) j)
     cut-read p j = fun_ext (λ k. at k)
       where
         at : (k : ℕ) → cut (read_from c p) (suc j) k ≡ behind (c.letter p) (cut (read_from c (c.next p)) j) k

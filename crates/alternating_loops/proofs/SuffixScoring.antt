@@ -1,0 +1,2 @@
+-- The score of r |-> f.
+use Rattle.std.proofs.Common.{◌≡◌, refl, ℕ}
