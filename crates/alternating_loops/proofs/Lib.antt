@@ -1,6 +1,9 @@
+pub mod AbortScoring
 pub mod Accepts
 pub mod Blocks
+pub mod Copies
 pub mod Flips
+pub mod Induction
 pub mod MetOwed
 pub mod Pairs
 pub mod PrefixScoring
