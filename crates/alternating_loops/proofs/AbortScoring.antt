@@ -1,14 +1,12 @@
 -- The score of f async_abort b.
-use Rattle.std.proofs.Common.{◌≡◌, inl, inr, refl, sym, ap, ◌∙◌, subst, ℕ, ◌+◌, ◌-◌, ◌≤◌, ◌<◌, Bool as Truth, true, false, List, [], ◌∷◌, ◌++◌, length, map, arith}
+use Rattle.std.proofs.Common.{◌≡◌, inl, inr, refl, sym, ap, ◌∙◌, subst, ℕ, ◌+◌, ◌-◌, ◌≤◌, ◌<◌, Bool as Truth, ◌++◌, length, map, arith}
 use Rattle.std.specs.Prelude.{◌↔◌, IsTrue, ◌&&◌, ◌||◌, if◌then◌else◌, None}
-use Rattle.std.proofs.lemmas.Bool.{cases_Bool, or_cases, or_left, or_right}
+use Rattle.std.proofs.lemmas.Bool.{cases_Bool, or_cases, or_right}
 use Rattle.std.proofs.lemmas.List.{length-append, length-map}
 use Rattle.psl_meaning.specs.Clockless.{IsPlain}
 use Rattle.psl_meaning.specs.Satisfaction.{Sat}
-use Rattle.psl_meaning.specs.Trace.{Trace}
 use Rattle.psl_tree.specs.Holds.{holds}
 use Rattle.psl_tree.specs.Trees.{Boolean, Formula, Abort}
-use Rattle.psl_tree.specs.declared.letter.Letter.{Letter}
 use Rattle.lasso_theory.specs.Courses.{Course, read_from, stopped}
 use Rattle.lasso_theory.proofs.Aborts.{abort-same}
 use Rattle.lasso_theory.proofs.Ends.{IsCourse, stopped-course}
@@ -16,7 +14,7 @@ use Rattle.alternating_theory.specs.Construction.{Part, abort_part, cut_obligati
 use Rattle.alternating_theory.specs.Obligations.{Obligation, obligation_at, numbered}
 use Rattle.alternating_theory.specs.Positive.{met}
 use Rattle.alternating_theory.proofs.MetLaws.{met-same, met-renumbered}
-use Rattle.alternating_theory.proofs.Parts.{end_of, IsPartOf}
+use Rattle.alternating_theory.proofs.Parts.{IsPartOf}
 use Rattle.alternating_theory.proofs.Values.{in-front, in-back, in-map}
 use Rattle.alternating_loops.proofs.Copies.{absorbed, said, later, copies-score, copies-value}
 use Rattle.alternating_loops.proofs.Scores.{Scored}

@@ -1,18 +1,16 @@
 -- Numbers above others, all of them accepting or none: their values are the least set, or the greatest,
 -- that their deltas give back.
-use Rattle.std.proofs.Common.{◌≡◌, ◌⊎◌, inl, inr, refl, sym, ap, ◌∙◌, subst, ℕ, zero, suc, ◌+◌, ◌-◌, ◌≤◌, ◌<◌, Bool as Truth, true, false, arith}
+use Rattle.std.proofs.Common.{◌≡◌, inl, inr, refl, sym, ap, ◌∙◌, subst, ℕ, ◌+◌, ◌-◌, ◌≤◌, ◌<◌, Bool as Truth, true, false, arith}
 use Rattle.std.specs.Prelude.{IsTrue, not, ◌&&◌, ◌||◌, nat_lt}
-use Rattle.std.proofs.lemmas.Bool.{both_ways, not-true, not-false, not_from_false, cases_lt, or_left, or_right, lt-ltb, le-ltb, and_parts, and_from, cases_Bool, true_from_ne_false, false_from_ne_true}
-use Rattle.psl_tree.specs.declared.letter.Letter.{Letter}
+use Rattle.std.proofs.lemmas.Bool.{both_ways, not-true, not-false, not_from_false, cases_lt, or_left, or_right, lt-ltb, and_parts, and_from, true_from_ne_false, false_from_ne_true}
 use Rattle.lasso_theory.specs.Courses.{Course}
 use Rattle.lasso_theory.proofs.Ends.{IsCourse}
 use Rattle.alternating_theory.specs.Obligations.{Obligation}
-use Rattle.alternating_theory.specs.Positive.{met, owes, OwesWithin}
-use Rattle.alternating_theory.proofs.MetLaws.{met-same, met-more}
+use Rattle.alternating_theory.specs.Positive.{met, OwesWithin}
+use Rattle.alternating_theory.proofs.MetLaws.{met-more}
 use Rattle.alternating_theory.proofs.Reached.{owed-within}
 use Rattle.alternating_loops.proofs.Flips.{not-twice}
-use Rattle.alternating_loops.proofs.MetOwed.{met-grows}
-use Rattle.alternating_loops.proofs.Rounds.{least, round, least-closed, least-falls, least-step, least-sound}
+use Rattle.alternating_loops.proofs.Rounds.{least, round, least-falls, least-step, least-sound}
 use Rattle.alternating_loops.proofs.Scores.{lower, AtEnds}
 use Rattle.alternating_loops.proofs.Splits.{below_or, below-left, below-right, Upper}
 
@@ -178,8 +176,11 @@ module _ (c : Course) (n top bottom : ℕ) (course : IsCourse c n top bottom) (l
       loses = λ p q i x y e v. placed (λ q. acc ≡ true → block_value p q ≡ false
           → met (look q).delta (c.letter p) (λ r. whole_value (c.next p) r || not (nat_lt r mid || lower level rank p q (c.next p) r)) ≡ false)
           (λ t h. block-loses p t i h) q x y (sym (accepting-is q x y) ∙ e) v;
-      falls = λ q r x y z o. inr (refl, (let w = owed-within low high (look q).delta (placed (λ q. OwesWithin low high (look q).delta) owing q x y) r o in
-          accepting-is r z w.1 ∙ sym (accepting-is q x y)));
+      falls = λ q r x y z o. inr (
+        refl,
+        (let w = owed-within low high (look q).delta (placed (λ q. OwesWithin low high (look q).delta) owing q x y) r o in
+            accepting-is r z w.1 ∙ sym (accepting-is q x y)),
+      );
       beneath = λ q x y. omega arith;
       ends = ends;
     }

@@ -11,8 +11,7 @@ use Rattle.lasso_theory.specs.Courses.{Course, stopped}
 use Rattle.lasso_theory.proofs.Ends.{IsCourse}
 use Rattle.alternating_theory.specs.Construction.{cut_obligation}
 use Rattle.alternating_theory.specs.Obligations.{Obligation}
-use Rattle.alternating_theory.specs.Positive.{Positive, met, owes, OwesWithin, renumbered}
-use Rattle.alternating_theory.proofs.Aborts.{same-test}
+use Rattle.alternating_theory.specs.Positive.{Positive, met, owes, OwesWithin}
 use Rattle.alternating_theory.proofs.MetLaws.{met-same, met-more, met-top, met-renumbered, within-renumbered}
 use Rattle.alternating_theory.proofs.Reached.{owed-within}
 use Rattle.alternating_loops.proofs.MetOwed.{owed-renumbered}
@@ -246,9 +245,9 @@ module _ (c : Course) (n top bottom : ℕ) (course : IsCourse c n top bottom) (b
       subst (λ (k : ℕ). Falls (q + size) k) (sym i.2) (elim (t.falls q i.0 x y i.1) as (λ _. Falls (q + size) (i.0 + size)) [
         | inl u ↦ inl (omega (arith, u, level-at i.0, level-at q))
         | inr u ↦ inr (
-            level-at i.0 ∙ u.0 ∙ sym (level-at q),
-            ap (λ (k : Obligation). k.accepting) (copied i.0 w.0 w.1) ∙ u.1 ∙ sym (ap (λ (k : Obligation). k.accepting) (copied q x y)),
-          )
+          level-at i.0 ∙ u.0 ∙ sym (level-at q),
+          ap (λ (k : Obligation). k.accepting) (copied i.0 w.0 w.1) ∙ u.1 ∙ sym (ap (λ (k : Obligation). k.accepting) (copied q x y)),
+        )
       ])
 
   copy-ends : AtEnds n top bottom mid high look' value

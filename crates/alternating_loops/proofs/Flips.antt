@@ -1,10 +1,9 @@
 -- The score of the opposite obligations, on the opposite course.
-use Rattle.std.proofs.Common.{◌≡◌, ◌⊎◌, inl, inr, refl, sym, ap, ◌∙◌, subst, ℕ, ◌≤◌, ◌<◌, Bool as Truth, true, false}
-use Rattle.std.specs.Prelude.{IsTrue, not, ◌&&◌, ◌||◌, nat_lt}
+use Rattle.std.proofs.Common.{◌≡◌, ◌⊎◌, inl, inr, refl, sym, ap, ◌∙◌, ℕ, ◌<◌, Bool as Truth, true, false}
+use Rattle.std.specs.Prelude.{IsTrue, not, ◌&&◌, ◌||◌}
 use Rattle.std.proofs.lemmas.Bool.{both_ways, not-true, not-false, not_from_true, not_from_false}
 use mathlib.Core.Path.{fun_ext}
 use Rattle.psl_meaning.specs.Trace.{dual_letter}
-use Rattle.psl_meaning.proofs.Traces.{dual_letter-twice}
 use Rattle.psl_tree.specs.declared.letter.Letter.{Letter}
 use Rattle.lasso_theory.specs.Courses.{Course, opposite}
 use Rattle.alternating_theory.specs.Construction.{opposite_obligation}
@@ -12,7 +11,7 @@ use Rattle.alternating_theory.specs.Obligations.{Obligation}
 use Rattle.alternating_theory.specs.Positive as positive
 use Rattle.alternating_theory.specs.Positive.{Positive, Const, Holds, Owed, And, Or, met, owes}
 use Rattle.alternating_theory.proofs.MetLaws.{met-opposite, within-opposite}
-use Rattle.alternating_loops.proofs.Scores.{lower, AtEnds, Scored}
+use Rattle.alternating_loops.proofs.Scores.{lower, Scored}
 
 pub not-twice : (a : Truth) → not (not a) ≡ a
 not-twice true = refl

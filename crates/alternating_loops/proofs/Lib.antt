@@ -2,8 +2,10 @@ pub mod AbortScoring
 pub mod Accepts
 pub mod Blocks
 pub mod Copies
+pub mod Final
 pub mod Flips
 pub mod Induction
+pub mod LawsHold
 pub mod MetOwed
 pub mod Pairs
 pub mod PrefixScoring
@@ -15,3 +17,4 @@ pub mod Splits
 pub mod Starts
 pub mod States
 pub mod SuffixScoring
+pub mod Trimming

@@ -1,7 +1,7 @@
 -- Laws of what meets a positive combination, told of the obligations that it owes.
-use Rattle.std.proofs.Common.{◌≡◌, ◌⊎◌, refl, sym, ℕ, ◌≤◌, ◌<◌, Bool as Truth, true, false, arith, inl, inr}
-use Rattle.std.specs.Prelude.{IsTrue, ◌&&◌, ◌||◌, ◌==◌}
-use Rattle.std.proofs.lemmas.Bool.{both_ways, or_cases, or_left, or_right, or_parts, and_parts, and_cases, and_from, eq-eqb, cases_Bool, false_from_ne_true}
+use Rattle.std.proofs.Common.{◌≡◌, refl, sym, ℕ, Bool as Truth, false, inl, inr}
+use Rattle.std.specs.Prelude.{IsTrue, ◌||◌}
+use Rattle.std.proofs.lemmas.Bool.{both_ways, or_cases, or_left, or_right, or_parts, and_parts, and_cases, and_from, eq-eqb, false_from_ne_true}
 use Rattle.psl_tree.specs.declared.letter.Letter.{Letter}
 use Rattle.alternating_theory.specs.Positive.{Positive, Const, Holds, Owed, And, Or, met, owes, renumbered}
 use Rattle.alternating_theory.proofs.Reached.{same-number}

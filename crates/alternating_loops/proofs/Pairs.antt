@@ -1,15 +1,12 @@
 -- The score of two parts that stand beside one another.
-use Rattle.std.proofs.Common.{◌≡◌, refl, sym, ap, ◌∙◌, subst, ℕ, ◌+◌, ◌≤◌, ◌<◌, Bool as Truth, List, length, arith}
-use Rattle.std.specs.Prelude.{IsTrue}
-use Rattle.psl_tree.specs.Trees.{Formula}
+use Rattle.std.proofs.Common.{◌≡◌, refl, ◌∙◌, ℕ, ◌+◌, ◌≤◌, ◌<◌, length, arith}
 use Rattle.lasso_theory.specs.Courses.{Course}
 use Rattle.alternating_theory.specs.Construction.{Part}
 use Rattle.alternating_theory.specs.Obligations.{Obligation, numbered}
-use Rattle.alternating_theory.specs.Positive.{met}
 use Rattle.alternating_theory.proofs.MetLaws.{met-same}
 use Rattle.alternating_theory.proofs.Parts.{end_of, IsRight}
 use Rattle.alternating_loops.proofs.Scores.{Scored}
-use Rattle.alternating_loops.proofs.Splits.{below_or, below-left, below-right, split-score, split-left, split-right, apart, apart-value}
+use Rattle.alternating_loops.proofs.Splits.{split-score, split-left, split-right, apart, apart-value}
 use Rattle.alternating_loops.proofs.Starts.{met_at, renamed, renamed-value}
 
 module _ (c : Course) (n top bottom offset : ℕ) (a b : Part) (look : ℕ → Obligation) (high : ℕ) (size : high ≡ offset + length a.rest + length b.rest)

@@ -1,34 +1,32 @@
 -- The scores of r! and of r.
-use Rattle.std.proofs.Common.{◌≡◌, ◌⊎◌, inl, inr, refl, sym, ap, ◌∙◌, subst, ℕ, zero, suc, ◌+◌, ◌-◌, ◌≤◌, ◌<◌, Bool as Truth, true, false, List, [], ◌∷◌, length, map, arith}
-use Rattle.std.specs.Prelude.{◌↔◌, IsTrue, not, ◌&&◌, nat_lt, None}
+use Rattle.std.proofs.Common.{◌≡◌, ◌⊎◌, inl, inr, refl, sym, ap, ◌∙◌, subst, ℕ, suc, ◌+◌, ◌-◌, ◌≤◌, ◌<◌, Bool as Truth, true, false, List, [], length, arith}
+use Rattle.std.specs.Prelude.{◌↔◌, IsTrue, not, ◌&&◌, nat_lt}
 use Rattle.std.proofs.lemmas.Bool.{both_ways, not-true, not_from_false, false_from_ne_true, cases_Bool, and_parts, and_from, ltb-true, lt-ltb}
 use Rattle.std.proofs.lemmas.List.{length-map}
 use Rattle.psl_meaning.specs.Clockless.{HasNoClock}
 use Rattle.psl_meaning.specs.Followed.{Tops, followed}
-use Rattle.psl_meaning.specs.Satisfaction.{Sat}
 use Rattle.psl_meaning.specs.Trace.{Trace, first, cut}
 use Rattle.psl_meaning.proofs.Choice.{from-exists, exists-map, iff-trans}
 use Rattle.psl_meaning.proofs.Traces.{cut-tops}
-use Rattle.psl_tree.specs.Trees.{Sequence, Formula, Strong, Weak}
+use Rattle.psl_tree.specs.Trees.{Sequence, Strong, Weak}
 use Rattle.psl_tree.specs.declared.letter.Letter.{Letter}
-use Rattle.sere_nfa.specs.Acceptance.{Edge, State, state_at, Steps, AcceptsFrom}
+use Rattle.sere_nfa.specs.Acceptance.{Edge, State, state_at, AcceptsFrom}
 use Rattle.sere_nfa.specs.Construction.{nfa_of}
-use Rattle.sere_nfa.proofs.Steps.{Steps-map, take-step, make-step}
-use Rattle.lasso_theory.specs.Courses.{Course, walk, read_from}
+use Rattle.sere_nfa.proofs.Steps.{take-step, make-step}
+use Rattle.lasso_theory.specs.Courses.{Course, read_from}
 use Rattle.lasso_theory.proofs.Cells.{start_of, Ends, To, Reads, Hits, Lasts, hits-here, hits-later, hits-least, hits-strong, lasts-weak, lasts-most, lasts-falls, cut-place, cut-read, reads-split}
 use Rattle.lasso_theory.proofs.Ends.{IsCourse}
 use Rattle.lasso_theory.proofs.Walks.{first-read, read-tops}
 use Rattle.alternating_theory.specs.Construction.{prefix_part, prefix_obligation, taken}
 use Rattle.alternating_theory.specs.Going.{goes_on, entry}
-use Rattle.alternating_theory.specs.Obligations.{Obligation, numbered}
+use Rattle.alternating_theory.specs.Obligations.{Obligation}
 use Rattle.alternating_theory.specs.Positive.{met, OwesWithin}
 use Rattle.alternating_theory.proofs.Aborts.{same-test}
-use Rattle.alternating_theory.proofs.Edges.{LeadBelow}
 use Rattle.alternating_theory.proofs.MetLaws.{met-same, within-wider}
 use Rattle.alternating_theory.proofs.Parts.{end_of}
 use Rattle.alternating_theory.proofs.Sequences.{nfa-below, prefix-look, prefix-placed}
 use Rattle.alternating_theory.proofs.Taken.{GoesOn, taken-steps, steps-taken, taken-within}
-use Rattle.alternating_loops.proofs.Blocks.{turn, with_block, found, block_value, whole_value, block-at, block-step, block-sound, block, block-value}
+use Rattle.alternating_loops.proofs.Blocks.{turn, with_block, found, block_value, block-at, block-step, block-sound, block, block-value}
 use Rattle.alternating_loops.proofs.Scores.{AtEnds, Scored}
 use Rattle.alternating_loops.proofs.Splits.{below_or, below-right, split-score, split-value}
 use Rattle.alternating_loops.proofs.Starts.{met_at, ScoredPart, IsScored, no-score}
@@ -87,11 +85,14 @@ module _ (offset : ℕ) (end : Truth) (r : Sequence) (h : HasNoClock r) (c : Cou
   steps-there f p t l v =
       let s = take-step (state_at states t).edges (c.letter p) (λ k. Ends states k ⊎ (GoesOn states k × IsTrue (given f (c.next p) (offset + k))))
       (taken-steps states offset (c.letter p) (λ q. given f (c.next p) q) (state_at states t).edges
-      (subst (λ (o : Obligation). IsTrue (met o.delta (c.letter p) (λ q. given f (c.next p) q))) (prefix-placed offset end r h t l) v)) in
-      (s.0, s.1, elim s.2 as (λ _. Ends states s.0 ⊎ (GoesOn states s.0 × IsTrue (turn end (f (c.next p) s.0)))) [
-        | inl a ↦ inl a
-        | inr a ↦ inr (a.0, sym (given-at f (c.next p) s.0) ∙ a.1)
-      ])
+      (subst (λ (o : Obligation). IsTrue (met o.delta (c.letter p) (λ q. given f (c.next p) q))) (prefix-placed offset end r h t l) v)) in (
+        s.0,
+        s.1,
+        elim s.2 as (λ _. Ends states s.0 ⊎ (GoesOn states s.0 × IsTrue (turn end (f (c.next p) s.0)))) [
+          | inl a ↦ inl a
+          | inr a ↦ inr (a.0, sym (given-at f (c.next p) s.0) ∙ a.1)
+        ],
+      )
 
   pub steps-back : (f : ℕ → ℕ → Truth) (p t k : ℕ) → t < many → To states t (c.letter p) k → (Ends states k ⊎ (GoesOn states k × IsTrue (turn end (f (c.next p) k))))
       → IsTrue (met (look (offset + t)).delta (c.letter p) (λ q. given f (c.next p) q))
@@ -249,12 +250,18 @@ module _ (offset : ℕ) (r : Sequence) (h : HasNoClock r) (c : Course) (n top bo
   weak-lasts = lasts-most (nfa_of r).states c n course.next_below alive (λ p t l v.
       (let parts = and_parts (nat_lt t (length (nfa_of r).states)) (not (dead p t)) v in
       let m = ltb-true t (length (nfa_of r).states) parts.0 in
-      let s = steps-there offset true r h c n top bottom course dead p t m (sym (seen-step offset true r h c n top bottom course p t l m) ∙ parts.1) in
-      (s.0, s.1, elim s.2 as (λ _. Ends (nfa_of r).states s.0 ⊎ (Reads (nfa_of r).states (followed [] Tops) s.0 × IsTrue (alive (c.next p) s.0))) [
-        | inl a ↦ inl a
-        | inr a ↦ inr (live-tops (nfa_of r).states (nfa-below r h) s.0 a.0, and_from (nat_lt s.0 (length (nfa_of r).states)) (not (dead (c.next p) s.0))
-            (lt-ltb s.0 (length (nfa_of r).states) (to-below (nfa_of r).states (nfa-below r h) t (c.letter p) s.0 s.1)) a.1)
-      ])))
+      let s = steps-there offset true r h c n top bottom course dead p t m (sym (seen-step offset true r h c n top bottom course p t l m) ∙ parts.1) in (
+        s.0,
+        s.1,
+        elim s.2 as (λ _. Ends (nfa_of r).states s.0 ⊎ (Reads (nfa_of r).states (followed [] Tops) s.0 × IsTrue (alive (c.next p) s.0))) [
+          | inl a ↦ inl a
+          | inr a ↦ inr (
+            live-tops (nfa_of r).states (nfa-below r h) s.0 a.0,
+            and_from (nat_lt s.0 (length (nfa_of r).states)) (not (dead (c.next p) s.0))
+                (lt-ltb s.0 (length (nfa_of r).states) (to-below (nfa_of r).states (nfa-below r h) t (c.letter p) s.0 s.1)) a.1,
+          )
+        ],
+      )))
 
   weak-means : (p t : ℕ) → p < n → t < length (nfa_of r).states → IsTrue (not (dead p t)) ↔ Last p t
   weak-means p t l m = (

@@ -1,7 +1,7 @@
 -- The least set of pairs of a place and a number that an operation gives back, reached round by round.
 use Rattle.std.proofs.Common.{◌≡◌, ◌⊎◌, inl, inr, refl, sym, ap, ◌∙◌, subst, ℕ, zero, suc, ◌+◌, ◌-◌, ◌*◌, ◌/◌, ◌%◌, ◌≤◌, ◌<◌, Bool as Truth, true, false, arith}
 use Rattle.std.specs.Prelude.{IsTrue, ◌&&◌, ◌||◌, nat_lt, if◌then◌else◌}
-use Rattle.std.proofs.lemmas.Bool.{both_ways, or_cases, or_left, or_right, and_from, lt-ltb, cases_Bool, cases_lt, cases_eq}
+use Rattle.std.proofs.lemmas.Bool.{both_ways, or_cases, or_left, or_right, and_from, lt-ltb, cases_lt}
 use Rattle.std.proofs.lemmas.Nat.{div-mul-add, mod-mul-add, mul-add-lt, div_below, mod_below}
 use Rattle.alternating_theory.proofs.Aborts.{same-test}
 use Rattle.alternating_theory.proofs.Settled.{SameBelow, settled}

@@ -1,5 +1,5 @@
 -- The scores of b, b!, not f, f && g, X! f and f U g.
-use Rattle.std.proofs.Common.{◌≡◌, inl, inr, refl, sym, ap, ◌∙◌, subst, ℕ, zero, suc, ◌+◌, ◌-◌, ◌≤◌, ◌<◌, Bool as Truth, true, false, List, [], ◌∷◌, ◌++◌, length, map, arith}
+use Rattle.std.proofs.Common.{◌≡◌, inl, inr, refl, sym, ap, ◌∙◌, subst, ℕ, ◌+◌, ◌-◌, ◌≤◌, ◌<◌, Bool as Truth, true, false, [], ◌∷◌, ◌++◌, length, arith}
 use Rattle.std.specs.Prelude.{◌↔◌, IsTrue, not, ◌&&◌, ◌||◌, None}
 use Rattle.std.proofs.lemmas.Bool.{both_ways, not-true, or_cases, or_left, or_right, and_parts, and_from}
 use Rattle.std.proofs.lemmas.List.{length-append, length-map}
@@ -9,25 +9,23 @@ use Rattle.psl_meaning.specs.Trace.{Trace}
 use Rattle.psl_meaning.proofs.Choice.{iff-trans}
 use Rattle.psl_meaning.proofs.Values.{fails}
 use Rattle.psl_tree.specs.Trees.{Boolean, Formula, Now, NowStrong, Not, And, Next, Until}
-use Rattle.psl_tree.specs.declared.letter.Letter.{Letter}
 use Rattle.lasso_theory.specs.Courses.{Course, read_from, opposite}
-use Rattle.lasso_theory.proofs.Ends.{IsCourse, opposite-course}
+use Rattle.lasso_theory.proofs.Ends.{opposite-course}
 use Rattle.lasso_theory.proofs.Reaching.{Reaches, reaches-until, reaches-here, reaches-later, reaches-least}
 use Rattle.lasso_theory.proofs.Walks.{suffix-next}
 use Rattle.alternating_theory.specs.Construction.{Part, now_part, not_part, and_part, next_part, until_part, opposite_obligation, with_letter, until_obligation}
 use Rattle.alternating_theory.specs.Obligations.{Obligation, numbered}
 use Rattle.alternating_theory.specs.Positive.{met, OwesWithin}
-use Rattle.alternating_theory.proofs.Joined.{next-is}
 use Rattle.alternating_theory.proofs.MetLaws.{met-same, within-wider}
-use Rattle.alternating_theory.proofs.Parts.{end_of, IsRight, IsPartOf}
+use Rattle.alternating_theory.proofs.Parts.{end_of, IsPartOf}
 use Rattle.alternating_theory.proofs.Untils.{until-is}
 use Rattle.alternating_theory.proofs.Values.{in-front, in-back, in-map}
-use Rattle.alternating_loops.proofs.Blocks.{turn, with_block}
+use Rattle.alternating_loops.proofs.Blocks.{with_block}
 use Rattle.alternating_loops.proofs.Flips.{flipped-score, flipped-value, met-turned, not-twice}
-use Rattle.alternating_loops.proofs.Pairs.{pair-score, pair-left, pair-right, left-start, right-start}
+use Rattle.alternating_loops.proofs.Pairs.{pair-score, left-start, right-start}
 use Rattle.alternating_loops.proofs.Scores.{Scored}
 use Rattle.alternating_loops.proofs.Singles.{single_value, single_found, single_whole, single-kind, single-within, single-step, single-at, single-sound, single, single-whole}
-use Rattle.alternating_loops.proofs.Splits.{below_or, below-left, below-right, split-score, split-value, split-left, split-right}
+use Rattle.alternating_loops.proofs.Splits.{below-left, below-right, split-score, split-value}
 use Rattle.alternating_loops.proofs.Starts.{met_at, ScoredPart, IsScored, IsStart, start-is, renamed, renamed-value, no-score}
 
 now-scored : (offset : ℕ) (end : Truth) (b : Boolean) (c : Course) (n top bottom : ℕ) → Scored c n top bottom offset (end_of offset (now_part end b)) (numbered offset [])

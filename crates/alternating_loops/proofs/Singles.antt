@@ -1,7 +1,6 @@
 -- One number above others.
-use Rattle.std.proofs.Common.{◌≡◌, refl, sym, ap, ◌∙◌, subst, ℕ, zero, suc, ◌+◌, ◌-◌, ◌≤◌, ◌<◌, Bool as Truth, true, false, arith}
+use Rattle.std.proofs.Common.{◌≡◌, sym, ap, ◌∙◌, subst, ℕ, ◌+◌, ◌-◌, ◌≤◌, ◌<◌, Bool as Truth, arith}
 use Rattle.std.specs.Prelude.{IsTrue}
-use Rattle.psl_tree.specs.declared.letter.Letter.{Letter}
 use Rattle.lasso_theory.specs.Courses.{Course}
 use Rattle.lasso_theory.proofs.Ends.{IsCourse}
 use Rattle.alternating_theory.specs.Obligations.{Obligation}

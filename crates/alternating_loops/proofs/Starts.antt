@@ -1,12 +1,11 @@
 -- Parts with scores on every course: the start is met exactly where the course's trace satisfies the formula.
-use Rattle.std.proofs.Common.{◌≡◌, ◌⊎◌, inl, inr, refl, sym, ap, ◌∙◌, subst, ℕ, ◌+◌, ◌≤◌, ◌<◌, Bool as Truth, true, false, List, [], arith}
+use Rattle.std.proofs.Common.{◌≡◌, ◌⊎◌, inl, inr, refl, sym, ap, ◌∙◌, subst, ℕ, ◌≤◌, ◌<◌, Bool as Truth, false, [], arith}
 use Rattle.std.specs.Prelude.{◌↔◌, IsTrue, not, ◌&&◌, ◌||◌, None}
 use Rattle.psl_meaning.specs.Clockless.{IsPlain}
 use Rattle.psl_meaning.specs.Followed.{Tops, Bottoms, followed}
 use Rattle.psl_meaning.specs.Satisfaction.{Sat}
 use Rattle.psl_meaning.specs.Trace.{Trace}
 use Rattle.psl_tree.specs.Trees.{Formula}
-use Rattle.psl_tree.specs.declared.letter.Letter.{Letter}
 use Rattle.lasso_theory.specs.Courses.{Course, walk, read_from}
 use Rattle.lasso_theory.proofs.Ends.{IsCourse}
 use Rattle.lasso_theory.proofs.Raised.{raised, below-tops, above-bottoms}
@@ -18,7 +17,7 @@ use Rattle.alternating_theory.proofs.Aborts.{same-test}
 use Rattle.alternating_theory.proofs.MetLaws.{within-wider}
 use Rattle.alternating_theory.proofs.Parts.{end_of, IsPartOf}
 use Rattle.alternating_theory.proofs.Reached.{owed-within}
-use Rattle.alternating_loops.proofs.Scores.{lower, AtEnds, Scored}
+use Rattle.alternating_loops.proofs.Scores.{lower, Scored}
 
 -- what an obligation is at a place, where these are the values at the next place
 abbrev pub met_at : Course → Obligation → (ℕ → ℕ → Truth) → ℕ → Truth

@@ -1,7 +1,7 @@
 -- The states of a sequence's automaton: which are in use, and from which a path leads on.
-use Rattle.std.proofs.Common.{◌≡◌, inl, inr, refl, sym, ap, ◌∙◌, subst, ℕ, zero, suc, ◌+◌, ◌≤◌, ◌<◌, Bool as Truth, false, List, [], ◌∷◌, ◌++◌, length, arith}
+use Rattle.std.proofs.Common.{◌≡◌, inl, inr, refl, ap, subst, ℕ, zero, suc, ◌≤◌, ◌<◌, List, [], ◌∷◌, ◌++◌, length, arith}
 use Rattle.std.specs.Prelude.{IsTrue}
-use Rattle.std.proofs.lemmas.Bool.{cases_lt, both_ways}
+use Rattle.std.proofs.lemmas.Bool.{cases_lt}
 use Rattle.std.proofs.lemmas.List.Elements.{recursion_from_All}
 use Rattle.psl_meaning.specs.Clockless.{HasNoClock}
 use Rattle.psl_meaning.specs.Followed.{Tops, followed}
@@ -16,11 +16,10 @@ use Rattle.sere_nfa.specs.Construction.{nfa_of}
 use Rattle.sere_nfa.proofs.Automata.{finished-sound}
 use Rattle.sere_nfa.proofs.Means.{part-means}
 use Rattle.sere_nfa.proofs.Steps.{take-step}
-use Rattle.lasso_theory.proofs.Cells.{start_of, Ends, To, Reads}
+use Rattle.lasso_theory.proofs.Cells.{start_of, To, Reads}
 use Rattle.alternating_theory.specs.Going.{goes_on, entry}
 use Rattle.alternating_theory.proofs.Edges.{LeadBelow, on-goes, step-below, step-bottom}
 use Rattle.alternating_theory.proofs.Reading.{goes-reads, on-accepts, accepts-on}
-use Rattle.alternating_theory.proofs.Sequences.{nfa-below}
 
 edges-nil : (es : List Edge) → es ++ [] ≡ es
 edges-nil [] = refl

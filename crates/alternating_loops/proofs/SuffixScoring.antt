@@ -1,5 +1,5 @@
 -- The score of r |-> f.
-use Rattle.std.proofs.Common.{◌≡◌, inl, inr, refl, sym, ap, ◌∙◌, subst, ℕ, zero, suc, ◌+◌, ◌-◌, ◌≤◌, ◌<◌, Bool as Truth, true, false, List, [], ◌∷◌, ◌++◌, length, map, arith}
+use Rattle.std.proofs.Common.{◌≡◌, inl, inr, refl, sym, ap, ◌∙◌, subst, ℕ, suc, ◌+◌, ◌-◌, ◌≤◌, ◌<◌, Bool as Truth, true, false, List, [], ◌++◌, length, map, arith}
 use Rattle.std.specs.Prelude.{◌↔◌, IsTrue, not, ◌&&◌, ◌||◌, nat_lt, None}
 use Rattle.std.proofs.lemmas.Bool.{both_ways, not-true, not_from_false, false_from_ne_true, cases_Bool, and_parts, and_from, or_cases, or_left, or_right, ltb-true, lt-ltb}
 use Rattle.std.proofs.lemmas.List.{length-append, length-map}
@@ -10,13 +10,12 @@ use Rattle.psl_meaning.specs.Trace.{Trace, dual_letter, first}
 use Rattle.psl_meaning.proofs.Choice.{from-exists, iff-trans}
 use Rattle.psl_tree.specs.Trees.{Sequence, Formula, Suffix}
 use Rattle.psl_tree.specs.declared.letter.Letter.{Letter}
-use Rattle.psl_tree.specs.declared.letter.Letter.TheVariants.{Bottom}
 use Rattle.sere_nfa.specs.Acceptance.{Edge, State, state_at, AcceptsFrom}
 use Rattle.sere_nfa.specs.Construction.{nfa_of}
 use Rattle.sere_nfa.proofs.Steps.{take-step}
 use Rattle.lasso_theory.specs.Courses.{Course, walk, read_from, opposite}
 use Rattle.lasso_theory.proofs.Cells.{start_of, Ends, To, Follows, follows-here, follows-later, follows-most, follows-suffix}
-use Rattle.lasso_theory.proofs.Ends.{IsCourse, opposite-course}
+use Rattle.lasso_theory.proofs.Ends.{IsCourse}
 use Rattle.lasso_theory.proofs.Walks.{first-read, read-tops, walk-stays}
 use Rattle.alternating_theory.specs.Construction.{Part, suffix_part, suffix_obligation, going, quiet}
 use Rattle.alternating_theory.specs.Going.{goes_on, entry}
@@ -24,7 +23,7 @@ use Rattle.alternating_theory.specs.Obligations.{Obligation, numbered}
 use Rattle.alternating_theory.specs.Positive.{met, OwesWithin}
 use Rattle.alternating_theory.proofs.Aborts.{same-test}
 use Rattle.alternating_theory.proofs.MetLaws.{met-same, within-wider}
-use Rattle.alternating_theory.proofs.Parts.{end_of, IsPartOf}
+use Rattle.alternating_theory.proofs.Parts.{IsPartOf}
 use Rattle.alternating_theory.proofs.Sequences.{nfa-below, placed-at}
 use Rattle.alternating_theory.proofs.Taken.{GoesOn, going-tells, tells-going, quiet-tells, tells-quiet, going-within, quiet-within}
 use Rattle.alternating_theory.proofs.Values.{in-front, in-back}
@@ -32,7 +31,7 @@ use Rattle.alternating_loops.proofs.Blocks.{with_block, found, block_value, bloc
 use Rattle.alternating_loops.proofs.Scores.{AtEnds, Scored}
 use Rattle.alternating_loops.proofs.Splits.{below_or, below-left, below-right, split-score, split-value}
 use Rattle.alternating_loops.proofs.Starts.{met_at, ScoredPart, IsScored, IsStart, start-is, renamed, renamed-value}
-use Rattle.alternating_loops.proofs.States.{entry-is, start-below, from-below, to-below, Live, live, live-tops, none-bottom}
+use Rattle.alternating_loops.proofs.States.{entry-is, start-below, to-below, Live, live, live-tops, none-bottom}
 
 module _ (offset : ℕ) (r : Sequence) (h : HasNoClock r) (a : Part) (f : Formula) (is : IsPartOf offset a f) (plain : IsPlain f)
     (c : Course) (n top bottom : ℕ) (course : IsCourse c n top bottom) (t : ScoredPart c n top bottom offset a f) where
