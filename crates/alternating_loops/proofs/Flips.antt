@@ -10,6 +10,7 @@ use Rattle.alternating_theory.specs.Construction.{opposite_obligation}
 use Rattle.alternating_theory.specs.Obligations.{Obligation}
 use Rattle.alternating_theory.specs.Positive as positive
 use Rattle.alternating_theory.specs.Positive.{Positive, Const, Holds, Owed, And, Or, met, owes}
+use Rattle.alternating_theory.proofs.Duals.{owes-opposite}
 use Rattle.alternating_theory.proofs.MetLaws.{met-opposite, within-opposite}
 use Rattle.alternating_loops.proofs.Scores.{lower, Scored}
 
@@ -25,13 +26,6 @@ not-or : (a b : Truth) → not (not a || not b) ≡ (a && b)
 not-or true true = refl
 not-or true false = refl
 not-or false b = refl
-
-pub owes-opposite : (p : Positive) (q : ℕ) → owes (positive.opposite p) q ≡ owes p q
-owes-opposite (Const v) q = refl
-owes-opposite (Holds b) q = refl
-owes-opposite (Owed n) q = refl
-owes-opposite (And p r) q = let a = owes-opposite p q in let b = owes-opposite r q in cc
-owes-opposite (Or p r) q = let a = owes-opposite p q in let b = owes-opposite r q in cc
 
 -- the opposite is met on a letter where the dual letter does not meet the combination with the negated values
 pub met-turned : (d : Positive) (x : Letter) (f g : ℕ → Truth) → ((r : ℕ) → not (f r) ≡ g r) → met (positive.opposite d) x f ≡ not (met d (dual_letter x) g)

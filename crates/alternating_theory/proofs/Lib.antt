@@ -6,6 +6,7 @@ pub mod Edges
 pub mod Joined
 pub mod Kept
 pub mod Means
+pub mod Duals
 pub mod LawsHold
 pub mod MetLaws
 pub mod Opposites

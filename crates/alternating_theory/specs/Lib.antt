@@ -1,4 +1,5 @@
 pub mod Construction
+pub mod Dual
 pub mod Going
 pub mod Laws
 pub mod Obligations

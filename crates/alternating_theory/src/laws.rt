@@ -1,5 +1,7 @@
-ghost use Rattle.psl_tree.specs.Trees.{Formula};
+ghost use Rattle.std.specs.Prelude.{◌≡◌};
+ghost use Rattle.psl_tree.specs.Trees.{Formula, Not};
 ghost use Rattle.alternating_theory.specs.Construction.{HasNoClock};
+ghost use Rattle.alternating_theory.specs.Dual.{opposite_automaton};
 ghost use Rattle.alternating_theory.specs.Laws.{ValuesOf, NamesOf, SizeOf};
 ghost use Rattle.alternating_theory.specs.Rows.{SizeRows};
 ghost use Rattle.alternating_theory.specs.Trimmed.{built};
@@ -12,6 +14,13 @@ pub fn automaton_means_formula()
     ensures values { (formula : Formula) → HasNoClock formula → ValuesOf (built formula) formula }
     ensures names { (formula : Formula) → HasNoClock formula → NamesOf (built formula) }
     ensures size { (formula : Formula) → HasNoClock formula → SizeOf (built formula) formula }
+{}
+
+/// A law: the dual of the automaton of a formula is the automaton of its negation, obligation by
+/// obligation.
+#[tactic(auto, using(crate::proofs::Duals::opposite_built))]
+pub fn dual_is_negation()
+    ensures { (formula : Formula) → opposite_automaton (built formula) ≡ built (Not formula) }
 {}
 
 /// Worked examples of the construction, as a law: how many obligations some formulas have.
