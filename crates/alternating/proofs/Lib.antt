@@ -1,4 +1,5 @@
 pub mod Built
+pub mod Duals
 pub mod Edges
 pub mod Search
 pub mod Shown

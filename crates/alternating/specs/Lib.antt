@@ -3,6 +3,7 @@ pub mod Atoms
 pub mod Beyonds
 pub mod Codes
 pub mod Limits
+pub mod Negations
 pub mod Packed
 pub mod Search
 pub mod Stages

@@ -3,6 +3,7 @@ ghost use Rattle.psl_meaning.specs.Clockless.{IsPlain};
 ghost use Rattle.psl_meaning.specs.Followed.{Nothing, Tops, Bottoms};
 ghost use Rattle.psl_tree.specs.Counts.{obligations_of, states_of};
 ghost use Rattle.psl_tree.specs.Trees.{formula_of, sequence_of};
+ghost use Rattle.alternating_loops.specs.Laws.{LoopsOf};
 ghost use Rattle.alternating_theory.specs.Laws.{ValuesOf, NamesOf, SizeOf};
 ghost use Rattle.alternating_theory.specs.Obligations.{obligation_at};
 ghost use Rattle.alternating_theory.specs.Positive.{OwesWithin};
@@ -45,8 +46,8 @@ pub enum AltFault {
 /// that is owed at the first place.
 #[derive(Debug, Drop)]
 pub struct Alternating {
-    start: u32,
-    obligations: Vec<Obligation>,
+    pub(crate) start: u32,
+    pub(crate) obligations: Vec<Obligation>,
 }
 
 impl Model for Alternating {
@@ -172,13 +173,15 @@ impl Alternating {
 
 /// The alternating automaton of a formula without clocks and synchronous aborts. On every finite word
 /// its value is satisfaction in the neutral view, with `top` past the last place in the weak view and
-/// with `bottom` in the strong view (IEEE 1850, Annex B). `SereTooLarge` comes exactly where a
-/// sequence of the formula counts more than 1,024 states; `AutomatonTooLarge` where none does and the
-/// formula counts more than 2,048 obligations.
+/// with `bottom` in the strong view (IEEE 1850, Annex B). It accepts each word with a loop exactly where
+/// the word satisfies the formula. `SereTooLarge` comes exactly where a sequence of the formula counts
+/// more than 1,024 states; `AutomatonTooLarge` where none does and the formula counts more than 2,048
+/// obligations.
 pub fn of(alloc: Global, f: &Fl) -> Result<Alternating, AltFault>
     requires { IsPlain (formula_of f.now) }
     ensures built { IfOk result (λ automaton. automaton ≡ built (formula_of f.now)) }
     ensures values { IfOk result (λ automaton. ValuesOf automaton (formula_of f.now)) }
+    ensures loops { IfOk result (λ automaton. LoopsOf automaton (formula_of f.now)) }
     ensures names { IfOk result (λ automaton. NamesOf automaton) }
     ensures size { IfOk result (λ automaton. SizeOf automaton (formula_of f.now)) }
     ensures atoms { IfOk result (λ automaton. KeepsAtoms automaton (formula_of f.now)) }

@@ -6,6 +6,7 @@
 mod abort;
 mod automaton;
 mod build;
+mod dual;
 mod laws;
 mod letter;
 mod marking;

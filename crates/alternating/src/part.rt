@@ -45,7 +45,11 @@ pub(crate) fn not(alloc: Global, part: &Part) -> Result<Box<Part>, NoMemory>
     boxed(alloc, Part { start, rest })
 }
 
-fn opposites(alloc: Global, obligations: &[Obligation]) -> Result<Vec<Obligation>, NoMemory>
+/// The duals of obligations, in order.
+pub(crate) fn opposites(
+    alloc: Global,
+    obligations: &[Obligation],
+) -> Result<Vec<Obligation>, NoMemory>
     ensures { IfOk result (λ new. obligations_of_code new.items ≡ map opposite_obligation (obligations_of_code obligations.now)) }
 {
     let mut found = Vec::new(alloc);

@@ -232,6 +232,17 @@ fn aborts_have_the_values_of_the_standard(rt: HostRuntime) -> Result<(), Fail> {
     Ok(())
 }
 
+#[test]
+fn duals_have_the_values_of_the_negation(rt: HostRuntime) -> Result<(), Fail> {
+    let alloc = rt.alloc();
+    let automaton = of(alloc, &handshake(alloc)?)?;
+    let dual = automaton.dual(alloc)?;
+    assert_eq!(rt; dual.len(), automaton.len());
+    assert_eq!(rt; views(alloc, &dual, &[1, 0])?, [true, true, true]);
+    assert_eq!(rt; views(alloc, &dual, &[1, 2])?, [false, true, false]);
+    Ok(())
+}
+
 // {a;a;..}
 fn in_a_row(alloc: Global, count: u32) -> Result<Sere, NoMemory>
     ensures { IfOk result (λ new. HasNoClock (sequence_of new)) }
