@@ -55,18 +55,18 @@ map-front : (b : Truth) (o : Obligation) (os : List Obligation) → (if b then o
 map-front true o os = refl
 map-front false o os = refl
 
-kept-opposite : (test : ℕ → Truth) (os : List Obligation) → kept test (map opposite_obligation os) ≡ map opposite_obligation (kept test os)
+pub kept-opposite : (test : ℕ → Truth) (os : List Obligation) → kept test (map opposite_obligation os) ≡ map opposite_obligation (kept test os)
 kept-opposite test [] = refl
 kept-opposite test (o ∷ os) =
     ap (λ (l : List Obligation). (if test zero then opposite_obligation o ∷ [] else []) ++ l) (kept-opposite (λ q. test (suc q)) os)
     ∙ map-front (test zero) o (kept (λ q. test (suc q)) os)
 
-one-renumbered : (new : ℕ → ℕ) (o : Obligation) → renumbered_obligation new (opposite_obligation o) ≡ opposite_obligation (renumbered_obligation new o)
+pub one-renumbered : (new : ℕ → ℕ) (o : Obligation) → renumbered_obligation new (opposite_obligation o) ≡ opposite_obligation (renumbered_obligation new o)
 one-renumbered new o =
     ap (λ (d : Positive). let made : Obligation = record { delta = d; accepting = (opposite_obligation o).accepting; end = (opposite_obligation o).end; top = (opposite_obligation o).top; bottom = (opposite_obligation o).bottom } in made)
     (renumbered-opposite new o.delta)
 
-all-renumbered : (new : ℕ → ℕ) (os : List Obligation)
+pub all-renumbered : (new : ℕ → ℕ) (os : List Obligation)
     → map (λ o. renumbered_obligation new o) (map opposite_obligation os) ≡ map opposite_obligation (map (λ o. renumbered_obligation new o) os)
 all-renumbered new [] = refl
 all-renumbered new (o ∷ os) = let a = one-renumbered new o in let b = all-renumbered new os in cc

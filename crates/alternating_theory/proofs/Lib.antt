@@ -8,12 +8,15 @@ pub mod Kept
 pub mod Means
 pub mod Duals
 pub mod LawsHold
+pub mod MergedDuals
+pub mod Merges
 pub mod MetLaws
 pub mod Opposites
 pub mod Parts
 pub mod Prefixes
 pub mod Reached
 pub mod Reading
+pub mod Same
 pub mod Sequences
 pub mod Settled
 pub mod Suffixes

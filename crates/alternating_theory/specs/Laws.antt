@@ -1,6 +1,6 @@
 -- What holds of the automaton of each formula without clocks.
 use Rattle.std.specs.Prelude.{◌≡◌, ◌↔◌, ◌≤◌, ◌<◌, ◌+◌, ℕ, List, [], length, IsTrue, None}
-use Rattle.psl_meaning.specs.Followed.{Nothing, Tops, Bottoms}
+use Rattle.psl_meaning.specs.Followed.{Past, Nothing, Tops, Bottoms}
 use Rattle.psl_meaning.specs.Satisfaction.{Sat}
 use Rattle.psl_meaning.specs.Trace.{trace_of}
 use Rattle.psl_meaning.specs.Views.{weak, neutral, strong}
@@ -31,3 +31,10 @@ pub record NamesOf (automaton : Automaton) : Type 0 where
 -- it has at most as many obligations as the formula counts
 abbrev pub SizeOf : Automaton → Formula → Type 0
 SizeOf automaton formula = length automaton.obligations ≤ obligations_of formula
+
+-- another automaton has the same value on each finite word in each view, its numbers are right, and it is
+-- no longer
+pub record KeepsValues (automaton other : Automaton) : Type 0 where
+  pub values : (past : Past) (letters : List Letter) → value_on other past letters ≡ value_on automaton past letters
+  pub names : NamesOf other
+  pub fewer : length other.obligations ≤ length automaton.obligations

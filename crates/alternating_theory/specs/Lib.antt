@@ -2,6 +2,7 @@ pub mod Construction
 pub mod Dual
 pub mod Going
 pub mod Laws
+pub mod Merged
 pub mod Obligations
 pub mod Positive
 pub mod Rows

@@ -1,8 +1,10 @@
-ghost use Rattle.std.specs.Prelude.{◌≡◌};
+ghost use Rattle.std.specs.Prelude.{◌≡◌, ℕ};
 ghost use Rattle.psl_tree.specs.Trees.{Formula, Not};
 ghost use Rattle.alternating_theory.specs.Construction.{HasNoClock};
 ghost use Rattle.alternating_theory.specs.Dual.{opposite_automaton};
-ghost use Rattle.alternating_theory.specs.Laws.{ValuesOf, NamesOf, SizeOf};
+ghost use Rattle.alternating_theory.specs.Laws.{ValuesOf, NamesOf, SizeOf, KeepsValues};
+ghost use Rattle.alternating_theory.specs.Merged.{merged_by};
+ghost use Rattle.alternating_theory.specs.Obligations.{Automaton};
 ghost use Rattle.alternating_theory.specs.Rows.{SizeRows};
 ghost use Rattle.alternating_theory.specs.Trimmed.{built};
 
@@ -21,6 +23,14 @@ pub fn automaton_means_formula()
 #[tactic(auto, using(crate::proofs::Duals::opposite_built))]
 pub fn dual_is_negation()
     ensures { (formula : Formula) → opposite_automaton (built formula) ≡ built (Not formula) }
+{}
+
+/// A law: merging by any classes keeps the values and what the numbers are, and changes places with the
+/// dual.
+#[tactic(auto, using(crate::proofs::Merges::merging_keeps, crate::proofs::MergedDuals::merged_opposite))]
+pub fn merging_keeps_values()
+    ensures keeps { (automaton : Automaton) → NamesOf automaton → (class : ℕ → ℕ) → KeepsValues automaton (merged_by class automaton) }
+    ensures duals { (class : ℕ → ℕ) → (automaton : Automaton) → merged_by class (opposite_automaton automaton) ≡ opposite_automaton (merged_by class automaton) }
 {}
 
 /// Worked examples of the construction, as a law: how many obligations some formulas have.

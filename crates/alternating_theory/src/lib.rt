@@ -4,4 +4,4 @@
 
 mod laws;
 
-pub use laws::{automaton_means_formula, dual_is_negation, worked_sizes};
+pub use laws::{automaton_means_formula, dual_is_negation, merging_keeps_values, worked_sizes};
