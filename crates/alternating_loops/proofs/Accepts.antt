@@ -13,15 +13,15 @@ use Rattle.alternating_loops.specs.Acceptance.{serves, IsRun, AcceptsAlong}
 use Rattle.alternating_loops.proofs.MetOwed.{met-grows, met-gap}
 use Rattle.alternating_loops.proofs.Scores.{lower, Scored}
 
-some-of : (o : Option ℕ) → IsTrue (is_some o) → (k : ℕ) × (o ≡ Some k)
+pub some-of : (o : Option ℕ) → IsTrue (is_some o) → (k : ℕ) × (o ≡ Some k)
 some-of None h = absurd (both_ways false refl h)
 some-of (Some k) h = (k, refl)
 
-is-some : (o : Option ℕ) (k : ℕ) → o ≡ Some k → IsTrue (is_some o)
+pub is-some : (o : Option ℕ) (k : ℕ) → o ≡ Some k → IsTrue (is_some o)
 is-some o k e = ap (λ (p : Option ℕ). is_some p) e
 
 -- one number more passes
-count-strict : (n : ℕ) (f g : ℕ → Truth) → ((i : ℕ) → IsTrue (f i) → IsTrue (g i)) → (i : ℕ) → i < n → IsTrue (g i) → f i ≡ false → count_below n f < count_below n g
+pub count-strict : (n : ℕ) (f g : ℕ → Truth) → ((i : ℕ) → IsTrue (f i) → IsTrue (g i)) → (i : ℕ) → i < n → IsTrue (g i) → f i ≡ false → count_below n f < count_below n g
 count-strict n f g more i l h e = elim (same-or_more n f g more) [
   | inl s ↦ absurd (both_ways (f i) e (sym (s.0 i l) ∙ h))
   | inr s ↦ s
@@ -120,9 +120,6 @@ module _ (c : Course) (n top bottom : ℕ) (a : Automaton) (s : Scored c n top b
   -- a place and a number come before others: the level is lower, or it is the same and the rank is lower
   abbrev sooner : ℕ → ℕ → ℕ → ℕ → Truth
   sooner p q p' r = nat_lt (s.level r) (s.level q) || (s.level r == s.level q && nat_lt (s.rank p' r) (s.rank p q))
-
-  Sooner : ℕ → ℕ → ℕ → ℕ → Type 0
-  Sooner p q p' r = (s.level r < s.level q) ⊎ ((s.level r ≡ s.level q) × (s.rank p' r < s.rank p q))
 
   sooner-there : (p q p' r : ℕ) → IsTrue (sooner p q p' r) → (s.level r < s.level q) ⊎ ((s.level r ≡ s.level q) × (s.rank p' r < s.rank p q))
   sooner-there p q p' r h = elim (or_cases (nat_lt (s.level r) (s.level q)) (s.level r == s.level q && nat_lt (s.rank p' r) (s.rank p q)) h)

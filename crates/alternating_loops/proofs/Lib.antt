@@ -6,6 +6,7 @@ pub mod Final
 pub mod Flips
 pub mod Induction
 pub mod LawsHold
+pub mod LoopMerges
 pub mod MetOwed
 pub mod Pairs
 pub mod PrefixScoring

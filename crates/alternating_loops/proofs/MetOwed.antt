@@ -25,9 +25,6 @@ pub met-shrinks : (p : Positive) (x : Letter) (f g : ℕ → Truth) → ((q : �
 met-shrinks p x f g e h = false_from_ne_true (met p x f) (λ k. both_ways (met p x g) h (met-grows p x f g e k))
 
 -- where one set meets it and another does not, something owed lies between them
-pub Gap : Positive → (ℕ → Truth) → (ℕ → Truth) → Type 0
-Gap p f g = (q : ℕ) × IsTrue (owes p q) × IsTrue (f q) × (g q ≡ false)
-
 pub met-gap : (p : Positive) (x : Letter) (f g : ℕ → Truth) → IsTrue (met p x f) → met p x g ≡ false → (q : ℕ) × IsTrue (owes p q) × IsTrue (f q) × (g q ≡ false)
 met-gap (Const v) x f g h n = absurd (both_ways v n h)
 met-gap (Holds b) x f g h n = absurd (both_ways _ n h)

@@ -76,9 +76,6 @@ module _ (offset : ℕ) (end : Truth) (r : Sequence) (h : HasNoClock r) (c : Cou
   given-at f p t = below-right offset (offset + t) (base.value p (offset + t)) (turn end (f p (offset + t - offset))) (omega arith)
       ∙ (let e : offset + t - offset ≡ t = omega arith in ap (λ i. turn end (f p i)) e)
 
-  Goes : (ℕ → ℕ → Truth) → ℕ → ℕ → Type 0
-  Goes f p t = Ends states t ⊎ (GoesOn states t × IsTrue (turn end (f (c.next p) t)))
-
   -- a state's delta is met where some step leads to an end, or to a state that goes on and has its value
   pub steps-there : (f : ℕ → ℕ → Truth) (p t : ℕ) → t < many → IsTrue (met (look (offset + t)).delta (c.letter p) (λ q. given f (c.next p) q))
       → (k : ℕ) × To states t (c.letter p) k × (Ends states k ⊎ (GoesOn states k × IsTrue (turn end (f (c.next p) k))))

@@ -15,7 +15,7 @@ use Rattle.sere_nfa.specs.Construction as sequences
 use Rattle.sere_nfa.specs.Construction.{nfa_of}
 use Rattle.sere_nfa.proofs.Automata.{finished-sound}
 use Rattle.sere_nfa.proofs.Means.{part-means}
-use Rattle.sere_nfa.proofs.Steps.{take-step}
+use Rattle.sere_nfa.proofs.Steps.{StepTo, take-step}
 use Rattle.lasso_theory.proofs.Cells.{start_of, To, Reads}
 use Rattle.alternating_theory.specs.Going.{goes_on, entry}
 use Rattle.alternating_theory.proofs.Edges.{LeadBelow, on-goes, step-below, step-bottom}
@@ -41,7 +41,7 @@ past-states (s ∷ ss) (suc q) h = past-states ss q (omega arith)
 pub from-below : (ss : List State) (q : ℕ) (x : Letter) (t : ℕ) → To ss q x t → q < length ss
 from-below ss q x t s = elim (cases_lt q (length ss)) [
   | inl h ↦ h
-  | inr h ↦ absurd (subst (λ (k : State). Rattle.sere_nfa.proofs.Steps.StepTo k.edges x t) (past-states ss q h) s)
+  | inr h ↦ absurd (subst (λ (k : State). StepTo k.edges x t) (past-states ss q h) s)
 ]
 
 module _ (states : List State) (below : (q : ℕ) → LeadBelow (length states) (state_at states q).edges) where

@@ -16,12 +16,13 @@ use Rattle.sere_nfa.proofs.Steps.{take-step}
 use Rattle.lasso_theory.specs.Courses.{Course, walk, read_from, opposite}
 use Rattle.lasso_theory.proofs.Cells.{start_of, Ends, To, Follows, follows-here, follows-later, follows-most, follows-suffix}
 use Rattle.lasso_theory.proofs.Ends.{IsCourse}
-use Rattle.lasso_theory.proofs.Walks.{first-read, read-tops, walk-stays}
+use Rattle.lasso_theory.proofs.Walks.{first-read, read-tops, walk-below, walk-stays}
 use Rattle.alternating_theory.specs.Construction.{Part, suffix_part, suffix_obligation, going, quiet}
 use Rattle.alternating_theory.specs.Going.{goes_on, entry}
 use Rattle.alternating_theory.specs.Obligations.{Obligation, numbered}
 use Rattle.alternating_theory.specs.Positive.{met, OwesWithin}
 use Rattle.alternating_theory.proofs.Aborts.{same-test}
+use Rattle.alternating_theory.proofs.Edges.{LeadBelow}
 use Rattle.alternating_theory.proofs.MetLaws.{met-same, within-wider}
 use Rattle.alternating_theory.proofs.Parts.{IsPartOf}
 use Rattle.alternating_theory.proofs.Sequences.{nfa-below, placed-at}
@@ -78,7 +79,7 @@ module _ (offset : ℕ) (r : Sequence) (h : HasNoClock r) (a : Part) (f : Formul
   kind : (q : ℕ) → q < many → (look (mid + q)).accepting ≡ true
   kind q l = ap (λ (o : Obligation). o.accepting) (placed q l)
 
-  over-within : (es : List Edge) → Rattle.alternating_theory.proofs.Edges.LeadBelow many es → OwesWithin offset high (suffix_obligation states mid true a.start es).delta
+  over-within : (es : List Edge) → LeadBelow many es → OwesWithin offset high (suffix_obligation states mid true a.start es).delta
   over-within es w = (
     within-wider mid (mid + many) offset high (omega arith) (omega (arith, size)) (going states mid es) (going-within states mid many es w),
     (quiet-within states offset high es, within-wider offset mid offset high (omega arith) (omega (arith, size)) a.start.delta is.right.start.within),
@@ -188,8 +189,8 @@ module _ (offset : ℕ) (r : Sequence) (h : HasNoClock r) (a : Part) (f : Formul
       (subst (λ (l : List Letter). AcceptsFrom states q l) (first-read (opposite c) p j) x)))
 
   led-all : (p q : ℕ) → p < n → IsTrue a.start.bottom → Led p q
-  led-all p q l v j x = (t.starts (walk c.next j p) (Rattle.lasso_theory.proofs.Walks.walk-below c.next n course.next_below j p l)).0
-      (s.down (walk c.next j p) (Rattle.lasso_theory.proofs.Walks.walk-below c.next n course.next_below j p l) v)
+  led-all p q l v j x = (t.starts (walk c.next j p) (walk-below c.next n course.next_below j p l)).0
+      (s.down (walk c.next j p) (walk-below c.next n course.next_below j p l) v)
 
   led-top : (q : ℕ) → Led top q
   led-top q j x =

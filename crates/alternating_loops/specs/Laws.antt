@@ -11,3 +11,7 @@ use Rattle.alternating_loops.specs.Acceptance.{Accepts}
 -- satisfies the formula
 pub record LoopsOf (automaton : Automaton) (formula : Formula) : Type 0 where
   pub on_loop : (word : Word) → 0 < length word.looped → Accepts automaton word ↔ Sat (trace_of word) formula None
+
+-- another automaton accepts the same words with a loop
+pub record KeepsLoops (automaton other : Automaton) : Type 0 where
+  pub loops : (word : Word) → 0 < length word.looped → Accepts other word ↔ Accepts automaton word

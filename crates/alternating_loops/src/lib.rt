@@ -4,4 +4,4 @@
 
 mod laws;
 
-pub use laws::automaton_accepts_formula;
+pub use laws::{automaton_accepts_formula, merging_keeps_loops};

@@ -3,7 +3,7 @@ use Rattle.std.proofs.Common.{refl, sym, subst, ℕ, zero, suc, ◌<◌, Bool as
 use Rattle.std.specs.Prelude.{◌↔◌, IsTrue}
 use Rattle.psl_meaning.specs.Classical.{Exists}
 use Rattle.psl_meaning.specs.Satisfaction.{Sat}
-use Rattle.psl_meaning.specs.Trace.{Trace}
+use Rattle.psl_meaning.specs.Trace.{Trace, suffix}
 use Rattle.psl_meaning.proofs.Choice.{from-exists, exists-same}
 use Rattle.psl_tree.specs.Trees.{Formula, Until}
 use Rattle.lasso_theory.specs.Courses.{Course, walk, read_from}
@@ -18,10 +18,10 @@ reaches-until c f g p = exists-same (λ k. (
   λ u. (there g k u.1, λ j l. there f j (u.2 j l)),
 ))
   where
-    back : (h : Formula) (i : ℕ) → Sat (read_from c (walk c.next i p)) h None → Sat (Rattle.psl_meaning.specs.Trace.suffix (read_from c p) i) h None
+    back : (h : Formula) (i : ℕ) → Sat (read_from c (walk c.next i p)) h None → Sat (suffix (read_from c p) i) h None
     back h i s = subst (λ (v : Trace). Sat v h None) (sym (suffix-read c p i)) s
 
-    there : (h : Formula) (i : ℕ) → Sat (Rattle.psl_meaning.specs.Trace.suffix (read_from c p) i) h None → Sat (read_from c (walk c.next i p)) h None
+    there : (h : Formula) (i : ℕ) → Sat (suffix (read_from c p) i) h None → Sat (read_from c (walk c.next i p)) h None
     there h i s = subst (λ (v : Trace). Sat v h None) (suffix-read c p i) s
 
 module _ (next : ℕ → ℕ) (F G : ℕ → Type 0) where

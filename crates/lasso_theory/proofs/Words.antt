@@ -1,5 +1,5 @@
 -- A word with a loop is what its course reads from the first place on.
-use Rattle.std.proofs.Common.{◌≡◌, ◌⊎◌, inl, inr, refl, sym, ap, ◌∙◌, ℕ, zero, suc, ◌+◌, ◌-◌, ◌*◌, ◌/◌, ◌%◌, ◌≤◌, ◌<◌, Bool as Truth, true, false, List, [], ◌∷◌, ◌++◌, length, Some, arith}
+use Rattle.std.proofs.Common.{◌≡◌, ◌⊎◌, inl, inr, refl, sym, ap, ◌∙◌, ℕ, zero, suc, ◌+◌, ◌-◌, ◌*◌, ◌/◌, ◌%◌, ◌≤◌, ◌<◌, List, [], ◌∷◌, ◌++◌, length, Some, arith}
 use Rattle.std.specs.Prelude.{nat_lt, if◌then◌else◌, slice_get}
 use Rattle.std.proofs.lemmas.Bool.{lt-ltb, le-ltb, eq-eqb, cases_lt}
 use Rattle.std.proofs.lemmas.Nat.{mod-mul-add, div-add-mod', mod_below}
@@ -45,11 +45,7 @@ module _ (word : Word) (some : 0 < length word.looped) where
   abbrev loop : ℕ
   loop = length word.looped
 
-  -- the place where the word's number stands
-  spot : Truth → ℕ → ℕ
-  spot true k = k
-  spot false k = stem + (k - stem) % loop
-
+  -- the place where a number of the trace stands
   abbrev place : ℕ → ℕ
   place k = if nat_lt k stem then k else stem + (k - stem) % loop
 
