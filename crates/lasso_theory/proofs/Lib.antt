@@ -4,5 +4,6 @@ pub mod Ends
 pub mod LawsHold
 pub mod Raised
 pub mod Reaching
+pub mod Stable
 pub mod Walks
 pub mod Words

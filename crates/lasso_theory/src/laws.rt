@@ -5,7 +5,7 @@ ghost use Rattle.psl_tree.specs.Trees.{Boolean, Formula};
 ghost use Rattle.psl_tree.specs.declared.letter.Letter.TheVariants.{Top};
 ghost use Rattle.psl_tree.specs.declared.letter.Word.{Word};
 ghost use Rattle.lasso_theory.specs.Courses.{Course, course_of, read_from};
-ghost use Rattle.lasso_theory.specs.Laws.{IsCutAtFirst};
+ghost use Rattle.lasso_theory.specs.Laws.{IsCutAtFirst, IsStable};
 
 /// A law: the trace of a word with a loop is what its course reads from the first place on.
 #[tactic(auto, using(crate::proofs::Words::word_read))]
@@ -20,4 +20,11 @@ pub fn word_is_read()
 pub fn abort_is_cut_at_first()
     ensures { (course : Course) → (test : Boolean) → (sink : ℕ) → course.letter sink ≡ Top → course.next sink ≡ sink
         → (formula : Formula) → IsPlain formula → (place : ℕ) → IsCutAtFirst course test sink formula place }
+{}
+
+/// A law: what a formula without clocks cannot fail to hold of, it holds of. The tables' "some" and "or"
+/// are classical, so a proof that no run violates a formula shows that each satisfies it.
+#[tactic(auto, using(crate::proofs::LawsHold::is_stable))]
+pub fn satisfaction_is_stable()
+    ensures { (formula : Formula) → IsPlain formula → IsStable formula }
 {}

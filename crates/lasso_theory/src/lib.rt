@@ -4,4 +4,4 @@
 
 mod laws;
 
-pub use laws::{abort_is_cut_at_first, word_is_read};
+pub use laws::{abort_is_cut_at_first, satisfaction_is_stable, word_is_read};
