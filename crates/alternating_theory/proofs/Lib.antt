@@ -1,5 +1,6 @@
 pub mod Aborts
 pub mod Built
+pub mod Classes
 pub mod Counts
 pub mod Cutting
 pub mod Edges

@@ -36,7 +36,7 @@ renumbered-twice f g (Or p r) = let a = renumbered-twice f g p in let b = renumb
 with_delta : Obligation → Positive → Obligation
 with_delta o d = record { delta = d; accepting = o.accepting; end = o.end; top = o.top; bottom = o.bottom }
 
-twice : (f g : ℕ → ℕ) (o : Obligation) → renumbered_obligation f (renumbered_obligation g o) ≡ renumbered_obligation (λ n. f (g n)) o
+pub twice : (f g : ℕ → ℕ) (o : Obligation) → renumbered_obligation f (renumbered_obligation g o) ≡ renumbered_obligation (λ n. f (g n)) o
 unfolding with_delta
 twice f g o = ap (λ (d : Positive). with_delta o d) (renumbered-twice f g o.delta)
 

@@ -1,7 +1,7 @@
 -- Merging: obligations that ask the same, up to the numbers of one class, become one. A class is the
 -- number of its first obligation. Any classes may be tried: a test says whether they fit, and where they
 -- do not the automaton stays as it is.
-use Rattle.std.specs.Prelude.{Bool as Truth, true, false, not, ◌&&◌, ◌==◌, nat_le, if◌then◌else◌, ℕ, zero, suc, List, length, map}
+use Rattle.std.specs.Prelude.{Bool as Truth, true, false, not, ◌&&◌, ◌==◌, nat_le, if◌then◌else◌, ℕ, zero, suc, List, [], ◌∷◌, ◌++◌, length, map, slice_index_or}
 use Rattle.psl_tree.specs.Holds.{is_same_atom}
 use Rattle.psl_tree.specs.Trees as trees
 use Rattle.psl_tree.specs.Trees.{Boolean}
@@ -27,15 +27,15 @@ abbrev pub same_positive : Positive → Positive → Truth
 same_positive (Const value) (Const other) = same_truth value other
 same_positive (Holds test) (Holds other) = same_boolean test other
 same_positive (Owed number) (Owed other) = number == other
-same_positive (And left right) (And first second) = same_positive left first && same_positive right second
-same_positive (Or left right) (Or first second) = same_positive left first && same_positive right second
+same_positive (And left right) (And first second) = same_positive right second && same_positive left first
+same_positive (Or left right) (Or first second) = same_positive right second && same_positive left first
 same_positive _ _ = false
 
 abbrev pub same_obligation : Obligation → Obligation → Truth
 same_obligation first second =
-    same_positive first.delta second.delta
-    && (same_truth first.accepting second.accepting
-    && (same_truth first.end second.end && (same_truth first.top second.top && same_truth first.bottom second.bottom)))
+    same_truth first.accepting second.accepting
+    && (same_truth first.end second.end
+    && (same_truth first.top second.top && (same_truth first.bottom second.bottom && same_positive first.delta second.delta)))
 
 -- each number below the bound passes the test
 abbrev pub all_below : ℕ → (ℕ → Truth) → Truth
@@ -68,3 +68,29 @@ joined automaton class = record {
 -- the automaton merged by these classes, where they fit
 abbrev pub merged_by : (ℕ → ℕ) → Automaton → Automaton
 merged_by class automaton = if fits automaton class then joined automaton class else automaton
+
+-- the class of a number, where the first numbers have these classes; a further number is its own
+abbrev pub class_in : List ℕ → ℕ → ℕ
+class_in classes number = slice_index_or classes number number
+
+-- the first of so many numbers, from a number on, that passes the test; the number behind them where none does
+abbrev pub first_from : ℕ → ℕ → (ℕ → Truth) → ℕ
+first_from number zero test = number
+first_from number (suc count) test = if test number then number else first_from (suc number) count test
+
+-- the obligation of a number is the first of its class, and asks what that of another number asks, up to classes
+abbrev pub is_like : List Obligation → (ℕ → ℕ) → ℕ → ℕ → Truth
+is_like obligations class number other =
+    (class number == number)
+    && same_obligation (renumbered_obligation class (obligation_at obligations number)) (renumbered_obligation class (obligation_at obligations other))
+
+-- the classes of so many obligations: each becomes one with the first before it that asks the same, once
+-- those before it have become one
+abbrev pub classes_upto : List Obligation → ℕ → List ℕ
+classes_upto obligations zero = []
+classes_upto obligations (suc count) =
+    classes_upto obligations count ++ first_from 0 count (λ number. is_like obligations (class_in (classes_upto obligations count)) number count) ∷ []
+
+-- the automaton with these classes; its start, the last, stays apart
+abbrev pub merged : Automaton → Automaton
+merged automaton = merged_by (class_in (classes_upto automaton.obligations automaton.start)) automaton

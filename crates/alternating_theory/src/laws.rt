@@ -1,9 +1,9 @@
-ghost use Rattle.std.specs.Prelude.{◌≡◌, ℕ};
+ghost use Rattle.std.specs.Prelude.{◌≡◌, ℕ, IsTrue};
 ghost use Rattle.psl_tree.specs.Trees.{Formula, Not};
 ghost use Rattle.alternating_theory.specs.Construction.{HasNoClock};
 ghost use Rattle.alternating_theory.specs.Dual.{opposite_automaton};
 ghost use Rattle.alternating_theory.specs.Laws.{ValuesOf, NamesOf, SizeOf, KeepsValues};
-ghost use Rattle.alternating_theory.specs.Merged.{merged_by};
+ghost use Rattle.alternating_theory.specs.Merged.{class_in, classes_upto, fits, merged, merged_by};
 ghost use Rattle.alternating_theory.specs.Obligations.{Automaton};
 ghost use Rattle.alternating_theory.specs.Rows.{SizeRows};
 ghost use Rattle.alternating_theory.specs.Trimmed.{built};
@@ -31,6 +31,14 @@ pub fn dual_is_negation()
 pub fn merging_keeps_values()
     ensures keeps { (automaton : Automaton) → NamesOf automaton → (class : ℕ → ℕ) → KeepsValues automaton (merged_by class automaton) }
     ensures duals { (class : ℕ → ℕ) → (automaton : Automaton) → merged_by class (opposite_automaton automaton) ≡ opposite_automaton (merged_by class automaton) }
+{}
+
+/// A law: the classes of one pass over an automaton's obligations fit, so that merging by them needs no
+/// test, and its dual has the same classes.
+#[tactic(auto, using(crate::proofs::Classes::pass_fits, crate::proofs::Classes::pass_opposite))]
+pub fn one_pass_fits()
+    ensures fits { (automaton : Automaton) → NamesOf automaton → IsTrue (fits automaton (class_in (classes_upto automaton.obligations automaton.start))) }
+    ensures duals { (automaton : Automaton) → NamesOf automaton → merged (opposite_automaton automaton) ≡ opposite_automaton (merged automaton) }
 {}
 
 /// Worked examples of the construction, as a law: how many obligations some formulas have.

@@ -4,4 +4,6 @@
 
 mod laws;
 
-pub use laws::{automaton_means_formula, dual_is_negation, merging_keeps_values, worked_sizes};
+pub use laws::{
+    automaton_means_formula, dual_is_negation, merging_keeps_values, one_pass_fits, worked_sizes,
+};
