@@ -32,7 +32,7 @@ same-moves a b c h =
     grouped true y z h = h
     grouped false y z h = h
 
-held-moves : (a b : Atom) (held : List Atom) → IsTrue (is_same_atom a b) → is_held held a ≡ is_held held b
+pub held-moves : (a b : Atom) (held : List Atom) → IsTrue (is_same_atom a b) → is_held held a ≡ is_held held b
 held-moves a b [] h = refl
 held-moves a b (c ∷ held) h = let e = same-moves a b c h in let f = held-moves a b held h in cc
 
@@ -98,13 +98,13 @@ module _ (words : List ℕ) (atoms held : List Atom) (tell : BitsTell 0 words at
   met-letter (Or p r) f t = let x = met-letter p f t.0 in let y = met-letter r f t.1 in cc
 
 -- what is never met has the value false everywhere
-never-value : (look : ℕ → Obligation) (p : Past) (xs : List Letter) → value_of look p never xs ≡ false
+pub never-value : (look : ℕ → Obligation) (p : Past) (xs : List Letter) → value_of look p never xs ≡ false
 never-value look Nothing [] = refl
 never-value look Tops [] = refl
 never-value look Bottoms [] = refl
 never-value look p (x ∷ xs) = refl
 
-mapped-value : (f : Obligation → Truth) → f never ≡ false → (os : List Obligation) (q : ℕ) → value_at (map f os) q ≡ f (obligation_at os q)
+pub mapped-value : (f : Obligation → Truth) → f never ≡ false → (os : List Obligation) (q : ℕ) → value_at (map f os) q ≡ f (obligation_at os q)
 mapped-value f e [] q = sym e
 mapped-value f e (o ∷ os) zero = refl
 mapped-value f e (o ∷ os) (suc q) = mapped-value f e os q

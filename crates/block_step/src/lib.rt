@@ -1,0 +1,10 @@
+//! The values of an alternating automaton at 64 letters at a time. A word of 64 bits for each obligation and view
+//! holds its values, and words that meet the equations of all obligations are the values, however they were found.
+#![tactic(auto)]
+
+mod block;
+mod column;
+mod words;
+
+pub use block::{Block, is_block};
+pub use words::Words;
