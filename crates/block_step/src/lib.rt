@@ -4,7 +4,13 @@
 
 mod block;
 mod column;
+mod find;
+mod order;
+mod step;
+mod values;
 mod words;
 
 pub use block::{Block, is_block};
+pub use step::Blocks;
+pub use values::Values;
 pub use words::Words;

@@ -72,3 +72,24 @@ fn next(word: u64, after: u64) -> u64
 {
     word >> 1 | after & LAST
 }
+
+/// The words that an obligation has which owes itself, from what it asks with no value of itself and with all.
+pub(crate) fn closed(least: Words, most: Words) -> Words {
+    Words {
+        weak: closure(least.weak, most.weak),
+        neutral: closure(least.neutral, most.neutral),
+        strong: closure(least.strong, most.strong),
+    }
+}
+
+// A place has the value that it has with none after it, or the next place's, if it has it with that: the next 1, 2,
+// 4 .. places are followed at once.
+fn closure(least: u64, most: u64) -> u64 {
+    let mut word = least;
+    let mut passes = most;
+    for shift in [1, 2, 4, 8, 16, 32] {
+        word |= passes & word >> shift;
+        passes &= passes >> shift;
+    }
+    word
+}
