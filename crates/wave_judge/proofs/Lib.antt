@@ -1,5 +1,4 @@
 pub mod Faults
 pub mod Samples
-pub mod Taken
 pub mod Tested
 pub mod Verdicts

@@ -4,5 +4,4 @@ pub mod Faults
 pub mod Judged
 pub mod Letter
 pub mod Levels
-pub mod Memo
 pub mod Values

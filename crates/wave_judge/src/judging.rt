@@ -10,7 +10,7 @@ ghost use Rattle.wave_judge.specs.Automaton.{Means};
 
 use crate::fault::JudgeFault;
 use crate::packing::tested_atoms;
-use crate::pass::pass;
+use crate::pass::Pass;
 use crate::verdict::{Verdict, Verdicts};
 use alternating::{AltFault, Alternating, of};
 use clock_rewrite::unclock;
@@ -50,7 +50,12 @@ fn judge_one(
 {
     let automaton = automaton_of(alloc, directive)?;
     let atoms = tested_atoms(alloc, &directive.formula)?;
-    let answers = pass(alloc, &automaton, &atoms, recording)?;
+    let pass = Pass {
+        automaton: &automaton,
+        atoms: &atoms,
+        recording,
+    };
+    let answers = pass.answers(alloc)?;
     Ok(Verdict {
         number: directive.number,
         kind: directive.kind,

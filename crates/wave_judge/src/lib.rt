@@ -1,20 +1,19 @@
 //! The verdicts of a recording: what three views of it say of each directive (IEEE 1850, Annex B).
 //! Each directive's formula becomes an alternating automaton without clocks, and one pass from the
-//! last sample to the first gives the values of its obligations.
+//! last sample to the first gives the values of its obligations, 64 samples at a time.
 #![tactic(auto)]
 
+mod columns;
 mod fault;
 mod judging;
 mod laws;
 mod leveling;
-mod memo;
 mod packing;
 mod pass;
 #[cfg(test)]
 mod ranged;
 #[cfg(test)]
 mod tests;
-mod values;
 mod verdict;
 
 pub use fault::JudgeFault;

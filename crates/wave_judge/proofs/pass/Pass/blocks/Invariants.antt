@@ -1,0 +1,13 @@
+use Rattle.std.proofs.Common.{◌≡◌, ◌*◌, length}
+use Rattle.block_step.specs.Values.{HasLengths}
+use Rattle.wave_judge.proofs.pass.Pass.blocks.Given as goal
+use Rattle.wave_judge.specs.Values.{AreValuesAt}
+
+abbrev pub invariant-loop-number : goal.invariant-loop-number
+invariant-loop-number l = record {
+  here : AreValuesAt l.self.automaton.now l.self.recording.now (64 * l.number) l.now;
+  lengths : HasLengths l.self.automaton.now l.next;
+  blocks_are : l.blocks ≡ length l.self.automaton.now.obligations;
+  columns_len : length l.columns.items ≡ length l.self.atoms.now;
+  hints_len : length l.hints.items ≡ length l.self.atoms.now;
+}
