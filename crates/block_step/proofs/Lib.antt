@@ -5,3 +5,4 @@ pub mod Settled
 pub mod Shown
 pub mod Stepping
 pub mod Stepped
+pub mod Planned

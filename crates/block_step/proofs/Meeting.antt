@@ -4,7 +4,7 @@ use Rattle.std.specs.Prelude.{◌&&◌, ◌||◌}
 use Rattle.alternating_theory.specs.Positive.{Positive, And, Or, met}
 use Rattle.alternating.specs.Packed.{bit}
 use Rattle.psl_tree.specs.declared.atom.Atom.{Atom}
-use Rattle.block_step.specs.Block.{TellsMet, follows}
+use Rattle.block_step.specs.Block.{TellsMet, MeetsAll, follows}
 use Rattle.block_step.specs.Words.{InEachView, words_at}
 use Rattle.block_step.specs.declared.words.Words.{Words}
 
@@ -22,9 +22,6 @@ module _ (atoms : List Atom) (columns : List ℕ) (after words : ℕ → ℕ) wh
       e place ∙ ap (λ (b : Truth). b || bit other place) x ∙ ap (λ (b : Truth). met left letter (λ number. follows (words number) (after number) place) || b) y
 
 -- the same in each view
-abbrev pub MeetsAll : List Atom → List ℕ → List Words → List Words → Positive → Words → Type 0
-MeetsAll atoms columns after words combination found =
-    InEachView (λ view. TellsMet atoms columns (λ number. view (words_at after number)) (λ number. view (words_at words number)) combination (view found))
 
 pub all-and : (atoms : List Atom) (columns : List ℕ) (after words : List Words) (left right : Positive) (word other both : Words)
     → InEachView (λ view. (place : ℕ) → bit (view both) place ≡ (bit (view word) place && bit (view other) place))

@@ -16,8 +16,7 @@ use Rattle.alternating.specs.Atoms.{AtomsOfPositive, AtomsOfObligations, is_amon
 use Rattle.alternating.specs.Packed.{bit}
 use Rattle.alternating.specs.Stepped.{value_at, values_of}
 use Rattle.block_step.proofs.Bits.{bit-none}
-use Rattle.block_step.proofs.Meeting.{MeetsAll}
-use Rattle.block_step.specs.Block.{PacksBlock, TellsMet, follows, letters_from, AreBlockValues}
+use Rattle.block_step.specs.Block.{PacksBlock, TellsMet, MeetsAll, follows, letters_from, AreBlockValues, AreAllBlockValues}
 use Rattle.block_step.specs.Words.{InEachView, words_at, unset}
 use Rattle.block_step.specs.declared.words.Words.{Words}
 
@@ -130,7 +129,7 @@ one-settled os atoms columns after words number delta word settled is same meets
 
 pub are-values : (a : Automaton) (atoms : List Atom) (columns : List ℕ) (after words : List Words)
     → length after ≡ length a.obligations → length words ≡ length a.obligations → AllSettled a.obligations atoms columns after words (length a.obligations)
-    → InEachView (λ view. AreBlockValues a atoms columns (λ number. view (words_at after number)) (λ number. view (words_at words number)))
+    → AreAllBlockValues a atoms columns after words
 are-values a atoms columns after words many same settled = record {
   weak = are-block-values a atoms columns (λ n. (words_at after n).weak) (λ n. (words_at words n).weak)
       (λ q h. ap (λ (w : Words). w.weak) (get_or_past after q unset (omega arith))) (λ q h. ap (λ (w : Words). w.weak) (get_or_past words q unset (omega arith))) settled.weak;

@@ -7,9 +7,9 @@ use Rattle.psl_tree.specs.declared.letter.Letter.{Letter}
 use Rattle.alternating_theory.specs.Obligations.{Automaton, value_of, obligation_at}
 use Rattle.alternating.specs.Packed.{bit}
 use Rattle.alternating.specs.Stepped.{value_at, values_of}
-use Rattle.block_step.specs.Block.{AreBlockValues, letters_from}
+use Rattle.block_step.specs.Block.{AreBlockValues, AreAllBlockValues, letters_from}
 use Rattle.block_step.specs.Values.{HasCounts, HasLengths, AreValues, ShowAt, StepsTo, StepsBlock}
-use Rattle.block_step.specs.Words.{InEachView, words_at}
+use Rattle.block_step.specs.Words.{words_at}
 use Rattle.block_step.specs.declared.values.Values.{Values}
 use Rattle.block_step.specs.declared.words.Words.{Words}
 
@@ -42,8 +42,7 @@ block-steps a atoms columns after words next now values last first many letter p
     (λ q h. sym (first q h) ∙ values letter packs tests past rest (λ r k. last r k ∙ ap (λ (l : List Truth). value_at l r) e) q 0 h (omega arith))
 
 pub all-block-steps : (a : Automaton) (atoms : List Atom) (columns : List ℕ) (after words : List Words) (next now : Values) (count : ℕ) → count ≡ length a.obligations
-    → InEachView (λ view. AreBlockValues a atoms columns (λ number. view (words_at after number)) (λ number. view (words_at words number)))
-    → ShowAt 63 count after next → ShowAt 0 count words now → HasCounts count now → StepsBlock a atoms columns next now
+    → AreAllBlockValues a atoms columns after words → ShowAt 63 count after next → ShowAt 0 count words now → HasCounts count now → StepsBlock a atoms columns next now
 all-block-steps a atoms columns after words next now count e values last first many = record {
   weak = block-steps a atoms columns (λ n. (words_at after n).weak) (λ n. (words_at words n).weak) next.weak now.weak values.weak
       (λ q h. last.weak q (omega arith)) (λ q h. first.weak q (omega arith)) (many.weak ∙ e);

@@ -12,6 +12,8 @@ use Rattle.alternating_theory.specs.Positive.{Positive, met}
 use Rattle.alternating.specs.Atoms.{AtomsOfPositive, AtomsOfObligations, is_among}
 use Rattle.alternating.specs.Packed.{bit, is_held}
 use Rattle.alternating.specs.Stepped.{value_at, values_of}
+use Rattle.block_step.specs.Words.{InEachView, words_at}
+use Rattle.block_step.specs.declared.words.Words.{Words}
 
 -- the columns say of each of these atoms whether it holds on the letter of a place, which is not Top or Bottom
 abbrev pub PacksAt : List Atom → List ℕ → ℕ → Letter → Type 0
@@ -40,6 +42,11 @@ TellsMet atoms columns after words combination word =
     → (place : ℕ) (letter : Letter) → place < 64 → PacksAt atoms columns place letter
     → bit word place ≡ met combination letter (λ number. follows (words number) (after number) place)
 
+-- the same in each view
+abbrev pub MeetsAll : List Atom → List ℕ → List Words → List Words → Positive → Words → Type 0
+MeetsAll atoms columns after words combination found =
+    InEachView (λ view. TellsMet atoms columns (λ number. view (words_at after number)) (λ number. view (words_at words number)) combination (view found))
+
 -- the letters of so many places in a row
 abbrev pub letters_from : (ℕ → Letter) → ℕ → ℕ → List Letter
 letters_from letter place zero = []
@@ -54,3 +61,8 @@ AreBlockValues automaton atoms columns after words =
     → ((number : ℕ) → number < length automaton.obligations → bit (after number) 63 ≡ value_at (values_of automaton past rest) number)
     → (number place : ℕ) → number < length automaton.obligations → place < 64
     → bit (words number) place ≡ value_at (values_of automaton past (letters_from letter place (64 - place) ++ rest)) number
+
+-- the same in each view
+abbrev pub AreAllBlockValues : Automaton → List Atom → List ℕ → List Words → List Words → Type 0
+AreAllBlockValues automaton atoms columns after words =
+    InEachView (λ view. AreBlockValues automaton atoms columns (λ number. view (words_at after number)) (λ number. view (words_at words number)))

@@ -2,15 +2,15 @@
 //! holds its values, and words that meet the equations of all obligations are the values, however they were found.
 #![tactic(auto)]
 
-mod block;
-mod column;
+mod equations;
 mod find;
+mod letters;
 mod order;
+mod plan;
 mod step;
 mod values;
 mod words;
 
-pub use block::{Block, is_block};
+pub use letters::Letters;
 pub use step::Blocks;
 pub use values::Values;
-pub use words::Words;

@@ -3,9 +3,11 @@ ghost use Rattle.alternating.specs.Packed.{bit};
 ghost use Rattle.alternating.specs.Stepped.{value_at};
 ghost use Rattle.block_step.specs.Values.{HasLengths, StepsBlock};
 
-use crate::block::{Block, is_block};
+use crate::equations::Equations;
 use crate::find::Search;
+use crate::letters::Letters;
 use crate::order::Order;
+use crate::plan::Plan;
 use crate::values::Values;
 use crate::words::Words;
 use alternating::{Alternating, Truths};
@@ -14,103 +16,122 @@ use std::alloc::Global;
 use std::marker::Model;
 use std::mem;
 
-/// What steps over blocks need beside the letters, made once for an automaton. Contracts see for how many obligations
-/// it is.
+/// What steps over blocks of 64 letters need, made once for an automaton. Contracts see the automaton.
 #[derive(Drop)]
-pub struct Blocks {
+pub struct Blocks<'a> {
+    automaton: &'a Alternating,
+    plan: Plan,
     order: Order,
-    stale: Vec<bool>,
+    tests: Vec<u64>,
     after: Vec<Words>,
     words: Vec<Words>,
+    stale: Vec<bool>,
 }
 
-impl Model for Blocks {
-    ghost use Rattle.std.specs.Prelude.{ℕ};
-    ghost use Rattle.std.specs.Coded.{coded_ℕ};
+impl<'a> Model for Blocks<'a> {
+    ghost use Rattle.alternating_theory.specs.Obligations.{Automaton};
+    ghost use Rattle.alternating.specs.Codes.{automaton_code};
 
-    ghost Value = { ℕ };
+    ghost Value = { Automaton };
 
-    ghost coded = { coded_ℕ };
+    ghost coded = { automaton_code };
 
-    ghost use Rattle.block_step.specs.BlocksView.{obligation_count, HasRoom};
+    ghost use Rattle.block_step.specs.BlocksView.{automaton_of, HasRoom};
 
-    ghost view = { obligation_count };
+    ghost view = { automaton_of };
 
     ghost invariant = { HasRoom };
 }
 
-impl Blocks {
+impl<'a> Blocks<'a> {
     /// For the blocks of an automaton.
-    pub fn new(alloc: Global, automaton: &Alternating) -> Result<Blocks, NoMemory>
-        ensures { IfOk result (λ blocks. blocks ≡ length automaton.now.obligations) }
+    pub fn new(alloc: Global, automaton: &'a Alternating) -> Result<Blocks<'a>, NoMemory>
+        ensures { IfOk result (λ blocks. blocks ≡ automaton.now) }
     {
+        let plan = Plan::new(alloc, automaton)?;
         let order = Order::new(alloc, automaton)?;
+        let count = automaton.len() as usize;
         let none = Words {
             weak: 0,
             neutral: 0,
             strong: 0,
         };
+        let tests = vec![in alloc; 0; plan.tests.len()]?;
+        let stale = vec![in alloc; true; order.turns.len()]?;
         Ok(Blocks {
-            stale: vec![in alloc; true; order.turns.len()]?,
-            after: vec![in alloc; none; automaton.len() as usize]?,
-            words: vec![in alloc; none; automaton.len() as usize]?,
+            automaton,
+            plan,
             order,
+            tests,
+            after: vec![in alloc; none; count]?,
+            words: vec![in alloc; none; count]?,
+            stale,
         })
     }
 
-    /// Writes the values at the first of 64 letters, from those at the place after the last. The words are sought
-    /// first; where the test does not find them right, a step is taken for each letter.
+    /// Writes the values at the first of 64 letters, from those at the place after the last. The words of the block
+    /// are looked for first; where they do not meet its equations, a step is taken for each letter.
     pub fn step_back(
         &mut self,
         alloc: Global,
-        block: &Block,
+        letters: &Letters,
         next: &Values,
         into: &mut Values,
     ) -> Result<(), NoMemory>
-        requires blocks { self.old ≡ length block.now.automaton.now.obligations }
-        requires columns { length block.now.columns.now ≡ length block.now.atoms.now }
-        requires few { length block.now.atoms.now < 2 ^ 32 }
-        requires next_lengths { HasLengths block.now.automaton.now next.now }
-        requires lengths { HasLengths block.now.automaton.now into.old }
-        ensures blocks { self.new ≡ self.old }
-        ensures steps { OnOk result (StepsBlock block.now.automaton.now block.now.atoms.now block.now.columns.now next.now into.new) }
-        ensures lengths { OnOk result (HasLengths block.now.automaton.now into.new) }
+        requires columns { length letters.now.columns.now ≡ length letters.now.atoms.now }
+        requires few { length letters.now.atoms.now < 2 ^ 32 }
+        requires next_lengths { HasLengths self.old next.now }
+        requires lengths { HasLengths self.old into.old }
+        ensures automaton { self.new ≡ self.old }
+        ensures steps { OnOk result (StepsBlock self.old letters.now.atoms.now letters.now.columns.now next.now into.new) }
+        ensures lengths { OnOk result (HasLengths self.old into.new) }
     {
-        let automaton = block.automaton;
+        let automaton = self.automaton;
         let count = automaton.len();
+        let tests = self.tests.as_mut_slice();
+        letters.tell(self.plan.tests.as_slice(), tests);
         let after = self.after.as_mut_slice();
         next.spread(count, after);
-        let search = Search {
-            block: &*block,
-            order: &self.order,
+        let equations = Equations {
+            plan: &self.plan,
+            tests: &*tests,
             after: &*after,
+        };
+        let search = Search {
+            equations,
+            order: &self.order,
         };
         let words = self.words.as_mut_slice();
         search.find(self.stale.as_mut_slice(), words);
-        if is_block(block, search.after, words) {
+        if equations.hold(words) {
             into.read_first(count, words);
             Ok(())
         } else {
-            into.read_first(count, search.after);
-            each_step(alloc, block, into)
+            into.read_first(count, equations.after);
+            each_step(alloc, automaton, letters, into)
         }
     }
 }
 
 // The same by a step for each letter, from the values at the place after the last.
-fn each_step(alloc: Global, block: &Block, values: &mut Values) -> Result<(), NoMemory>
-    requires columns { length block.now.columns.now ≡ length block.now.atoms.now }
-    requires few { length block.now.atoms.now < 2 ^ 32 }
-    requires lengths { HasLengths block.now.automaton.now values.old }
-    ensures steps { OnOk result (StepsBlock block.now.automaton.now block.now.atoms.now block.now.columns.now values.old values.new) }
-    ensures lengths { OnOk result (HasLengths block.now.automaton.now values.new) }
+fn each_step(
+    alloc: Global,
+    automaton: &Alternating,
+    letters: &Letters,
+    values: &mut Values,
+) -> Result<(), NoMemory>
+    requires columns { length letters.now.columns.now ≡ length letters.now.atoms.now }
+    requires few { length letters.now.atoms.now < 2 ^ 32 }
+    requires lengths { HasLengths automaton.now values.old }
+    ensures steps { OnOk result (StepsBlock automaton.now letters.now.atoms.now letters.now.columns.now values.old values.new) }
+    ensures lengths { OnOk result (HasLengths automaton.now values.new) }
 {
-    let mut next = Values::past(alloc, block.automaton)?;
-    let mut letter = Truths::new(alloc, block.atoms.len() as u32)?;
+    let mut next = Values::past(alloc, automaton)?;
+    let mut letter = Truths::new(alloc, letters.atoms.len() as u32)?;
     for place in (0..64).rev() {
-        read_letter(block.columns, place, &mut letter);
+        read_letter(letters.columns, place, &mut letter);
         mem::swap(values, &mut next);
-        values.step_back(block.automaton, letter.words(), block.atoms, &next);
+        values.step_back(automaton, letter.words(), letters.atoms, &next);
     }
     Ok(())
 }

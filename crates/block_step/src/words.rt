@@ -8,10 +8,10 @@ const LAST: u64 = 1 << 63;
 
 /// The values of an obligation at 64 places in the three views: the lowest bit is the value at the first place.
 #[derive(Clone, Copy, Debug, PartialEq, Eq)]
-pub struct Words {
-    pub weak: u64,
-    pub neutral: u64,
-    pub strong: u64,
+pub(crate) struct Words {
+    pub(crate) weak: u64,
+    pub(crate) neutral: u64,
+    pub(crate) strong: u64,
 }
 
 impl Words {

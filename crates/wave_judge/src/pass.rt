@@ -6,7 +6,7 @@ ghost use Rattle.wave_judge.specs.Values.{AreAnswers, AreValuesAt};
 use crate::columns::pack_block;
 use crate::packing::pack;
 use alternating::{Alternating, Truths};
-use block_step::{Block, Blocks, Values};
+use block_step::{Blocks, Letters, Values};
 use psl_base::NoMemory;
 use psl_tree::Atoms;
 use std::alloc::Global;
@@ -100,12 +100,11 @@ impl Pass<'_> {
                 packed,
             );
             mem::swap(&mut now, &mut next);
-            let block = Block {
-                automaton: self.automaton,
+            let letters = Letters {
                 atoms: self.atoms,
                 columns: &*packed,
             };
-            blocks.step_back(alloc, &block, &next, &mut now)?;
+            blocks.step_back(alloc, &letters, &next, &mut now)?;
         }
         Ok(now)
     }

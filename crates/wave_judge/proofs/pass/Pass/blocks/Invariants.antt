@@ -7,7 +7,7 @@ abbrev pub invariant-loop-number : goal.invariant-loop-number
 invariant-loop-number l = record {
   here : AreValuesAt l.self.automaton.now l.self.recording.now (64 * l.number) l.now;
   lengths : HasLengths l.self.automaton.now l.next;
-  blocks_are : l.blocks ≡ length l.self.automaton.now.obligations;
+  blocks_are : l.blocks ≡ l.self.automaton.now;
   columns_len : length l.columns.items ≡ length l.self.atoms.now;
   hints_len : length l.hints.items ≡ length l.self.atoms.now;
 }

@@ -1,6 +1,6 @@
 use Rattle.std.proofs.Common.{refl, sym, ◌∙◌, arith}
 use Rattle.block_step.proofs.Columns.{found}
-use Rattle.block_step.proofs.column.column_of.Goals as goal
+use Rattle.block_step.proofs.letters.column_of.Goals as goal
 
 pub returns-then-same_atom : goal.returns-then-same_atom
 returns-then-same_atom c =

@@ -1,13 +1,34 @@
 ghost use Rattle.std.specs.Prelude.{◌≡◌, length};
 ghost use Rattle.psl_tree.specs.Trees.{Test, boolean_of};
 ghost use Rattle.block_step.specs.Block.{TellsBoolean};
+ghost use Rattle.block_step.specs.Plan.{TestsTell};
 
 use crate::words::filled;
-use psl_tree::{Atom, Bool, same_atom};
+use psl_tree::{Atom, Atoms, Bool, same_atom};
 
-/// At which of 64 letters a Boolean holds: the lowest bit is that of the first letter. Of each atom there is
-/// such a word, its column.
-pub(crate) fn word_of(columns: &[u64], atoms: &[Atom], test: &Bool) -> u64
+/// 64 letters.
+#[derive(Clone, Copy)]
+pub struct Letters<'a> {
+    pub atoms: &'a Atoms,
+    /// Of each atom a word that says at which letters it holds: the lowest bit is that of the first letter.
+    pub columns: &'a [u64],
+}
+
+impl Letters<'_> {
+    /// Writes of each Boolean at which of the letters it holds.
+    pub(crate) fn tell(&self, tests: &[Bool], into: &mut [u64])
+        requires columns { length self.now.columns.now ≡ length self.now.atoms.now }
+        requires into_len { length into.old ≡ length tests.now }
+        ensures { TestsTell self.now.atoms.now self.now.columns.now tests.now into.new }
+    {
+        for number in 0..tests.len() {
+            into[number] = word_of(self.columns, self.atoms.as_slice(), &tests[number]);
+        }
+    }
+}
+
+// At which of the letters a Boolean holds, from the columns of its atoms.
+fn word_of(columns: &[u64], atoms: &[Atom], test: &Bool) -> u64
     requires { length columns.now ≡ length atoms.now }
     ensures { TellsBoolean atoms.now columns.now (boolean_of test.now) result }
 {

@@ -1,7 +1,7 @@
 use Rattle.std.proofs.Common.{arith}
 use Rattle.psl_tree.specs.Trees.{boolean_of}
 use Rattle.block_step.proofs.Columns.{tells-not, tells-and, tells-or}
-use Rattle.block_step.proofs.column.+word_of.Goals as goal
+use Rattle.block_step.proofs.letters.+word_of.Goals as goal
 
 pub returns-in-Not : goal.returns-in-Not
 returns-in-Not t c =

@@ -1,0 +1,26 @@
+use Rattle.std.proofs.Common.{◌∙◌, ◌<◌, ap, sym, subst, arith, ℕ, List, length, get_or}
+use Rattle.block_step.proofs.Settled.{none-settled, one-settled, same-words, are-values, AllSettled}
+use Rattle.block_step.proofs.equations.Equations.hold.Goals as goal
+use Rattle.block_step.specs.Plan.{combination_of}
+use Rattle.block_step.specs.Words.{words_at}
+use Rattle.block_step.specs.declared.plan.Node as code_node
+
+pub loop-number-init : goal.loop-number-init
+loop-number-init c = λ automaton atoms columns equations. none-settled automaton.obligations atoms columns c.args.self.now.after.now c.args.words.now
+
+pub loop-number-preserved : goal.loop-number-preserved
+loop-number-preserved c = λ automaton atoms columns equations.
+    let same = same-words c.met.result (words_at c.args.words.now c.loop-number.number) (sym c.ne.ensures ∙ c.if-ne.false) in
+    let tests = c.args.self.now.plan.now.tests.items in
+    let node = c.index-deltas-number.result in
+    let within : c.loop-number.number < length c.args.self.now.plan.now.deltas.items = omega (arith, c.requires.ready.deltas, c.requires.words) in
+    let is = ap (λ (n : code_node.Node). combination_of tests n) (c.index-deltas-number.is ∙ ap (λ (l : List code_node.Node). get_or l c.loop-number.number node) c.as_slice-deltas.ensures.value)
+    ∙ (equations.plan.deltas c.loop-number.number node within).0 in
+    one-settled automaton.obligations atoms columns c.args.self.now.after.now c.args.words.now c.loop-number.number (combination_of tests node) c.met.result
+    (c.loop-number.invariant automaton atoms columns equations) is same (c.met.ensures atoms columns equations.tests c.requires.ready.tests)
+
+pub returns : goal.returns
+returns c = λ _ automaton atoms columns equations.
+    let settled = c.loop-number.invariant automaton atoms columns equations in
+    are-values automaton atoms columns c.args.self.now.after.now c.args.words.now (sym c.requires.ready.deltas ∙ equations.plan.count) (c.requires.words ∙ sym c.requires.ready.deltas ∙ equations.plan.count)
+    (subst (λ (n : ℕ). AllSettled automaton.obligations atoms columns c.args.self.now.after.now c.args.words.now n) (omega (arith, c.requires.ready.deltas, equations.plan.count, c.requires.words)) settled)

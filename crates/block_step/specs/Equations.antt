@@ -1,0 +1,17 @@
+-- The equations of a block.
+use Rattle.std.specs.Prelude.{◌≡◌, ℕ, List, length, All}
+use Rattle.psl_tree.specs.declared.atom.Atom.{Atom}
+use Rattle.alternating_theory.specs.Obligations.{Automaton}
+use Rattle.block_step.specs.Plan.{NodeWithin, IsPlan, TestsTell}
+use Rattle.block_step.specs.declared.equations.Equations.{Equations}
+
+-- there is a node for each obligation and a word for each Boolean, and the nodes name no others
+pub record IsReady (equations : Equations) : Type 0 where
+  pub deltas : length equations.plan.now.deltas.items ≡ length equations.after.now
+  pub tests : length equations.tests.now ≡ length equations.plan.now.tests.items
+  pub within : All (NodeWithin (length equations.after.now) (length equations.tests.now)) equations.plan.now.deltas.items
+
+-- they are those of an automaton at letters whose atoms are packed in columns
+pub record AreEquations (automaton : Automaton) (atoms : List Atom) (columns : List ℕ) (equations : Equations) : Type 0 where
+  pub plan : IsPlan automaton equations.plan.now
+  pub tests : TestsTell atoms columns equations.plan.now.tests.items equations.tests.now
