@@ -6,3 +6,4 @@ pub mod Shown
 pub mod Stepping
 pub mod Stepped
 pub mod Planned
+pub mod Bare

@@ -7,7 +7,7 @@ use Rattle.psl_tree.specs.Trees.{boolean_of}
 use Rattle.psl_tree.specs.declared.boolean.Bool as code_boolean
 use Rattle.alternating_theory.specs.Obligations.{Automaton, obligation_at}
 use Rattle.alternating_theory.specs.Positive.{Positive, And, Or, Holds}
-use Rattle.block_step.specs.Plan.{test_at, combination_of, NodeWithin, IsGrown, StandFor}
+use Rattle.block_step.specs.Plan.{test_at, bare_positive, combination_of, NodeWithin, IsGrown, StandFor}
 use Rattle.block_step.specs.declared.plan.Node as code_node
 
 pub same-test : (old new : List code_boolean.Bool) → IsGrown old new → (k : ℕ) → k < length old → test_at new k ≡ test_at old k
@@ -38,17 +38,17 @@ grown-twice one two three g h = (g.0 ++ h.0, h.1 ∙ ap (λ (l : List code_boole
 
 -- one obligation more
 pub one-stands : (a : Automaton) (old new : List code_boolean.Bool) (deltas : List code_node.Node) (node : code_node.Node) (number : ℕ) → length deltas ≡ number
-    → IsGrown old new → StandFor a old deltas → combination_of new node ≡ (obligation_at a.obligations number).delta → NodeWithin (length a.obligations) (length new) node
+    → IsGrown old new → StandFor a old deltas → combination_of new node ≡ bare_positive (obligation_at a.obligations number).delta → NodeWithin (length a.obligations) (length new) node
     → StandFor a new (deltas ++ node ∷ [])
 one-stands a old new deltas node number many grown stands same within k other h =
-    elim (cases_lt k (length deltas)) as (λ _. (combination_of new (get_or (deltas ++ node ∷ []) k other) ≡ (obligation_at a.obligations k).delta) × NodeWithin (length a.obligations) (length new) (get_or (deltas ++ node ∷ []) k other)) [
+    elim (cases_lt k (length deltas)) as (λ _. (combination_of new (get_or (deltas ++ node ∷ []) k other) ≡ bare_positive (obligation_at a.obligations k).delta) × NodeWithin (length a.obligations) (length new) (get_or (deltas ++ node ∷ []) k other)) [
       | inl lt ↦ (let before = stands k other lt in
           let e : get_or (deltas ++ node ∷ []) k other ≡ get_or deltas k other = get_or_append_left deltas (node ∷ []) other k lt in
           rw e (kept-node old new grown (length a.obligations) (get_or deltas k other) before.1 ∙ before.0, kept-within (length old) (length new) (length a.obligations) (longer old new grown) (get_or deltas k other) before.1))
       | inr ge ↦ (let last : length deltas ≡ k = omega (arith, length_push deltas node) in
           let e : get_or (deltas ++ node ∷ []) k other ≡ node = get_or_push deltas node other k last in
           let is : number ≡ k = omega arith in
-          rw e (same ∙ ap (λ n. (obligation_at a.obligations n).delta) is, within))
+          rw e (same ∙ ap (λ n. bare_positive (obligation_at a.obligations n).delta) is, within))
     ]
 
 -- what is made of two parts, where the Booleans of the second were added after those of the first

@@ -1,6 +1,6 @@
 -- What the obligations of an automaton ask, with their Booleans apart.
 use Rattle.std.specs.Prelude.{◌≡◌, ◌<◌, ℕ, false, List, ◌++◌, length, slice_index, slice_index_or}
-use Rattle.psl_tree.specs.Trees.{Boolean, boolean_of}
+use Rattle.psl_tree.specs.Trees.{Boolean, Not, boolean_of}
 use Rattle.psl_tree.specs.declared.atom.Atom.{Atom}
 use Rattle.psl_tree.specs.declared.boolean.Bool as code_boolean
 use Rattle.alternating_theory.specs.Obligations.{Automaton, obligation_at}
@@ -12,6 +12,19 @@ use Rattle.block_step.specs.declared.plan.Plan.{Plan}
 -- the Boolean of a number
 abbrev pub test_at : List code_boolean.Bool → ℕ → Boolean
 test_at tests number = boolean_of (slice_index_or tests number (code_boolean.Const false))
+
+-- a Boolean without two negations one behind the other
+abbrev pub bare : Boolean → Boolean
+bare (Not (Not part)) = bare part
+bare test = test
+
+-- a combination of such Booleans
+abbrev pub bare_positive : Positive → Positive
+bare_positive (Const value) = Const value
+bare_positive (Holds test) = Holds (bare test)
+bare_positive (Owed number) = Owed number
+bare_positive (And left right) = And (bare_positive left) (bare_positive right)
+bare_positive (Or left right) = Or (bare_positive left) (bare_positive right)
 
 -- the combination that a node stands for
 abbrev pub combination_of : List code_boolean.Bool → code_node.Node → Positive
@@ -37,11 +50,11 @@ IsGrown old new = (more : List code_boolean.Bool) × (new ≡ old ++ more)
 abbrev pub IsNumber : List code_boolean.Bool → ℕ → Boolean → Type 0
 IsNumber tests number test = (number < length tests) × (test_at tests number ≡ test)
 
--- the nodes stand for what the first obligations ask
+-- the nodes stand for what the first obligations ask, in bare Booleans
 abbrev pub StandFor : Automaton → List code_boolean.Bool → List code_node.Node → Type 0
 StandFor automaton tests deltas =
     (number : ℕ) (other : code_node.Node) → number < length deltas
-    → (combination_of tests (slice_index_or deltas number other) ≡ (obligation_at automaton.obligations number).delta)
+    → (combination_of tests (slice_index_or deltas number other) ≡ bare_positive (obligation_at automaton.obligations number).delta)
     × NodeWithin (length automaton.obligations) (length tests) (slice_index_or deltas number other)
 
 -- there is a node for each obligation, which stands for what it asks

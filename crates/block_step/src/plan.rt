@@ -3,7 +3,7 @@ ghost use Rattle.psl_tree.specs.Trees.{boolean_of};
 ghost use Rattle.psl_tree.specs.declared.boolean.Bool as code_boolean;
 ghost use Rattle.alternating_theory.specs.Positive.{OwesWithin, And, Or};
 ghost use Rattle.alternating.specs.Views.{positive_of};
-ghost use Rattle.block_step.specs.Plan.{combination_of, NodeWithin, IsPlan, IsGrown, IsNumber};
+ghost use Rattle.block_step.specs.Plan.{bare, bare_positive, combination_of, NodeWithin, IsPlan, IsGrown, IsNumber};
 
 use alternating::{Alternating, Positive};
 use psl_base::{NoMemory, boxed};
@@ -57,7 +57,7 @@ impl Plan {
     }
 }
 
-// The combination with its Booleans numbered, of which the new ones are added.
+// The combination with its Booleans bare and numbered, of which the new ones are added.
 fn planned(
     alloc: Global,
     count: u32,
@@ -65,13 +65,13 @@ fn planned(
     tests: &mut Vec<Bool>,
 ) -> Result<Node, NoMemory>
     requires { OwesWithin 0 count (positive_of combination.now) }
-    ensures same { IfOk result (λ node. combination_of tests.new.items node ≡ positive_of combination.now) }
+    ensures same { IfOk result (λ node. combination_of tests.new.items node ≡ bare_positive (positive_of combination.now)) }
     ensures within { IfOk result (λ node. NodeWithin count (length tests.new.items) node) }
     ensures grown { OnOk result (IsGrown tests.old.items tests.new.items) }
 {
     match combination {
         Positive::Const(value) => Ok(Node::Const(*value)),
-        Positive::Holds(test) => Ok(Node::Holds(number_of(alloc, test, tests)?)),
+        Positive::Holds(test) => Ok(Node::Holds(number_of(alloc, bare(test), tests)?)),
         Positive::Owed(number) => Ok(Node::Owed(*number)),
         Positive::And(left, right) => {
             let first = planned(alloc, count, left, tests)?;
@@ -100,6 +100,19 @@ fn one_of(alloc: Global, left: Node, right: Node) -> Result<Node, NoMemory>
 {
     let left = boxed(alloc, left)?;
     Ok(Node::Or(left, boxed(alloc, right)?))
+}
+
+// The Boolean without two negations one behind the other, of which the dual of a dual makes long rows.
+fn bare(test: &Bool) -> &Bool
+    ensures { boolean_of result.now ≡ bare (boolean_of test.now) }
+{
+    let Bool::Not(part) = test else {
+        return test;
+    };
+    let Bool::Not(inner) = &**part else {
+        return test;
+    };
+    bare(inner)
 }
 
 // The number of a Boolean, which is added where there is no equal one.

@@ -1,6 +1,10 @@
-use Rattle.std.proofs.Common.{◌∙◌, ◌<◌, ap, sym, subst, arith, ℕ, List, length, get_or}
+use Rattle.std.proofs.Common.{◌∙◌, ◌<◌, refl, ap, sym, subst, arith, ℕ, List, length, get_or}
+use Rattle.alternating_theory.specs.Obligations.{obligation_at}
+use Rattle.alternating_theory.specs.Positive.{Positive}
+use Rattle.block_step.proofs.Bare.{bare-meets}
 use Rattle.block_step.proofs.Settled.{none-settled, one-settled, same-words, are-values, AllSettled}
 use Rattle.block_step.proofs.equations.Equations.hold.Goals as goal
+use Rattle.block_step.specs.Block.{MeetsAll}
 use Rattle.block_step.specs.Plan.{combination_of}
 use Rattle.block_step.specs.Words.{words_at}
 use Rattle.block_step.specs.declared.plan.Node as code_node
@@ -16,8 +20,10 @@ loop-number-preserved c = λ automaton atoms columns equations.
     let within : c.loop-number.number < length c.args.self.now.plan.now.deltas.items = omega (arith, c.requires.ready.deltas, c.requires.words) in
     let is = ap (λ (n : code_node.Node). combination_of tests n) (c.index-deltas-number.is ∙ ap (λ (l : List code_node.Node). get_or l c.loop-number.number node) c.as_slice-deltas.ensures.value)
     ∙ (equations.plan.deltas c.loop-number.number node within).0 in
-    one-settled automaton.obligations atoms columns c.args.self.now.after.now c.args.words.now c.loop-number.number (combination_of tests node) c.met.result
-    (c.loop-number.invariant automaton atoms columns equations) is same (c.met.ensures atoms columns equations.tests c.requires.ready.tests)
+    let delta = (obligation_at automaton.obligations c.loop-number.number).delta in
+    let meets = subst (λ (p : Positive). MeetsAll atoms columns c.args.self.now.after.now c.args.words.now p c.met.result) is (c.met.ensures atoms columns equations.tests c.requires.ready.tests) in
+    one-settled automaton.obligations atoms columns c.args.self.now.after.now c.args.words.now c.loop-number.number delta c.met.result
+    (c.loop-number.invariant automaton atoms columns equations) refl same (bare-meets atoms columns c.args.self.now.after.now c.args.words.now delta c.met.result meets)
 
 pub returns : goal.returns
 returns c = λ _ automaton atoms columns equations.
