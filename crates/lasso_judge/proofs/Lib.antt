@@ -1,0 +1,13 @@
+pub mod Forms
+pub mod Hitting
+pub mod Lasting
+pub mod Letters
+pub mod Pushed
+pub mod Cellular
+pub mod Charted
+pub mod Drawn
+pub mod Edges
+pub mod Followed
+pub mod Starts
+pub mod Untils
+pub mod Visiting

@@ -1,0 +1,10 @@
+use Rattle.sere_nfa.proofs.Reach.{work}
+use Rattle.sere_nfa.specs.MarkingView.{marking_of}
+use Rattle.lasso_judge.proofs.Hitting.{IsHitSearch}
+use Rattle.lasso_judge.proofs.hits.hit_cells.Given as goal
+
+abbrev pub invariant-loop-cell : goal.invariant-loop-cell
+invariant-loop-cell l = IsHitSearch l.word l.flipped l.next l.chart.nfa.states l.chart.arrows.items l.hits (marking_of l.marking)
+
+abbrev pub decreases-loop-cell : goal.decreases-loop-cell
+decreases-loop-cell l = work (marking_of l.marking)

@@ -1,0 +1,11 @@
+use Rattle.std.proofs.Common.{[]}
+use Rattle.sere_nfa.proofs.Reach.{work}
+use Rattle.sere_nfa.specs.MarkingView.{marking_of}
+use Rattle.lasso_judge.proofs.Lasting.{IsFallSearch}
+use Rattle.lasso_judge.proofs.lasts.fallen_cells.Given as goal
+
+abbrev pub invariant-loop-cell : goal.invariant-loop-cell
+invariant-loop-cell l = IsFallSearch l.word l.flipped l.next l.chart.nfa.states [] (marking_of l.marking)
+
+abbrev pub decreases-loop-cell : goal.decreases-loop-cell
+decreases-loop-cell l = work (marking_of l.marking)

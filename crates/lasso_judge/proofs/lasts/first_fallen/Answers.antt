@@ -1,0 +1,12 @@
+use Rattle.std.proofs.Common.{◌∙◌}
+use Rattle.sere_nfa.specs.MarkingView.{marking_of}
+use Rattle.lasso_judge.specs.Seen.{seen_at}
+use Rattle.lasso_judge.proofs.Visiting.{fallen-more}
+use Rattle.lasso_judge.proofs.lasts.first_fallen.Goals as goal
+
+pub loop-cell-preserved : goal.loop-cell-preserved
+loop-cell-preserved c = record {
+  same = fallen-more c.args.chart.now.nfa.states (λ place. seen_at c.args.word.now c.args.flipped place) c.args.next.now c.loop-cell.cell c.args.chart.now.cells
+      (marking_of c.loop-cell.marking) (marking_of c.fall_one.new.marking) _ c.loop-cell-test.true c.loop-cell.invariant.same c.in_ok-fall_one.ensures.marking;
+  len = c.in_ok-fall_one.ensures.len ∙ c.loop-cell.invariant.len;
+}

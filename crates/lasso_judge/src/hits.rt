@@ -1,0 +1,105 @@
+ghost use Rattle.std.specs.Prelude.{◌≡◌, ◌<◌, All, [], ◌∷◌, false, length, replicate, if◌then◌else◌, IfOk, OnOk};
+ghost use Rattle.sere_nfa.specs.Marking.{visit_all};
+ghost use Rattle.sere_nfa.specs.MarkingView.{marking_of};
+ghost use Rattle.sere_nfa.specs.Views.{edges_of};
+ghost use Rattle.lasso_judge.specs.Arrows.{IsChart, IsDrawn};
+ghost use Rattle.lasso_judge.specs.Cells.{ends_at, ends_on, numbers_below, AreHits};
+ghost use Rattle.lasso_judge.specs.Seen.{course_by, seen_at, IsWhole};
+
+use crate::before::cells_before;
+use crate::chart::Chart;
+use crate::places::holds_at;
+use psl_base::NoMemory;
+use psl_tree::Word;
+use sere_nfa::{Marking, NfaEdge};
+use std::alloc::Global;
+
+/// The cells from which a path of the automaton leads to an end, its last letter read at a place that is
+/// hit. Each cell is looked at once, and each arrow once at each place.
+#[inline(never)]
+pub(crate) fn hit_cells(
+    alloc: Global,
+    chart: &Chart,
+    word: &Word,
+    next: &[usize],
+    flipped: bool,
+    hits: &[bool],
+) -> Result<Vec<bool>, NoMemory>
+    requires chart { IsChart next.now chart.now }
+    requires whole { IsWhole word.now next.now }
+    requires same { length hits.now ≡ length next.now }
+    ensures { IfOk result (λ cells.
+        AreHits chart.now.nfa.states (course_by word.now flipped next.now) (length next.now) hits.now cells.items) }
+{
+    let mut marking = ended(alloc, chart, word, flipped, hits)?;
+    let mut found = Vec::new(alloc);
+    while let Some(cell) = marking.waiting.pop() {
+        cells_before(chart, word, next, flipped, cell, &mut found)?;
+        marking.visit_each(&found)?;
+    }
+    let Marking { marks, waiting: _ } = marking;
+    Ok(marks)
+}
+
+// The cells from which one letter leads to an end are marked, and wait.
+#[tactic(auto, using(crate::proofs::Visiting::visit_all_append, crate::proofs::Visiting::numbers_more))]
+fn ended(
+    alloc: Global,
+    chart: &Chart,
+    word: &Word,
+    flipped: bool,
+    hits: &[bool],
+) -> Result<Marking, NoMemory>
+    requires chart { IsDrawn chart.now }
+    requires same { length hits.now ≡ length chart.now.before.items }
+    ensures { IfOk result (λ marking.
+        marking_of marking ≡ visit_all (record { marks = replicate chart.now.cells false; waiting = [] })
+        (numbers_below (λ cell. ends_at chart.now.nfa.states (λ place. seen_at word.now flipped place) hits.now cell)
+        chart.now.cells)) }
+{
+    let mut marking = Marking::new(alloc, chart.cells)?;
+    for cell in 0..chart.cells {
+        let ends = ends_here(chart, word, flipped, hits, cell);
+        visit_where(ends, cell as u32, &mut marking)?;
+    }
+    Ok(marking)
+}
+
+// Visits a cell where that is asked.
+fn visit_where(asked: bool, cell: u32, marking: &mut Marking) -> Result<(), NoMemory>
+    requires { cell < length marking.old.marks.items }
+    ensures marking { OnOk result (marking_of marking.new ≡
+        visit_all (marking_of marking.old) (if asked then cell ∷ [] else [])) }
+    ensures len { OnOk result (length marking.new.marks.items ≡ length marking.old.marks.items) }
+{
+    if asked {
+        marking.visit(cell)?;
+    }
+    Ok(())
+}
+
+// Whether one letter leads from a cell to an end, at a place that is hit.
+fn ends_here(chart: &Chart, word: &Word, flipped: bool, hits: &[bool], cell: usize) -> bool
+    requires chart { IsDrawn chart.now }
+    requires same { length hits.now ≡ length chart.now.before.items }
+    requires within { cell < chart.now.cells }
+    ensures { result ≡ ends_at chart.now.nfa.states (λ place. seen_at word.now flipped place) hits.now cell }
+{
+    let states = chart.nfa.len();
+    let place = cell / states;
+    let edges = chart.nfa.edges((cell % states) as u32);
+    hits[place] && ends_by(chart, word, flipped, place, edges.as_slice())
+}
+
+// Whether some edge that can be taken at a place leads to an end.
+fn ends_by(chart: &Chart, word: &Word, flipped: bool, place: usize, edges: &[NfaEdge]) -> bool
+    requires { All (λ edge. edge.target < length chart.now.nfa.states) edges.now }
+    ensures { result ≡ ends_on chart.now.nfa.states (seen_at word.now flipped place) (edges_of edges.now) }
+{
+    for edge in edges {
+        if holds_at(word, flipped, place, &edge.label) && chart.nfa.is_final(edge.target) {
+            return true;
+        }
+    }
+    false
+}

@@ -1,0 +1,16 @@
+//! Whether a word with a loop satisfies a formula without clocks, by a table of answers for each part of
+//! the formula: one answer for each place of the word.
+#![tactic(auto)]
+
+mod abort;
+mod before;
+mod chart;
+mod hits;
+mod judge;
+mod lasts;
+mod places;
+mod sequences;
+mod tables;
+mod until;
+
+pub use judge::satisfies;
