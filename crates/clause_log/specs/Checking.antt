@@ -43,13 +43,17 @@ pub record PassesNow (state : Checking) (literals : List ℤ) (hints : List ℕ)
 abbrev pub with_lemma : Checking → List ℤ → Checking
 with_lemma state literals = record state { lemmas = state.lemmas ++ Some literals ∷ [] }
 
+-- which of the lemmas a number behind those of the formula names, counted from 0
+abbrev pub lemma_place : Checking → ℕ → ℕ
+lemma_place state number = number - suc (length state.formula)
+
 -- a number names a live lemma
 abbrev pub IsLiveLemma : Checking → ℕ → Type 0
-IsLiveLemma state number = (length state.formula < number) × IsSome (slice_index_or state.lemmas (number - suc (length state.formula)) None)
+IsLiveLemma state number = (length state.formula < number) × IsSome (slice_index_or state.lemmas (lemma_place state number) None)
 
 -- the lemma of a number was dropped
 abbrev pub without_lemma : Checking → ℕ → Checking
-without_lemma state number = record state { lemmas = slice_set state.lemmas (number - suc (length state.formula)) None }
+without_lemma state number = record state { lemmas = slice_set state.lemmas (lemma_place state number) None }
 
 -- the answer to an entry, with the state before and after
 abbrev pub Answers : Checking → LogEntry → Step → Checking → Type 0

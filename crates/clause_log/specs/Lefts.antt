@@ -1,5 +1,5 @@
 -- What is left of a clause without the literals of a set.
-use Rattle.std.specs.Prelude.{◌≢◌, ℤ, List, Bool, true, false, Option, Some, None}
+use Rattle.std.specs.Prelude.{◌≢◌, ℤ, List, [], ◌∷◌, ◌++◌, Bool, true, false, Option, Some, None}
 use Rattle.std.specs.List.{All, Contains}
 use Rattle.clauses.specs.Passing.{IsLeft}
 use Rattle.clause_log.specs.declared.left.Left.{Left}
@@ -12,6 +12,10 @@ LeavesOf set clause (One literal) = IsLeft set clause literal
 LeavesOf set clause Several =
     (first : ℤ) × (second : ℤ) × Contains clause first × Contains clause second × (first ≢ second)
     × (Contains set first → ⊥) × (Contains set second → ⊥)
+
+-- what is left with a literal more, whatever the clause
+abbrev pub LeavesWith : List ℤ → Left → ℤ → Left → Type 0
+LeavesWith set left literal new = (clause : List ℤ) → LeavesOf set clause left → LeavesOf set (clause ++ literal ∷ []) new
 
 abbrev pub is_nothing : Left → Bool
 is_nothing Nothing = true

@@ -1,6 +1,7 @@
 -- The clauses that a lemma is checked against.
-use Rattle.std.specs.Prelude.{◌≡◌, ℕ, ℤ, List, ◌++◌, Option, Some, None, IsTrue, slice_index_or}
+use Rattle.std.specs.Prelude.{◌≡◌, ℕ, ℤ, neg_ℤ, List, ◌++◌, Option, Some, None, IsTrue, slice_index_or}
 use Rattle.clauses.specs.Literals.{clause_within}
+use Rattle.clauses.specs.Passing.{Passes}
 use Rattle.clauses.specs.Live.{Numbered, all_live, clause_of}
 use Rattle.clause_log.specs.declared.live.Live.{Live}
 use Rattle.clause_log.specs.declared.left.Left.{Left}
@@ -15,6 +16,14 @@ clauses_of live = all_live live.formula.now.clauses ++ lemmas_of live.lemmas.now
 -- the live clause of a number
 abbrev pub live_clause : Live → ℕ → Option (List ℤ)
 live_clause live = clause_of (clauses_of live)
+
+-- hints refute that the literals of a set are all false
+abbrev pub HintsPass : Live → List ℤ → List ℕ → Type 0
+HintsPass live set hints = Passes neg_ℤ (live_clause live) set hints
+
+-- a lemma passes: its literals are of the formula's variables, and its hints refute their negations
+abbrev pub Follows : Live → List ℤ → List ℕ → Type 0
+Follows live literals hints = IsTrue (clause_within live.formula.now.variables literals) × HintsPass live literals hints
 
 -- each lemma that is there is within the variables
 abbrev pub LemmasWithin : ℕ → Numbered ℤ → Type 0

@@ -6,7 +6,7 @@ ghost use Rattle.clauses.specs.Logs.LogEntry.{Lemma, Forget};
 ghost use Rattle.clauses.specs.Entries.{entry_of};
 ghost use Rattle.clauses.specs.declared.flat.TheConstants.{MOST_VARIABLES};
 ghost use Rattle.clause_log.specs.Codes.{code_of};
-ghost use Rattle.clause_log.specs.Checking.{Answers, begun, held as held_by, live_literals, IsLiveLemma, with_lemma};
+ghost use Rattle.clause_log.specs.Checking.{Answers, begun, held as held_by, live_literals, lemma_place, IsLiveLemma};
 
 use crate::Step;
 use crate::codes::code;
@@ -120,7 +120,7 @@ impl<'a> LogChecker<'a> {
 
     /// Which of the lemmas a number names, counted from 0, if that is live.
     fn place_of(&self, number: u32) -> Option<usize>
-        ensures some { IfSome result (λ place. IsLiveLemma self.now number × (place ≡ number - suc (length self.now.formula))) }
+        ensures some { IfSome result (λ place. IsLiveLemma self.now number × (place ≡ lemma_place self.now number)) }
         ensures none { IfNone result (IsLiveLemma self.now number → ⊥) }
     {
         let behind = (number as usize).checked_sub(1)?;

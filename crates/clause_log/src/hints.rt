@@ -1,8 +1,7 @@
 // Whether a lemma follows by unit propagation with its hints.
 ghost use Rattle.std.specs.Prelude.{◌≡◌, ℕ, neg_ℤ, List, [], ◌∷◌, ◌++◌, ◌↔◌, true, IsTrue, IfOk, OnOk};
 ghost use Rattle.clauses.specs.Literals as spec;
-ghost use Rattle.clauses.specs.Passing.{Passes};
-ghost use Rattle.clause_log.specs.LiveClauses.{live_clause, Fits};
+ghost use Rattle.clause_log.specs.LiveClauses.{Fits, Follows, HintsPass};
 
 use crate::literal_set::LiteralSet;
 use crate::live::{Live, left_of};
@@ -18,8 +17,7 @@ pub(crate) fn lemma_passes(
 ) -> Result<bool, NoMemory>
     requires fits { Fits live.now set.old }
     requires empty { set.old.members ≡ [] }
-    ensures passes { IfOk result (λ passes. IsTrue passes
-        ↔ (IsTrue (spec.clause_within live.now.formula.now.variables literals.now) × Passes neg_ℤ (live_clause live.now) literals.now hints.now)) }
+    ensures passes { IfOk result (λ passes. IsTrue passes ↔ Follows live.now literals.now hints.now) }
     ensures set { set.new ≡ set.old }
 {
     let passes = marked_passes(live, set, literals, hints);
@@ -36,8 +34,7 @@ fn marked_passes(
 ) -> Result<bool, NoMemory>
     requires fits { Fits live.now set.old }
     requires empty { set.old.members ≡ [] }
-    ensures passes { IfOk result (λ passes. IsTrue passes
-        ↔ (IsTrue (spec.clause_within live.now.formula.now.variables literals.now) × Passes neg_ℤ (live_clause live.now) literals.now hints.now)) }
+    ensures passes { IfOk result (λ passes. IsTrue passes ↔ Follows live.now literals.now hints.now) }
     ensures variables { set.new.variables ≡ set.old.variables }
 {
     if !mark_lemma(set, live.formula.variables, literals)? {
@@ -74,7 +71,7 @@ fn is_within(variables: u32, literal: i32) -> bool
 /// Whether the hints refute that the literals of the set are all false.
 fn hints_pass(live: &Live<'_>, set: &mut LiteralSet, hints: &[u32]) -> Result<bool, NoMemory>
     requires { Fits live.now set.old }
-    ensures passes { IfOk result (λ passes. IsTrue passes ↔ Passes neg_ℤ (live_clause live.now) set.old.members hints.now) }
+    ensures passes { IfOk result (λ passes. IsTrue passes ↔ HintsPass live.now set.old.members hints.now) }
     ensures variables { set.new.variables ≡ set.old.variables }
 {
     let mut rest = hints;
@@ -93,7 +90,7 @@ fn hints_pass(live: &Live<'_>, set: &mut LiteralSet, hints: &[u32]) -> Result<bo
 /// Whether a number names a live clause whose literals are all in the set.
 fn is_falsified(live: &Live<'_>, set: &LiteralSet, hint: u32) -> bool
     requires { Fits live.now set.now }
-    ensures { IsTrue result ↔ Passes neg_ℤ (live_clause live.now) set.now.members (hint ∷ []) }
+    ensures { IsTrue result ↔ HintsPass live.now set.now.members (hint ∷ []) }
 {
     match left_of(live, set, hint) {
         Some(left) => left.is_nothing(),
@@ -104,8 +101,9 @@ fn is_falsified(live: &Live<'_>, set: &LiteralSet, hint: u32) -> bool
 /// Whether a number names a live clause whose literals are all in the set but one, whose negation is then put in.
 fn propagate(live: &Live<'_>, set: &mut LiteralSet, hint: u32) -> Result<bool, NoMemory>
     requires { Fits live.now set.old }
-    ensures passes { IfOk result (λ passes. (next : ℕ) (hints : List ℕ) → Passes neg_ℤ (live_clause live.now) set.old.members (hint ∷ (next ∷ hints))
-        ↔ (IsTrue passes × Passes neg_ℤ (live_clause live.now) set.new.members (next ∷ hints))) }
+    ensures passes { IfOk result (λ passes. (next : ℕ) (hints : List ℕ)
+        → HintsPass live.now set.old.members (hint ∷ (next ∷ hints))
+        ↔ (IsTrue passes × HintsPass live.now set.new.members (next ∷ hints))) }
     ensures variables { set.new.variables ≡ set.old.variables }
 {
     let Some(left) = left_of(live, set, hint) else {

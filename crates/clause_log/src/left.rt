@@ -3,7 +3,7 @@ ghost use Rattle.std.specs.Prelude.{◌≡◌, ℤ, List, [], ◌∷◌, ◌++�
 ghost use Rattle.clauses.specs.declared.flat.TheConstants.{MOST_VARIABLES};
 ghost use Rattle.clauses.specs.Literals.{is_within, clause_within};
 ghost use Rattle.clause_log.specs.Codes.{clause_of_codes};
-ghost use Rattle.clause_log.specs.Lefts.{LeavesOf, is_nothing, only_of};
+ghost use Rattle.clause_log.specs.Lefts.{LeavesOf, LeavesWith, is_nothing, only_of};
 
 use crate::codes::literal as literal_of;
 use crate::literal_set::LiteralSet;
@@ -44,7 +44,7 @@ impl Left {
 /// What is left with one literal more in the clause.
 fn with_literal(set: &LiteralSet, left: Left, literal: i32) -> Left
     requires { is_within set.now.variables literal ≡ true }
-    ensures { (clause : List ℤ) → LeavesOf set.now.members clause left → LeavesOf set.now.members (clause ++ literal ∷ []) result }
+    ensures { LeavesWith set.now.members left literal result }
 {
     if set.contains(literal) {
         return left;

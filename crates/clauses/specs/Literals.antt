@@ -26,3 +26,7 @@ clauses_within variables clauses = list_all (clause_within variables) clauses
 -- the words of clauses: the literals of each, and one more
 abbrev pub clause_words : List (List ℤ) → ℕ
 clause_words clauses = sum_by (λ clause. length clause + 1) clauses
+
+-- the words with one clause more
+abbrev pub words_with : List (List ℤ) → List ℤ → ℕ
+words_with clauses clause = clause_words clauses + (length clause + 1)

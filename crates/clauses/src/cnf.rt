@@ -2,7 +2,7 @@
 ghost use Rattle.std.specs.Prelude.{◌≡◌, [], ◌∷◌, ◌++◌, ◌+◌, ◌<◌, ◌≤◌, length, IsTrue, OnOk, OnErr, Err};
 ghost use Rattle.clauses.specs.declared.flat.TheConstants.{MOST_VARIABLES, MOST_WORDS};
 ghost use Rattle.clauses.specs.declared.flat.CnfFault.{CnfFault};
-ghost use Rattle.clauses.specs.Literals.{clause_within, clauses_within, clause_words};
+ghost use Rattle.clauses.specs.Literals.{clause_within, clauses_within, words_with};
 
 use crate::{Clauses, CnfFault};
 use std::alloc::Global;
@@ -41,8 +41,8 @@ impl Cnf {
         requires { IsTrue (clause_within self.old.variables clause.now) }
         ensures variables { self.new.variables ≡ self.old.variables }
         ensures ok { OnOk result (self.new.clauses ≡ self.old.clauses ++ clause.now ∷ []) }
-        ensures fits { OnOk result (clause_words self.old.clauses + (length clause.now + 1) ≤ MOST_WORDS) }
-        ensures too_large { result ≡ Err CnfFault.TooLarge → MOST_WORDS < clause_words self.old.clauses + (length clause.now + 1) }
+        ensures fits { OnOk result (words_with self.old.clauses clause.now ≤ MOST_WORDS) }
+        ensures too_large { result ≡ Err CnfFault.TooLarge → MOST_WORDS < words_with self.old.clauses clause.now }
         ensures err { OnErr result (self.new.clauses ≡ self.old.clauses) }
     {
         self.clauses.push(clause)

@@ -1,7 +1,7 @@
 // Clauses in one block of memory.
 ghost use Rattle.std.specs.Prelude.{◌≡◌, [], ◌∷◌, ◌++◌, ◌+◌, ◌-◌, ◌<◌, ◌≤◌, length, take, drop, slice_get, Some, IsTrue, OnOk, OnErr};
 ghost use Rattle.clauses.specs.Flat as spec;
-ghost use Rattle.clauses.specs.Literals.{clause_within, clause_words};
+ghost use Rattle.clauses.specs.Literals.{clause_within, clause_words, words_with};
 
 use psl_base::NoMemory;
 use std::alloc::{AllocError, Global};
@@ -113,8 +113,8 @@ impl Clauses {
     pub fn push(&mut self, clause: &[i32]) -> Result<(), CnfFault>
         requires { IsTrue (clause_within MOST_VARIABLES clause.now) }
         ensures ok { OnOk result (self.new ≡ self.old ++ clause.now ∷ []) }
-        ensures fits { OnOk result (clause_words self.old + (length clause.now + 1) ≤ MOST_WORDS) }
-        ensures too_large { result ≡ Err CnfFault.TooLarge → MOST_WORDS < clause_words self.old + (length clause.now + 1) }
+        ensures fits { OnOk result (words_with self.old clause.now ≤ MOST_WORDS) }
+        ensures too_large { result ≡ Err CnfFault.TooLarge → MOST_WORDS < words_with self.old clause.now }
         ensures err { OnErr result (self.new ≡ self.old) }
     {
         if clause.len() >= MOST_WORDS - self.words() {

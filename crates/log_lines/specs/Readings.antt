@@ -1,7 +1,7 @@
 -- What a text of lines stands for, and its first fault.
 use Rattle.std.specs.Prelude.{◌≡◌, ℕ, suc, ◌+◌, ◌<◌, ◌≤◌, Bool, true, List, ◌∷◌, ◌++◌, length, IsTrue}
 use Rattle.std.specs.List.{list_all}
-use Rattle.clauses.specs.Logs.{LogEntry, entry_words, log_words}
+use Rattle.clauses.specs.Logs.{LogEntry, is_entry, entry_words, log_words}
 use Rattle.log_lines.specs.declared.fault.LogFault.{LogFault}
 use Rattle.log_lines.specs.declared.fault.LogFault.TheVariants.{BadLine, Truncated, TooLong, NoMemory}
 use Rattle.log_lines.specs.declared.fault.TheConstants.{MOST_READ_WORDS}
@@ -12,6 +12,10 @@ pub record StandsFor (drops : Bool) (text : List ℕ) (log : List LogEntry) : Ty
   pub lines : text ≡ lines_of log
   pub entries : IsTrue (list_all (has_line drops) log)
   pub few : log_words log ≤ MOST_READ_WORDS
+
+-- a log can be printed and read again: its numbers are some, and its words are not too many
+abbrev pub IsReadable : List LogEntry → Type 0
+IsReadable log = IsTrue (list_all is_entry log) × (log_words log ≤ MOST_READ_WORDS)
 
 -- a text begins with the lines of entries, and goes on at a line with this number
 pub record GoesOnAt (drops : Bool) (text rest : List ℕ) (before : List LogEntry) (line : ℕ) : Type 0 where

@@ -1,19 +1,18 @@
 // What follows from the definitions alone.
-ghost use Rattle.std.specs.Prelude.{◌≡◌, ◌≤◌, ℕ, Bool, true, false, List, IsTrue};
-ghost use Rattle.std.specs.List.{list_all};
-ghost use Rattle.clauses.specs.Logs.{LogEntry, is_entry, log_words};
+ghost use Rattle.std.specs.Prelude.{◌≡◌, ℕ, Bool, true, false, List};
+ghost use Rattle.clauses.specs.Logs.{LogEntry};
 ghost use Rattle.log_lines.specs.declared.fault.LogFault.{LogFault};
-ghost use Rattle.log_lines.specs.declared.fault.TheConstants.{MOST_READ_WORDS};
 ghost use Rattle.log_lines.specs.Lines.{lines_of, lemmas_alone};
-ghost use Rattle.log_lines.specs.Readings.{StandsFor, IsFirstFault};
+ghost use Rattle.log_lines.specs.Readings.{IsReadable, StandsFor, IsFirstFault};
 
 /// A law of the lines: those of a log whose words are not too many stand for that log, and a text stands for at most one
 /// log, and has no fault where it does. The same of lemma lines and a log without its drops.
 pub fn one_log_law()
-    ensures lines { (log : List LogEntry) → IsTrue (list_all is_entry log) → log_words log ≤ MOST_READ_WORDS → StandsFor true (lines_of log) log }
-    ensures lemma_lines { (log : List LogEntry) → IsTrue (list_all is_entry log) → log_words log ≤ MOST_READ_WORDS
+    ensures lines { (log : List LogEntry) → IsReadable log → StandsFor true (lines_of log) log }
+    ensures lemma_lines { (log : List LogEntry) → IsReadable log
         → StandsFor false (lines_of (lemmas_alone log)) (lemmas_alone log) }
-    ensures one { (drops : Bool) (text : List ℕ) (log other : List LogEntry) → StandsFor drops text log → StandsFor drops text other → log ≡ other }
-    ensures faultless { (drops : Bool) (text : List ℕ) (log : List LogEntry) (fault : LogFault) → StandsFor drops text log → IsFirstFault drops text fault
-        → fault ≡ LogFault.NoMemory }
+    ensures one { (drops : Bool) (text : List ℕ) (log other : List LogEntry)
+        → StandsFor drops text log → StandsFor drops text other → log ≡ other }
+    ensures faultless { (drops : Bool) (text : List ℕ) (log : List LogEntry) (fault : LogFault)
+        → StandsFor drops text log → IsFirstFault drops text fault → fault ≡ LogFault.NoMemory }
 {}

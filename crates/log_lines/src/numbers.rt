@@ -10,7 +10,8 @@ use psl_base::plain_decimal;
 /// The number of a clause that a text says, in decimal digits without leading zeros.
 pub(crate) fn clause_number(text: &[u8]) -> Option<u32>
     ensures some { IfSome result (λ number. (is_number number ≡ true) × (text.now ≡ decimal number)) }
-    ensures none { IfNone result ((number : ℕ) → is_number number ≡ true → text.now ≡ decimal number → ⊥) }
+    ensures none { IfNone result ((number : ℕ) → is_number number ≡ true
+        → text.now ≡ decimal number → ⊥) }
 {
     match plain_decimal(u64::from(MOST_VARIABLES), text) {
         Some(0) => None,
@@ -21,8 +22,9 @@ pub(crate) fn clause_number(text: &[u8]) -> Option<u32>
 
 /// The literal that a text says, which is negated where a `-` stands before its digits.
 pub(crate) fn literal(text: &[u8]) -> Option<i32>
-    ensures some { IfSome result (λ literal. (is_literal literal ≡ true) × (text.now ≡ signed_decimal literal)) }
-    ensures none { IfNone result ((literal : ℤ) → is_literal literal ≡ true → text.now ≡ signed_decimal literal → ⊥) }
+    ensures some { IfSome result (λ value. (is_literal value ≡ true) × (text.now ≡ signed_decimal value)) }
+    ensures none { IfNone result ((value : ℤ) → is_literal value ≡ true
+        → text.now ≡ signed_decimal value → ⊥) }
 {
     match after_minus(text) {
         Some(digits) => match clause_number(digits) {

@@ -93,8 +93,10 @@ fn add_line(
 
 /// The number that a drop line names, where drops have lines.
 fn drop_of(drops: bool, line: &[u8]) -> Option<u32>
-    ensures some { IfSome result (λ number. (has_line drops (Forget number) ≡ true) × (line.now ≡ entry_text (Forget number))) }
-    ensures none { IfNone result ((number : ℕ) → has_line drops (Forget number) ≡ true → line.now ≡ entry_text (Forget number) → ⊥) }
+    ensures some { IfSome result (λ number. (has_line drops (Forget number) ≡ true)
+        × (line.now ≡ entry_text (Forget number))) }
+    ensures none { IfNone result ((number : ℕ) → has_line drops (Forget number) ≡ true
+        → line.now ≡ entry_text (Forget number) → ⊥) }
 {
     if drops { read_drop(line) } else { None }
 }
