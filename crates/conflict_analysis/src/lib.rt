@@ -16,4 +16,4 @@ mod trail;
 pub use analyzer::Analyzer;
 pub use collect::{Lemma, opposite};
 pub use psl_base::NoMemory;
-pub use trail::TrailView;
+pub use trail::{TrailView, level_of};

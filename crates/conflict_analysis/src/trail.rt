@@ -1,4 +1,6 @@
 // The trail as the analysis reads it.
+ghost use Rattle.std.specs.Prelude.{ℕ, ◌<◌, ◌≤◌, length, slice_index};
+ghost use Rattle.std.specs.List.Sorted.{IsNonDecreasing};
 
 /// A trail: the true literals in the order in which they came to be. A place is an index of one of them.
 #[derive(Clone, Copy, Drop)]
@@ -13,4 +15,15 @@ pub struct TrailView<'a> {
     pub fixed: usize,
     /// Where the current level begins.
     pub start: usize,
+}
+
+/// The level of a place: how many levels above the lowest begin at it or below. Each of the limits is the place where
+/// one of them begins.
+pub fn level_of(place: u32, limits: &[u32]) -> usize
+    requires { IsNonDecreasing limits.now }
+    ensures within { result ≤ length limits.now }
+    ensures at { (level : ℕ) → level < result → slice_index limits.now level ≤ place }
+    ensures above { (level : ℕ) → result ≤ level → level < length limits.now → place < slice_index limits.now level }
+{
+    limits.partition_point(|limit| *limit <= place)
 }

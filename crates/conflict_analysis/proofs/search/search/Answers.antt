@@ -22,7 +22,7 @@ sweep-requires-clause-sweeping c =
     sweeping_first c.args.clauses.now steps c.args.conflict c.clause_at-clause.result.now c.args.standings.now c.clear.new.self.items
     c.reach_clause.new.standings c.reach_clause.new.reached.items c.in_ok-waiting.waiting c.clause_at-clause.ensures c.requires.clear c.in_ok-waiting.ensures
 
-abbrev searched : (c : goal.After-reached-1) → (unit : Unit {0}) →
+searched : (c : goal.After-reached-1) → (unit : Unit {0}) →
     IsCollected (steps_of c.args.trail.now) c.args.conflict c.settle_lower.new.standings c.as_mut_slice.result.now c.collect.new.lemma.literals.items c.collect.new.lemma.hints.items →
     IsSearch c.args.clauses.now (steps_of c.args.trail.now) c.args.conflict c.clause_at-clause.result.now c.in_ok-waiting.waiting c.args.standings.now c.reach_clause.new.standings
     c.sweep.new.standings c.settle_lower.new.standings c.reach_clause.new.reached.items c.settle_lower.new.reached.items c.collect.new.lemma.literals.items c.collect.new.lemma.hints.items
