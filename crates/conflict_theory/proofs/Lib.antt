@@ -3,3 +3,4 @@ pub mod Literals
 pub mod Lower
 pub mod Members
 pub mod Passing
+pub mod Returning

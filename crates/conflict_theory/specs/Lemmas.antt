@@ -1,5 +1,5 @@
 -- What the analysis of a conflict gives.
-use Rattle.std.specs.Prelude.{◌≡◌, ◌≢◌, ℕ, ◌<◌, ◌≤◌, List, [], ◌∷◌, map, Some}
+use Rattle.std.specs.Prelude.{◌≡◌, ◌≢◌, ◌⊎◌, ℕ, ◌<◌, ◌≤◌, List, [], ◌∷◌, map, Some}
 use Rattle.std.specs.List.{All, AllPairs, Contains}
 use Rattle.clauses.specs.Live.{Numbered, clause_of}
 use Rattle.clauses.specs.Passing.{Passes, AddsPropagation}
@@ -33,3 +33,10 @@ pub record IsRefuted (clauses : Numbered ℕ) (literals hints : List ℕ) : Type
   pub empty : literals ≡ []
   pub passes : Passes opposite (clause_of clauses) literals hints
   pub hints_once : AllPairs (λ hint other. hint ≢ other) hints
+
+-- With some literals true, a clause has one literal left that is neither true nor false, and its others are false.
+pub record IsUnit (true_literals clause : List ℕ) (literal : ℕ) : Type 0 where
+  pub member : Contains clause literal
+  pub not_true : Contains true_literals literal → ⊥
+  pub not_false : Contains true_literals (opposite literal) → ⊥
+  pub others : All (λ other. (other ≡ literal) ⊎ Contains true_literals (opposite other)) clause

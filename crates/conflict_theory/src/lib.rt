@@ -4,4 +4,4 @@
 
 mod laws;
 
-pub use laws::{learning_law, refuting_law};
+pub use laws::{learning_law, refuting_law, returning_law};
