@@ -1,7 +1,7 @@
 use Rattle.std.proofs.Common.{◌≤◌, inl, inr, sym, ◌∙◌}
 use Rattle.std.proofs.lemmas.Bool.{cases_lt, true≢false}
 use Rattle.conflict_analysis.specs.Views.{steps_of}
-use Rattle.conflict_analysis.proofs.Settling.{settled_kept}
+use Rattle.conflict_analysis.proofs.Settling.{settled_kept, settled_explained, settled_already}
 use Rattle.conflict_analysis.proofs.settle.settle.Goals as goal
 
 pub returns-else-is_redundant : goal.returns-else-is_redundant
@@ -13,3 +13,12 @@ returns-else-is_redundant c =
       | inr above ↦ above
     ] in
     settled_kept c.args.clauses.now steps c.args.place c.args.standings.now c.args.reached.now.items c.requires.listed c.in-Waiting.is above
+
+pub returns-in_ok-explain : goal.returns-in_ok-explain
+returns-in_ok-explain c =
+    settled_explained c.args.clauses.now (steps_of c.args.trail.now) c.args.place c.in_ok-explain.field-0 c.args.standings.now c.args.reached.now.items
+    c.explain.new.standings c.explain.new.reached.items c.in-Waiting.is c.in_ok-explain.ensures
+
+pub returns-in_default : goal.returns-in_default
+returns-in_default c =
+    settled_already c.args.clauses.now (steps_of c.args.trail.now) c.args.place c.args.standings.now c.args.reached.now.items c.requires.listed c.in_default.not-Waiting
