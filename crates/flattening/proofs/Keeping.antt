@@ -2,7 +2,8 @@
 use Rattle.std.proofs.Common.{◌≡◌, ℕ, Bool, IsTrue, List, [], ◌∷◌, map, refl, subst, inl, inr}
 use Rattle.flattening.specs.declared.model.Model.{Model}
 use Rattle.flattening.specs.Unfolds.{Passes, UnfoldsToTrees, UnfoldsFlatOnly, UnfoldsToEach, UnfoldsFromOne}
-use Rattle.flattening.specs.Trees.{Among, IsOfMentions}
+use Rattle.flattening.specs.Members.{Among}
+use Rattle.flattening.specs.Trees.{IsOfMentions}
 use Rattle.flattening.proofs.Unfolding.{IsTree-unfold_of, IsFlat-from_tree, IsFlat-folded, Same-folded, same_valuations}
 
 -- names with equal values have equal lists of values

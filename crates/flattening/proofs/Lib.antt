@@ -1,6 +1,14 @@
+pub mod Beginning
 pub mod Keeping
 pub mod Lines
 pub mod Members
+pub mod Mentions
 pub mod Numbering
+pub mod Opening
+pub mod Placing
+pub mod Stepping
+pub mod Tables
 pub mod Unfolding
+pub mod Visiting
+pub mod Walking
 pub mod Worked

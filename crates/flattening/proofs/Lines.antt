@@ -6,7 +6,7 @@ use Rattle.flattening.specs.declared.model.Item.TheVariants.{Own, Place}
 use Rattle.flattening.specs.declared.model.Model.{Model}
 use Rattle.flattening.specs.declared.model.TheConstants.{DEEPEST}
 use Rattle.flattening.specs.Hierarchy.{Path, Placed, placements_in, items_at, placement_at, IsInstance, lines_by, expand, flat_lines}
-use Rattle.flattening.specs.Trees.{Among}
+use Rattle.flattening.specs.Members.{Among}
 use Rattle.flattening.proofs.Members.{Among-left, Among-right, from_append}
 
 -- a line of the list, and what stands in place of a placement of it
@@ -34,6 +34,7 @@ below_line below path k (suc j) placement placed (Place other ∷ items) is ther
 -- what an instance has below it, the top has
 rises : {Line : Type 0} (models : List (Model Line)) (path : Path) (levels : ℕ) → IsInstance models path → length path + levels ≡ DEEPEST
     → (placed : Placed Line) → Among placed (expand models levels path) → Among placed (flat_lines models)
+unfolding flat_lines
 rises models [] levels instance deep placed there = let all : levels ≡ DEEPEST = omega arith in subst (λ n. Among placed (expand models n [])) all there
 rises models (k ∷ path) levels instance deep placed there =
     let step : Among placed (expand models (suc levels) path) =
@@ -90,5 +91,5 @@ by_levels models (suc levels) path instance placed there =
 
 pub line_of : {Line : Type 0} (models : List (Model Line)) (path : Path) (line : Line) → Among (path, line) (flat_lines models)
     → IsInstance models path × Among (Own line) (items_at models path)
-unfolding IsLineOf
+unfolding IsLineOf flat_lines
 line_of models path line there = by_levels models DEEPEST [] tt (path, line) there

@@ -1,7 +1,7 @@
 -- Members of lists.
 use Rattle.std.proofs.Common.{◌≡◌, ℕ, zero, suc, ◌<◌, ◌⊎◌, inl, inr, List, [], ◌∷◌, ◌++◌, length, map, get_or, refl, sym, ap, subst, ⊎_elim, arith}
 use Rattle.std.specs.List.{flat_map}
-use Rattle.flattening.specs.Trees.{Among}
+use Rattle.flattening.specs.Members.{Among}
 
 pub Among-left : {X : Type 0} (x : X) (xs ys : List X) → Among x xs → Among x (xs ++ ys)
 Among-left x (y ∷ xs) ys (inl here) = inl here
@@ -42,3 +42,9 @@ pub Among-at : {X : Type 0} (xs : List X) (k : ℕ) (d : X) → k < length xs �
 Among-at [] k d lt = absurd (omega arith)
 Among-at (x ∷ xs) zero d lt = inl refl
 Among-at (x ∷ xs) (suc k) d lt = inr (Among-at xs k d (omega arith))
+
+-- where a member stands
+pub Among-place : {X : Type 0} (x d : X) (xs : List X) → Among x xs → (k : ℕ) × (k < length xs) × (get_or xs k d ≡ x)
+Among-place x d [] none = absurd none
+Among-place x d (y ∷ xs) (inl here) = (0, omega arith, here)
+Among-place x d (y ∷ xs) (inr there) = let rest = Among-place x d xs there in (suc rest.0, omega (arith, rest.1), rest.2)

@@ -1,12 +1,14 @@
 -- Numbers by first mention.
-use Rattle.std.proofs.Common.{◌≡◌, ◌≢◌, ℕ, zero, suc, ◌<◌, ◌⊎◌, inl, inr, Bool, true, false, eqb, cond, Decides, List, [], ◌∷◌, ◌++◌, length, get_or, refl, sym, ap, ◌∙◌, subst, ⊎_elim, arith}
+use Rattle.std.proofs.Common.{◌≡◌, ◌≢◌, ℕ, zero, suc, ◌<◌, ◌⊎◌, inl, inr, Bool, true, false, eqb, cond, Decides, List, [], ◌∷◌, ◌++◌, length, get_or, refl, sym, ap, ◌∙◌, subst, ⊎_elim, arith, ◌≤◌, map}
+use Rattle.std.proofs.lemmas.List.{length_push}
 use Rattle.std.specs.Str.{bytes_eq}
 use Rattle.std.proofs.lemmas.Bool.{false≢true}
 use Rattle.std.proofs.lemmas.Bool.Decides.{Decides-eqb, Decides-and}
 use Rattle.std.proofs.lemmas.Slice.Eq.{bytes_eq-Decides}
-use Rattle.flattening.specs.Hierarchy.{Path, Signal}
+use Rattle.flattening.specs.declared.model.Signal.{Signal}
+use Rattle.flattening.specs.Hierarchy.{Path}
 use Rattle.flattening.specs.Numbers.{same_signal, is_among, onto, place_of}
-use Rattle.flattening.specs.Trees.{Among}
+use Rattle.flattening.specs.Members.{Among, Apart}
 use Rattle.flattening.proofs.Members.{Among-left, Among-right, from_append, Among-at}
 
 -- a test and what it decides, as two cases
@@ -86,10 +88,6 @@ onto-from seen (y ∷ xs) x there =
     (in_or_not seen y)
 
 -- no signal is there twice
-abbrev pub Apart : List Signal → Type 0
-Apart [] = Unit {0}
-Apart (x ∷ xs) = (Among x xs → ⊥) × Apart xs
-
 pub Apart-push : (xs : List Signal) (x : Signal) → Apart xs → (Among x xs → ⊥) → Apart (xs ++ x ∷ [])
 Apart-push [] x apart not = (λ none. none, tt)
 Apart-push (y ∷ xs) x apart not = (
@@ -125,3 +123,34 @@ place_of-get_or (x ∷ xs) (suc k) d apart lt =
     let there = Among-at xs k d (omega arith) in
     ⊎_elim (λ same. absurd (apart.0 (subst (λ w. Among w xs) (sym same.1) there)))
     (λ other. rw other.0 (ap suc (place_of-get_or xs k d apart.1 (omega arith)))) (same_or_not x (get_or xs k d))
+
+-- lists of signals that were seen grow
+pub onto-longer : (seen xs : List Signal) → length seen ≤ length (onto seen xs)
+onto-longer seen [] = omega arith
+onto-longer seen (x ∷ xs) =
+    ⊎_elim (λ old. rw (onto-seen seen x xs old.1) (onto-longer seen xs))
+    (λ new. rw (onto-new seen x xs new.1) (let more = onto-longer (seen ++ x ∷ []) xs in omega (arith, more, length_push seen x)))
+    (in_or_not seen x)
+
+-- and a signal that was seen keeps its number
+place_of-append : (seen more : List Signal) (x : Signal) → Among x seen → place_of (seen ++ more) x ≡ place_of seen x
+place_of-append [] more x none = absurd none
+place_of-append (y ∷ seen) more x there =
+    ⊎_elim (λ same. rw same.0 refl)
+    (λ other. rw other.0 (ap suc (⊎_elim (λ here. absurd (other.1 here)) (λ later. place_of-append seen more x later) there)))
+    (same_or_not y x)
+
+pub place_of-onto : (seen xs : List Signal) (x : Signal) → Among x seen → place_of (onto seen xs) x ≡ place_of seen x
+place_of-onto seen [] x there = refl
+place_of-onto seen (y ∷ xs) x there =
+    ⊎_elim (λ old. rw (onto-seen seen y xs old.1) (place_of-onto seen xs x there))
+    (λ new. rw (onto-new seen y xs new.1) (place_of-onto (seen ++ y ∷ []) xs x (Among-left x seen (y ∷ []) there) ∙ place_of-append seen (y ∷ []) x there))
+    (in_or_not seen y)
+
+pub numbers-stay : (seen xs : List Signal) (names : List Signal) → ((x : Signal) → Among x names → Among x seen)
+    → map (place_of (onto seen xs)) names ≡ map (place_of seen) names
+numbers-stay seen xs [] all = refl
+numbers-stay seen xs (x ∷ names) all =
+    let first = place_of-onto seen xs x (all x (inl refl)) in
+    let rest = numbers-stay seen xs names (λ y there. all y (inr there)) in
+    cc

@@ -5,9 +5,11 @@ use Rattle.std.proofs.lemmas.Option.{option_and_then_some}
 use Rattle.flattening.specs.declared.model.Placement.{Placement}
 use Rattle.flattening.specs.declared.model.Item.TheVariants.{Own}
 use Rattle.flattening.specs.declared.model.Model.{Model}
-use Rattle.flattening.specs.Hierarchy.{Path, Signal, items_at, placement_at, IsInstance, actual_in, actual_of, owner_by, owner, flat_lines, mentioned_by, mentioned}
+use Rattle.flattening.specs.declared.model.Signal.{Signal}
+use Rattle.flattening.specs.Hierarchy.{Path, items_at, placement_at, IsInstance, actual_in, actual_of, owner_by, owner, flat_lines, mentioned_by, mentioned}
 use Rattle.flattening.specs.Numbers.{place_of, signals, number}
-use Rattle.flattening.specs.Trees.{Among, Tree, IsName, IsWhole, IsOfMentions, IsTree, IsFlat, unfold_of, folded, Same}
+use Rattle.flattening.specs.Members.{Among}
+use Rattle.flattening.specs.Trees.{Tree, IsName, IsWhole, IsOfMentions, IsTree, IsFlat, unfold_of, folded, Same}
 use Rattle.flattening.proofs.Members.{Among-map, from_map, Among-flat_map, from_flat_map, Among-at}
 use Rattle.flattening.proofs.Numbering.{onto-adds, onto-from, Apart-onto, place-within, get_or-place_of, place_of-get_or}
 use Rattle.flattening.proofs.Lines.{has_line, line_of}

@@ -6,7 +6,8 @@ use Rattle.flattening.specs.declared.model.Connection.{Connection}
 use Rattle.flattening.specs.declared.model.Item.{Item}
 use Rattle.flattening.specs.declared.model.Item.TheVariants.{Own, Place}
 use Rattle.flattening.specs.declared.model.Model.{Model}
-use Rattle.flattening.specs.Hierarchy.{Signal, owner}
+use Rattle.flattening.specs.declared.model.Signal.{Signal}
+use Rattle.flattening.specs.Hierarchy.{owner, flat_lines}
 use Rattle.flattening.specs.Numbers.{signals, number}
 
 abbrev placed : List Connection → Item (List ℕ)
@@ -22,6 +23,7 @@ signal path name = record { path = path; name = name }
 
 -- the signals in order: u1.n, y, u2.n, u2.q
 worked-signals : signals (λ line. line) worked ≡ signal (0 ∷ []) 1 ∷ signal [] 0 ∷ signal (1 ∷ []) 1 ∷ signal (1 ∷ []) 0 ∷ []
+unfolding flat_lines
 worked-signals = refl
 
 -- u1.q is y, and u2.q is not
@@ -29,4 +31,5 @@ worked-owner : owner worked (0 ∷ []) 0 ≡ signal [] 0
 worked-owner = refl
 
 worked-other : number (λ line. line) worked (owner worked (1 ∷ []) 0) ≡ 3
+unfolding flat_lines
 worked-other = refl

@@ -6,16 +6,12 @@ use Rattle.flattening.specs.declared.model.Placement.{Placement}
 use Rattle.flattening.specs.declared.model.Item.{Item}
 use Rattle.flattening.specs.declared.model.Item.TheVariants.{Own, Place}
 use Rattle.flattening.specs.declared.model.Model.{Model}
+use Rattle.flattening.specs.declared.model.Signal.{Signal}
 use Rattle.flattening.specs.declared.model.TheConstants.{DEEPEST}
 
 -- an instance: the numbers of the placements that lead to it from the top, the last one first
 abbrev pub Path : Type 0
 Path = List ℕ
-
--- a name of an instance
-pub record Signal : Type 0 where
-  pub path : Path
-  pub name : ℕ
 
 -- what the model of a number lists
 abbrev pub items_of : {Line : Type 0} → List (Model Line) → ℕ → List (Item Line)
@@ -94,7 +90,7 @@ expand models zero path = []
 expand models (suc levels) path = lines_by (expand models levels) path 0 (items_at models path)
 
 -- the lines of all instances, in flat order
-abbrev pub flat_lines : {Line : Type 0} → List (Model Line) → List (Placed Line)
+unfoldable pub flat_lines : {Line : Type 0} → List (Model Line) → List (Placed Line)
 flat_lines models = expand models DEEPEST []
 
 -- the signals that a line of an instance mentions

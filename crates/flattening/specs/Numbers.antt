@@ -2,7 +2,8 @@
 use Rattle.std.specs.Prelude.{ℕ, suc, ◌==◌, Bool, false, ◌&&◌, ◌||◌, cond, List, [], ◌∷◌, ◌++◌}
 use Rattle.std.specs.Str.{bytes_eq}
 use Rattle.flattening.specs.declared.model.Model.{Model}
-use Rattle.flattening.specs.Hierarchy.{Signal, flat_lines, mentioned}
+use Rattle.flattening.specs.declared.model.Signal.{Signal}
+use Rattle.flattening.specs.Hierarchy.{flat_lines, mentioned}
 
 -- two signals are one
 abbrev pub same_signal : Signal → Signal → Bool

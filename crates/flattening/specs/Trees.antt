@@ -1,15 +1,11 @@
 -- Valuations of a hierarchy: flat ones, and trees that give each instance's names their values.
-use Rattle.std.specs.Prelude.{◌≡◌, ℕ, ◌<◌, ◌⊎◌, List, [], ◌∷◌, length, map, Some, slice_index_or}
+use Rattle.std.specs.Prelude.{◌≡◌, ℕ, ◌<◌, ◌⊎◌, List, ◌∷◌, length, map, Some, slice_index_or}
 use Rattle.flattening.specs.declared.model.Item.TheVariants.{Own}
 use Rattle.flattening.specs.declared.model.Model.{Model}
 use Rattle.flattening.specs.declared.model.TheConstants.{DEEPEST}
 use Rattle.flattening.specs.Hierarchy.{Path, items_at, IsInstance, actual_of, owner, flat_lines}
+use Rattle.flattening.specs.Members.{Among}
 use Rattle.flattening.specs.Numbers.{signals, number}
-
--- something is one of a list
-abbrev pub Among : {X : Type 0} → X → List X → Type 0
-Among x [] = ⊥
-Among x (y ∷ ys) = (y ≡ x) ⊎ Among x ys
 
 -- a value for each name of each instance
 abbrev pub Tree : Type 0 → Type 0

@@ -5,8 +5,15 @@
 //! the top, and an instance is a path of placements from it.
 #![tactic(auto)]
 
+mod cells;
+mod hierarchy;
+mod instance;
 mod laws;
 mod model;
+mod walk;
 
+pub use hierarchy::{Flat, flatten};
 pub use laws::unfolding_is_one_to_one;
-pub use model::{Connection, DEEPEST, Item, Line, Model, Placement};
+pub use model::{Connection, DEEPEST, Item, Line, Model, Placement, Signal};
+pub use psl_base::NoMemory;
+pub use walk::FlatLine;

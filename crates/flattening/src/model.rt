@@ -6,6 +6,15 @@ use psl_base::Items;
 /// How many instances a path leads through at the most, the top among them.
 pub const DEEPEST: u32 = 64;
 
+/// A name of an instance, which is a signal where it is not connected.
+#[derive(Drop)]
+pub struct Signal {
+    /// The numbers of the placements that lead to the instance from the top, the last one first.
+    pub path: Items<usize>,
+    /// The name in the model of the instance.
+    pub name: u32,
+}
+
 /// What a model lists: lines that mention names.
 pub trait Line {
     ghost use Rattle.std.specs.Prelude.{ℕ, List};

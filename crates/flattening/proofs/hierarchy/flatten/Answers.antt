@@ -1,0 +1,20 @@
+use Rattle.std.proofs.Common.{◌^◌, length, ap, ◌∙◌}
+use Rattle.flattening.proofs.Beginning.{room-all, seen-all, found-all}
+use Rattle.flattening.proofs.hierarchy.flatten.Goals as goal
+
+pub walk-requires-clause-room : goal.walk-requires-clause-room
+walk-requires-clause-room g c =
+    room-all g.row.L.Denot g.L.Line.mentions c.args.models.now c.levels.result c.levels.ensures c.in_ok-top.top.path c.in_ok-top.ensures.path
+    c.open_top.new.out.table.seen (c.in_ok-top.ensures.seen ∙ c.new-out.ensures.seen) (2 ^ 32) c.requires.room
+
+pub returns-clause-signals : goal.returns-clause-signals
+returns-clause-signals g c =
+    c.seen.ensures
+    ∙ ap length (seen-all g.row.L.Denot g.L.Line.mentions c.args.models.now c.levels.result c.levels.ensures c.in_ok-top.top.path c.in_ok-top.ensures.path
+    c.open_top.new.out c.walk.new.out c.in_ok-walk.ensures.walks (c.in_ok-top.ensures.seen ∙ c.new-out.ensures.seen))
+
+pub returns-clause-lines : goal.returns-clause-lines
+returns-clause-lines g c =
+    found-all g.row.L.Denot g.L.Line.mentions c.args.models.now c.levels.result c.levels.ensures c.in_ok-top.top.path c.in_ok-top.ensures.path
+    c.open_top.new.out c.walk.new.out c.in_ok-walk.ensures.walks (c.in_ok-top.ensures.seen ∙ c.new-out.ensures.seen)
+    (c.in_ok-top.ensures.lines ∙ c.new-out.ensures.lines)

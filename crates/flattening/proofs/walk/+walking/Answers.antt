@@ -1,0 +1,150 @@
+use Rattle.std.proofs.Common.{◌≤◌, ◌-◌, ◌^◌, ◌∷◌, length, slice_get, ap, refl, ◌∙◌, sym, subst, arith}
+use Rattle.flattening.specs.Hierarchy.{items_of, mentioned, lines_by, expand}
+use Rattle.flattening.specs.Numbers.{onto}
+use Rattle.flattening.specs.Walks.{Walks}
+use Rattle.flattening.proofs.Visiting.{names-within, cells-within, room-line, Walks-line, items_of-get, items_of-none, model-read, model-none}
+use Rattle.flattening.proofs.Placing.{fresh-below, Grows-placed, fresh-next, Walks-after}
+use Rattle.flattening.proofs.Walking.{IsOpened-grown, walking-start, placed-as, room-item, walking-next, walking-end}
+use Rattle.flattening.proofs.Stepping.{expand-step, Walks-nothing}
+use Rattle.flattening.proofs.walk.+walking.Goals as goal
+
+pub visit-add_line-requires-clause-names : goal.visit-add_line-requires-clause-names
+visit-add_line-requires-clause-names g t c =
+    let listed = rw c.in-Own.is at c.requires.listed in
+    rw c.mentions.ensures
+    (names-within g.row.L.Denot g.L.Line.mentions c.args.models.now c.requires.named c.args.instance.now c.args.out.now.table.owners c.requires.opened
+    c.args.item c.in-Own.line listed)
+
+pub visit-add_line-requires-clause-cells : goal.visit-add_line-requires-clause-cells
+visit-add_line-requires-clause-cells g t c =
+    let listed = rw c.in-Own.is at c.requires.listed in
+    cells-within g.row.L.Denot g.L.Line.mentions c.args.models.now c.requires.named c.args.instance.now c.args.out.now.table.owners c.requires.opened
+    c.args.item c.in-Own.line listed
+
+pub visit-add_line-requires-clause-room : goal.visit-add_line-requires-clause-room
+visit-add_line-requires-clause-room g t c =
+    let listed = rw c.in-Own.is at c.requires.listed in
+    let room = rw c.in-Own.is at c.requires.room in
+    rw c.mentions.ensures
+    (room-line g.row.L.Denot g.L.Line.mentions c.args.models.now c.requires.named c.args.instance.now c.args.out.now.table.owners c.requires.opened
+    c.args.item c.in-Own.line listed c.args.out.now.table.seen (2 ^ 32) room)
+
+pub visit-returns-in_ok-add_line-in-Own-clause-walks : goal.visit-returns-in_ok-add_line-in-Own-clause-walks
+visit-returns-in_ok-add_line-in-Own-clause-walks g t c =
+    let listed = rw c.in-Own.is at c.requires.listed in
+    let adds = rw c.mentions.ensures at c.in_ok-add_line-in-Own.ensures in
+    rw c.in-Own.is
+    (Walks-line g.row.L.Denot g.L.Line.mentions c.args.models.now c.requires.named c.args.instance.now c.args.out.now.table.owners c.requires.opened
+    c.args.item c.in-Own.line listed c.args.out.now c.add_line.new.out refl adds)
+
+pub visit-walk-requires : goal.visit-walk-requires
+visit-walk-requires g t c κs within =
+    let placed = rw c.in-Place.is at c.requires.placed in
+    let room = rw c.in-Place.is at c.requires.room in
+    let path = c.in_ok-child-in-Place.ensures.path in
+    let opens = rw path at c.in_ok-child-in-Place.ensures.opens in (
+      omega (arith, c.decreases),
+      (
+        within,
+        (
+          c.requires.named,
+          (
+            c.in_ok-child-in-Place.ensures.opened,
+            (
+              rw path
+                  (fresh-below g.row.L.Denot g.L.Line.mentions c.args.models.now c.requires.named c.args.instance.now c.args.out.now.table.owners c.requires.opened c.args.k
+                  c.in-Place.placement placed c.requires.fresh _ c.open_placement.new.out.table.owners c.open_placement.new.out.table.owners opens),
+              rw (path, c.in_ok-child-in-Place.ensures.seen) room,
+            ),
+          ),
+        ),
+      ),
+    )
+
+pub visit-returns-in_ok-walk-in-Place-clause-walks : goal.visit-returns-in_ok-walk-in-Place-clause-walks
+visit-returns-in_ok-walk-in-Place-clause-walks g t c =
+    let walks = rw c.in_ok-child-in-Place.ensures.path at c.in_ok-walk-in-Place.ensures.walks in
+    rw c.in-Place.is
+    (Walks-after g.row.L.Denot g.L.Line.mentions c.args.models.now (expand c.args.models.now c.args.levels (c.args.k ∷ c.args.instance.now.path)) c.args.out.now c.open_placement.new.out c.walk.new.out
+    c.in_ok-child-in-Place.ensures.seen c.in_ok-child-in-Place.ensures.lines walks)
+
+pub visit-returns-in_ok-walk-in-Place-clause-grows : goal.visit-returns-in_ok-walk-in-Place-clause-grows
+visit-returns-in_ok-walk-in-Place-clause-grows g t c =
+    let placed = rw c.in-Place.is at c.requires.placed in
+    let opens = rw c.in_ok-child-in-Place.ensures.path at c.in_ok-child-in-Place.ensures.opens in
+    let grows = rw c.in_ok-child-in-Place.ensures.path at c.in_ok-walk-in-Place.ensures.grows in
+    Grows-placed g.row.L.Denot g.L.Line.mentions c.args.models.now c.requires.named c.args.instance.now c.args.out.now.table.owners c.requires.opened c.args.k
+    c.in-Place.placement placed c.requires.fresh _ c.open_placement.new.out.table.owners c.walk.new.out.table.owners opens grows
+
+pub visit-returns-in_ok-walk-in-Place-clause-fresh : goal.visit-returns-in_ok-walk-in-Place-clause-fresh
+visit-returns-in_ok-walk-in-Place-clause-fresh g t c =
+    let placed = rw c.in-Place.is at c.requires.placed in
+    let opens = rw c.in_ok-child-in-Place.ensures.path at c.in_ok-child-in-Place.ensures.opens in
+    let grows = rw c.in_ok-child-in-Place.ensures.path at c.in_ok-walk-in-Place.ensures.grows in
+    fresh-next g.row.L.Denot g.L.Line.mentions c.args.models.now c.requires.named c.args.instance.now c.args.out.now.table.owners c.requires.opened c.args.k
+    c.in-Place.placement placed c.requires.fresh _ c.open_placement.new.out.table.owners c.walk.new.out.table.owners opens grows
+
+pub walk-returns-in_default-clause-walks : goal.walk-returns-in_default-clause-walks
+walk-returns-in_default-clause-walks g t c =
+    Walks-nothing g.row.L.Denot g.L.Line.mentions c.args.models.now c.args.levels c.args.instance.now.path c.args.instance.now.model c.args.out.now
+    c.if-levels-eq0.false c.requires.opened.model
+    (items_of-none c.args.models.now c.args.instance.now.model
+    (model-none c.args.models.now c.as_slice.result.now c.args.instance.now.model c.as_slice.ensures c.in_default.ensures.lookup.3))
+
+pub walk-loop-item-init : goal.walk-loop-item-init
+walk-loop-item-init g t c =
+    walking-start g.row.L.Denot g.L.Line.mentions c.args.models.now c.args.instance.now.path (expand c.args.models.now (c.args.levels - 1))
+    c.in-Some.model.now.items c.args.out.now c.requires.fresh
+
+pub walk-visit-requires : goal.walk-visit-requires
+walk-visit-requires g t c κs within =
+    let listed = items_of-get c.args.models.now c.args.instance.now.model c.in-Some.model.now
+    (model-read c.args.models.now c.as_slice.result.now c.args.instance.now.model c.in-Some.model.now c.as_slice.ensures c.in-Some.ensures.lookup.3.0 c.in-Some.ensures.lookup.1) in
+    let room : length (onto c.args.out.now.table.seen (mentioned g.L.Line.mentions c.args.models.now
+    (lines_by (expand c.args.models.now (c.args.levels - 1)) c.args.instance.now.path 0 c.in-Some.model.now.items))) ≤ 2 ^ 32 =
+    subst (λ lines. length (onto c.args.out.now.table.seen (mentioned g.L.Line.mentions c.args.models.now lines)) ≤ 2 ^ 32)
+    (expand-step c.args.models.now c.args.levels c.args.instance.now.path c.args.instance.now.model c.in-Some.model.now.items c.if-levels-eq0.false c.requires.opened.model listed)
+    c.requires.room in (
+      omega (arith, c.decreases, c.if-levels-eq0.false),
+      (
+        within,
+        (
+          c.requires.named,
+          (
+            IsOpened-grown g.row.L.Denot g.L.Line.mentions c.args.models.now c.args.instance.now.path c.args.out.now.table.owners c.loop-item.out.table.owners
+                c.args.instance.now c.loop-item.invariant.grows c.requires.opened,
+            (
+              c.loop-item.invariant.fresh,
+              (
+                ap (λ items. slice_get items c.loop-item.item) listed ∙ c.at.ensures,
+                (
+                  placed-as g.row.L.Denot g.L.Line.mentions c.args.models.now c.args.instance.now.path (expand c.args.models.now (c.args.levels - 1))
+                      c.in-Some.model.now.items c.args.out.now c.loop-item.out c.loop-item.item c.loop-item.k c.loop-item.invariant c.at.result.now c.at.ensures
+                      (sym listed ∙ ap (items_of c.args.models.now) c.requires.opened.model),
+                  (
+                    omega (arith, c.loop-item.invariant.few, c.loop-item-test.true),
+                    room-item g.row.L.Denot g.L.Line.mentions c.args.models.now c.args.instance.now.path (expand c.args.models.now (c.args.levels - 1))
+                        c.in-Some.model.now.items c.args.out.now c.loop-item.out c.loop-item.item c.loop-item.k c.loop-item.invariant c.at.result.now c.at.ensures (2 ^ 32) room,
+                  ),
+                ),
+              ),
+            ),
+          ),
+        ),
+      ),
+    )
+
+pub walk-loop-item-preserved : goal.walk-loop-item-preserved
+walk-loop-item-preserved g t c =
+    walking-next g.row.L.Denot g.L.Line.mentions c.args.models.now c.args.instance.now.path (expand c.args.models.now (c.args.levels - 1))
+    c.in-Some.model.now.items c.args.out.now c.loop-item.out c.loop-item.item c.loop-item.k c.loop-item.invariant c.at.result.now c.at.ensures
+    c.visit.new.out _ c.in_ok-k.ensures.walks c.in_ok-k.ensures.grows c.in_ok-k.ensures.fresh c.in_ok-k.ensures.next
+
+pub walk-returns-clause-walks : goal.walk-returns-clause-walks
+walk-returns-clause-walks g t c =
+    let listed = items_of-get c.args.models.now c.args.instance.now.model c.in-Some.model.now
+    (model-read c.args.models.now c.as_slice.result.now c.args.instance.now.model c.in-Some.model.now c.as_slice.ensures c.in-Some.ensures.lookup.3.0 c.in-Some.ensures.lookup.1) in
+    subst (λ lines. Walks g.L.Line.mentions c.args.models.now lines c.args.out.now c.loop-item.out)
+    (sym (expand-step c.args.models.now c.args.levels c.args.instance.now.path c.args.instance.now.model c.in-Some.model.now.items c.if-levels-eq0.false c.requires.opened.model listed))
+    (walking-end g.row.L.Denot g.L.Line.mentions c.args.models.now c.args.instance.now.path (expand c.args.models.now (c.args.levels - 1))
+    c.in-Some.model.now.items c.args.out.now c.loop-item.out c.loop-item.item c.loop-item.k c.loop-item.invariant (omega (arith, c.loop-item-test.false, c.len-item-end.ensures))).0

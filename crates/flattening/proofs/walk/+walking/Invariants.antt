@@ -1,0 +1,14 @@
+use Rattle.std.proofs.Common.{◌+◌, ◌-◌, ◌*◌}
+use Rattle.flattening.specs.Hierarchy.{expand}
+use Rattle.flattening.proofs.Walking.{Walking}
+use Rattle.flattening.proofs.walk.+walking.Given as goal
+
+abbrev pub decreases-visit : goal.decreases-visit
+decreases-visit g l = 2 * l.levels + 1
+
+abbrev pub decreases-walk : goal.decreases-walk
+decreases-walk g l = 2 * l.levels
+
+abbrev pub invariant-walk-loop-item : goal.invariant-walk-loop-item
+invariant-walk-loop-item g l =
+    Walking g.row.L.Denot g.L.Line.mentions l.models l.instance.path (expand l.models (l.levels - 1)) l.model.items l.fn.out l.out l.item l.k
