@@ -137,57 +137,34 @@ fn a_valuation_is_filled(rt: HostRuntime) -> Result<(), Fail> {
     Ok(())
 }
 
-fn is_run(alloc: Global, netlist: &Netlist, stem: &str, loop_part: &str) -> Result<bool, NoMemory> {
-    let run = Run {
-        stem: valuations(alloc, stem)?,
-        loop_part: valuations(alloc, loop_part)?,
-    };
-    Ok(netlist.is_run(&run))
+// How many of the cases, each a stem and a loop with a bar between, are runs.
+fn runs_among(alloc: Global, netlist: &Netlist, cases: &str) -> Result<usize, NoMemory> {
+    let mut count: usize = 0;
+    for case in cases.split(' ') {
+        if let Some((stem, loop_part)) = case.split_once('|') {
+            let run = Run {
+                stem: valuations(alloc, stem)?,
+                loop_part: valuations(alloc, loop_part)?,
+            };
+            count = count.saturating_add(netlist.is_run(&run) as usize);
+        }
+    }
+    Ok(count)
 }
 
-#[test]
-fn runs(rt: HostRuntime) -> Result<(), Fail> {
-    let alloc = rt.alloc();
-    let netlist = example(alloc)?;
-    assert!(rt;
-        is_run(alloc, &netlist, "", "00011000100100")?,
-        "q goes 0, 1, 0 and so on"
-    );
-    assert!(rt;
-        is_run(alloc, &netlist, "1001100", "01001001001100")?,
-        "i is free"
-    );
-    assert!(rt;
-        is_run(alloc, &netlist, "", "00111000110100")?,
-        "f begins with either value"
-    );
-    Ok(())
-}
+// q goes 0, 1, 0 and so on; the same with a stem, and i is free; and f may begin with either value.
+const RUNS: &str = "|00011000100100 1001100|01001001001100 |00111000110100";
+
+// The loop does not close; there is none; q is 1 at first; n is not what its row says; and f moves.
+const NO_RUNS: &str =
+    "|000110001001000001100 0001100| |01001000001100 |00011000101100 0001100|01101000011100";
 
 #[test]
-fn what_is_no_run(rt: HostRuntime) -> Result<(), Fail> {
+fn eight_runs(rt: HostRuntime) -> Result<(), Fail> {
     let alloc = rt.alloc();
     let netlist = example(alloc)?;
-    assert!(rt;
-        !is_run(alloc, &netlist, "", "000110001001000001100")?,
-        "the loop does not close"
-    );
-    assert!(rt;
-        !is_run(alloc, &netlist, "0001100", "")?,
-        "there is no loop"
-    );
-    assert!(rt;
-        !is_run(alloc, &netlist, "", "01001000001100")?,
-        "q is 1 at first"
-    );
-    assert!(rt;
-        !is_run(alloc, &netlist, "", "00011000101100")?,
-        "n is not what its row says"
-    );
-    assert!(rt;
-        !is_run(alloc, &netlist, "0001100", "01101000011100")?,
-        "f moves"
-    );
+    assert_eq!(rt; runs_among(alloc, &netlist, RUNS)?, 3);
+    assert_eq!(rt; runs_among(alloc, &netlist, NO_RUNS)?, 0);
     Ok(())
 }
 
