@@ -9,6 +9,7 @@ use Rattle.blif_reader.specs.declared.command.Command.{Command}
 use Rattle.blif_reader.specs.declared.command.Command.TheVariants as commands
 use Rattle.blif_reader.specs.declared.fault.BlifFault.{BlifFault}
 use Rattle.blif_reader.specs.declared.fault.BlifFault.TheVariants.{UnknownCommand, BadModel, BadRow, MixedRows, BadLatch, LatchType, TwoClocks, DrivenTwice, MissingEnd, SecondModel, TooLarge}
+use Rattle.blif_reader.specs.declared.flags.Flags.{Flags}
 use Rattle.blif_reader.specs.declared.names.TheConstants.{SIGNAL_LIMIT}
 use Rattle.blif_reader.specs.Commands.{command_of}
 use Rattle.blif_reader.specs.Lines.{Line}
@@ -30,23 +31,23 @@ abbrev pub has_one : List PlacedToken → Bool
 has_one (word ∷ []) = true
 has_one words = false
 
-abbrev pub is_bad_model : Standing → Command → List PlacedToken → Bool
-is_bad_model standing commands.Model words = not (has_one words) || (standing.begun && not standing.titled)
-is_bad_model standing command words = false
+abbrev pub is_bad_model : Flags → Command → List PlacedToken → Bool
+is_bad_model flags commands.Model words = not (has_one words) || (flags.begun && not flags.titled)
+is_bad_model flags command words = false
 
 -- BadRow: a line that is no command and no row of the table above it; or a `.names` without a name
-abbrev pub is_row : Option Gate → List PlacedToken → Bool
+abbrev pub is_row : Option ℕ → List PlacedToken → Bool
 is_row None words = false
-is_row (Some gate) words = not (is_none (row_of (length gate.inputs) words))
+is_row (Some width) words = not (is_none (row_of width words))
 
 abbrev pub has_none : List PlacedToken → Bool
 has_none [] = true
 has_none (word ∷ words) = false
 
-abbrev pub is_bad_row : Standing → Command → List PlacedToken → Bool
-is_bad_row standing commands.Row words = not (standing.in_table && is_row (last_gate standing.model.gates) words)
-is_bad_row standing commands.Names words = has_none words
-is_bad_row standing command words = false
+abbrev pub is_bad_row : Flags → Command → List PlacedToken → Bool
+is_bad_row flags commands.Row words = not (is_row flags.width words)
+is_bad_row flags commands.Names words = has_none words
+is_bad_row flags command words = false
 
 -- BadLatch: words that are no latch
 abbrev pub is_bad_latch : Command → List PlacedToken → Bool
@@ -54,18 +55,34 @@ is_bad_latch commands.Latch words = is_none (latch_of words)
 is_bad_latch command words = false
 
 -- SecondModel: a second `.model`, or any line behind `.end`
-abbrev pub is_second : Standing → Command → Bool
-is_second standing commands.Model = standing.titled || standing.ended
-is_second standing command = standing.ended
+abbrev pub is_second : Flags → Command → Bool
+is_second flags commands.Model = flags.titled || flags.ended
+is_second flags command = flags.ended
 
 -- the fault at the first word of a line, where it has one: it wants its place
-abbrev pub head_rule : Standing → Command → List PlacedToken → Option (Place → BlifFault)
-head_rule standing command words =
+abbrev pub head_rule_by : Flags → Command → List PlacedToken → Option (Place → BlifFault)
+head_rule_by flags command words =
     cond (is_unknown command) (Some UnknownCommand)
-    (cond (is_bad_model standing command words) (Some BadModel)
-    (cond (is_bad_row standing command words) (Some BadRow)
+    (cond (is_bad_model flags command words) (Some BadModel)
+    (cond (is_bad_row flags command words) (Some BadRow)
     (cond (is_bad_latch command words) (Some BadLatch)
-    (cond (is_second standing command) (Some SecondModel) None))))
+    (cond (is_second flags command) (Some SecondModel) None))))
+
+-- the table whose rows may follow has so many inputs
+abbrev pub width_of : Bool → Option Gate → Option ℕ
+width_of true (Some gate) = Some (length gate.inputs)
+width_of in_table gate = None
+
+abbrev pub flags_of : Standing → Flags
+flags_of standing = record {
+  width = width_of standing.in_table (last_gate standing.model.gates);
+  begun = standing.begun;
+  titled = standing.titled;
+  ended = standing.ended;
+}
+
+abbrev pub head_rule : Standing → Command → List PlacedToken → Option (Place → BlifFault)
+head_rule standing command words = head_rule_by (flags_of standing) command words
 
 -- the fault of a name, by the names before it. DrivenTwice: it is driven already; TooLarge: it is one past the limit
 abbrev pub name_rule : List Mention → Mention → Option (Place → BlifFault)

@@ -4,6 +4,8 @@
 mod class;
 mod command;
 mod fault;
+mod flags;
+mod head;
 mod laws;
 mod names;
 mod pieces;
