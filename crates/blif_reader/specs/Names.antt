@@ -1,6 +1,7 @@
 -- The names of a model, numbered from 0 in the order of their first mention, and which of them are driven.
 use Rattle.std.specs.Prelude.{ℕ, nat_le, Bool, false, ◌&&◌, ◌||◌, cond, List, [], ◌∷◌, ◌++◌, length, slice_index_or, slice_set, Option, None, Some, is_none}
 use Rattle.std.specs.List.{fold, position_from}
+use Rattle.std.specs.Option.{option_map, option_or}
 use Rattle.std.specs.Str.{bytes_eq}
 use Rattle.psl_base.specs.declared.place.Place.{Place}
 use Rattle.blif_reader.specs.declared.fault.BlifFault.{BlifFault}
@@ -42,3 +43,15 @@ rule_at named drives (Some number) = cond (drives && slice_index_or named.driven
 -- the fault of a mention, by the names before it
 abbrev pub rule_of : Named → List ℕ → Bool → Option (Place → BlifFault)
 rule_of named name drives = rule_at named drives (place_of named.names name)
+
+-- the first fault of mentions that stand behind others, by the names of these
+abbrev pub names_fault_in : Named → List Mention → Option BlifFault
+names_fault_in named [] = None
+names_fault_in named (mention ∷ mentions) =
+    option_or (option_map (λ fault. fault mention.word.place) (rule_of named mention.word.text mention.drives))
+    (names_fault_in (with_mention named mention.word.text mention.drives) mentions)
+
+-- the names with more mentions
+abbrev pub with_mentions : Named → List Mention → Named
+with_mentions named [] = named
+with_mentions named (mention ∷ mentions) = with_mentions (with_mention named mention.word.text mention.drives) mentions

@@ -100,13 +100,21 @@ names_fault before (mention ∷ mentions) =
 abbrev pub has_rows : Gate → Bool
 has_rows gate = nat_le 1 (length gate.rows)
 
+abbrev pub differs : Bool → Bool → Bool
+differs true value = not value
+differs false value = value
+
+-- the output of the first row of a table
+abbrev pub first_output : Gate → Option Bool
+first_output gate = cond (has_rows gate) (Some gate.value) None
+
+abbrev pub output_fault : Option Bool → PlacedToken → Option BlifFault
+output_fault None word = None
+output_fault (Some first) word = cond (differs first (is_one word.text)) (Some (MixedRows word.place)) None
+
 abbrev pub row_fault_in : Gate → Option Row → Option BlifFault
 row_fault_in gate None = None
-row_fault_in gate (Some row) = cond (has_rows gate && differs gate.value (is_one row.output.text)) (Some (MixedRows row.output.place)) None
-  where
-    differs : Bool → Bool → Bool
-    differs true value = not value
-    differs false value = value
+row_fault_in gate (Some row) = output_fault (first_output gate) row.output
 
 abbrev pub row_fault : Option Gate → List PlacedToken → Option BlifFault
 row_fault None words = None

@@ -1,10 +1,11 @@
 -- What the spans of words stand for.
-use Rattle.std.specs.Prelude.{ℕ, ◌||◌, cond, List, Option, None, Some}
+use Rattle.std.specs.Prelude.{ℕ, Bool, ◌||◌, cond, List, Option, None, Some}
 use Rattle.std.specs.Option.{option_map}
 use Rattle.netlist.specs.declared.latch.Init.{Init}
 use Rattle.blif_reader.specs.declared.pieces.Span.{Span}
 use Rattle.blif_reader.specs.declared.shapes.Clocking.{Clocking}
 use Rattle.blif_reader.specs.declared.shapes.LatchWords.{LatchWords}
+use Rattle.blif_reader.specs.Models.{Mention}
 use Rattle.blif_reader.specs.Scanning.{word_of}
 use Rattle.blif_reader.specs.Shapes as shapes
 use Rattle.blif_reader.specs.Shapes.{LatchParts, is_edge, is_level}
@@ -32,3 +33,7 @@ with_clocking kind control (Some latch) = Some (record latch { clocking = Some (
 -- the latch with a type and a control, where the type is one that there is
 abbrev pub timed_latch : List ℕ → Span → Span → Option LatchWords → Option LatchWords
 timed_latch text kind control latch = cond (is_edge text || is_level text) (with_clocking kind control latch) None
+
+-- the mentions of words that a line drives, or uses
+abbrev pub mention_in : List ℕ → Bool → Span → Mention
+mention_in whole drives word = record { word = word_of whole word; drives = drives }

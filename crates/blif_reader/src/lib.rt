@@ -11,6 +11,7 @@ mod names;
 mod pieces;
 mod shapes;
 mod signals;
+mod tail;
 
 pub use command::Command;
 pub use fault::BlifFault;
