@@ -8,10 +8,10 @@ use Rattle.std.specs.List.{list_any, position_from}
 use Rattle.std.specs.Str.{bytes_eq}
 use Rattle.psl_base.specs.Tokens.{PlacedToken}
 use Rattle.blif_reader.specs.Models.{Mention, is_of, is_mentioned, is_driven, names_of, with_name}
-use Rattle.blif_reader.specs.Names.{Named, nothing_named, named_by, place_of, with_mention, with_place, rule_of, rule_at}
+use Rattle.blif_reader.specs.Names.{Named, names_fault_in, with_mentions, nothing_named, named_by, place_of, with_mention, with_place, rule_of, rule_at}
 use Rattle.std.specs.Prelude.{nat_le}
 use Rattle.blif_reader.specs.declared.fault.BlifFault.TheVariants.{DrivenTwice, TooLarge}
-use Rattle.blif_reader.specs.Rules.{name_rule, signal_limit}
+use Rattle.blif_reader.specs.Rules.{name_rule, names_fault, signal_limit}
 use Rattle.blif_reader.proofs.Places.{bytes_eq-sym, place_of-push, place_of-within}
 
 -- some text passes where the first one that does has a place
@@ -198,3 +198,18 @@ naming-names mentions = (tracks-by [] mentions nothing_named tracks-none).names
 
 pub naming-rule : (before : List Mention) (mention : Mention) → name_rule before mention ≡ rule_of (named_by before) mention.word.text mention.drives
 naming-rule before mention = rule-same before (named_by before) mention (tracks-by [] before nothing_named tracks-none)
+
+pub naming-fault : (before mentions : List Mention) → names_fault before mentions ≡ names_fault_in (named_by before) mentions
+naming-fault before [] = refl
+naming-fault before (mention ∷ mentions) =
+    let here = naming-rule before mention in
+    let next : named_by (before ++ mention ∷ []) ≡ step (named_by before) mention = fold-append step nothing_named before (mention ∷ []) in
+    let later = naming-fault (before ++ mention ∷ []) mentions ∙ ap (λ named. names_fault_in named mentions) next in
+    rw (here, later) refl
+
+pub naming-more : (before mentions : List Mention) → named_by (before ++ mentions) ≡ with_mentions (named_by before) mentions
+naming-more before [] = ap named_by (append-nil before)
+naming-more before (mention ∷ mentions) =
+    ap named_by (sym (append_assoc before (mention ∷ []) mentions))
+    ∙ naming-more (before ++ mention ∷ []) mentions
+    ∙ ap (λ named. with_mentions named mentions) (fold-append step nothing_named before (mention ∷ []))
