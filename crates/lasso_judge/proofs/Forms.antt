@@ -1,13 +1,14 @@
 -- The table of each form of formula, from those of its parts.
 use Rattle.std.proofs.Common.{◌≡◌, refl, sym, ap, ◌∙◌, subst, ℕ, ◌+◌, ◌-◌, ◌<◌, Bool as Truth, true, false, List, length, None, arith}
-use Rattle.std.specs.Prelude.{◌↔◌, ◌&&◌, not, if◌then◌else◌, slice_index, IsTrue}
+use Rattle.std.specs.Prelude.{◌↔◌, ◌&&◌, not, if◌then◌else◌, slice_index, IsTrue, Result, IfOk}
+use Rattle.std.proofs.lemmas.Result.{IfOk-weaker}
 use Rattle.std.proofs.lemmas.Bool.{both_ways, and_parts}
 use Rattle.psl_meaning.specs.Clockless.{IsPlain}
 use Rattle.psl_meaning.specs.Satisfaction.{Sat}
 use Rattle.psl_meaning.specs.Trace.{Trace, trace_of}
 use Rattle.psl_meaning.proofs.Choice.{exists-map}
 use Rattle.psl_tree.specs.Holds.{holds}
-use Rattle.psl_tree.specs.Trees.{Boolean, Formula, Now, NowStrong, Not, And, Next, Until, Abort}
+use Rattle.psl_tree.specs.Trees.{Boolean, Sequence, Formula, Now, NowStrong, Not, And, Next, Until, Suffix, Abort}
 use Rattle.psl_tree.specs.declared.letter.Word.{Word}
 use Rattle.lasso_theory.specs.Courses.{Course, walk, read_from, stopped, places, next_place}
 use Rattle.lasso_theory.proofs.Aborts.{abort-same}
@@ -149,3 +150,9 @@ word-tells word some f next values answer leads t e =
       λ h. subst (λ (v : Trace). Sat v f None) r (first.0 (sym e ∙ h)),
       λ h. e ∙ first.1 (subst (λ (v : Trace). Sat v f None) (sym r) h),
     )
+
+-- the table of r |-> f, if there is one
+pub suffix-ok : {V E : Type 0} (result : Result V E) (items : V → List Truth) (c : Course) (n : ℕ) (r : Sequence) (f g : Formula) (part : List Truth) → g ≡ Suffix r f → Tells c n f part
+    → IfOk result (λ v. (h : Formula) → Tells c n h part → Tells c n (Suffix r h) (items v)) → IfOk result (λ v. Tells c n g (items v))
+suffix-ok result items c n r f g part e t h = IfOk-weaker result (λ v. (h : Formula) → Tells c n h part → Tells c n (Suffix r h) (items v)) (λ v. Tells c n g (items v))
+    (λ v k. subst (λ (x : Formula). Tells c n x (items v)) (sym e) (k f t)) h

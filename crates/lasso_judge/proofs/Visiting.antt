@@ -1,10 +1,10 @@
 -- Lists of cells that are visited one after the other.
 use Rattle.std.proofs.Common.{◌≡◌, refl, sym, ap, ◌∙◌, List, [], ◌∷◌, ◌++◌, ℕ, suc, ◌+◌, ◌-◌, ◌<◌, Bool as Truth, add-one, arith}
-use Rattle.std.specs.Prelude.{if◌then◌else◌}
-use Rattle.sere_nfa.specs.Marking.{Marking, visit, visit_all}
+use Rattle.std.specs.Prelude.{true, false, if◌then◌else◌, slice_set}
+use Rattle.sere_nfa.specs.Marking.{Marking, is_marked, visit, visit_all}
 use Rattle.psl_tree.specs.declared.letter.Letter.{Letter}
 use Rattle.sere_nfa.specs.Acceptance.{State}
-use Rattle.lasso_judge.specs.Cells.{numbers_below, counted_from, fall, fall_all}
+use Rattle.lasso_judge.specs.Cells.{numbers_below, counted_from, lasts_at, fall, fall_all}
 
 pub visit_all_append : (m : Marking) (ms ns : List ℕ) → visit_all m (ms ++ ns) ≡ visit_all (visit_all m ms) ns
 visit_all_append m [] ns = refl
@@ -35,3 +35,11 @@ pub fallen-more : (states : List State) (letter : ℕ → Letter) (next : List �
 fallen-more states letter next i n old new whole l e made =
     ap (λ (m : Marking). fall_all states letter next m (counted_from (i + 1) (n - (i + 1)))) made
     ∙ (ap (λ (ns : List ℕ). fall_all states letter next old ns) (sym (counted-step i n l)) ∙ e)
+
+-- a cell that fell is not looked at again
+pub fall_marked : (states : List State) (letter : ℕ → Letter) (next : List ℕ) (m : Marking) (cell : ℕ) → is_marked m.marks cell ≡ true → m ≡ fall states letter next m cell
+fall_marked states letter next m cell e = at (lasts_at states letter next m.marks cell)
+  where
+    at : (b : Truth) → m ≡ (if b then m else visit m cell)
+    at true = refl
+    at false = sym (ap (λ (t : Truth). if t then m else record { marks = slice_set m.marks cell true; waiting = m.waiting ++ cell ∷ [] }) e)

@@ -20,7 +20,8 @@ label_of states arrow = (edge_at (state_at states arrow.state).edges arrow.edge)
 -- the arrows of the edges of a state, whose first edge has this number
 abbrev pub arrows_in : ℕ → ℕ → List Edge → List Arrow
 arrows_in state number [] = []
-arrows_in state number (edge ∷ edges) = record { state = state; edge = number; target = edge.target } ∷ arrows_in state (suc number) edges
+arrows_in state number (edge ∷ edges) =
+    record { state = state; edge = number; target = edge.target } ∷ arrows_in state (suc number) edges
 
 -- the arrows of so many states
 abbrev pub arrows_below : List State → ℕ → List Arrow
@@ -30,7 +31,8 @@ arrows_below states (suc state) = arrows_below states state ++ arrows_in state 0
 -- the places of a list, the first of which is this one, at which a number stands
 abbrev pub places_from : ℕ → ℕ → List ℕ → List ℕ
 places_from place number [] = []
-places_from place number (other ∷ others) = (if other == number then place ∷ [] else []) ++ places_from (suc place) number others
+places_from place number (other ∷ others) =
+    (if other == number then place ∷ [] else []) ++ places_from (suc place) number others
 
 -- the arrow is an edge of the automaton
 pub record IsArrow (states : List State) (arrow : Arrow) : Type 0 where
@@ -43,10 +45,12 @@ pub record IsDrawn (chart : Chart) : Type 0 where
   pub sound : IsSound chart.nfa
   pub some : 0 < length chart.nfa.states
   pub arrows : chart.arrows.items ≡ arrows_below chart.nfa.states (length chart.nfa.states)
-  pub real : (number : ℕ) → number < length chart.arrows.items → IsArrow chart.nfa.states (arrow_at chart.arrows.items number)
+  pub real : (number : ℕ) → number < length chart.arrows.items
+      → IsArrow chart.nfa.states (arrow_at chart.arrows.items number)
   pub into_length : length chart.into.items ≡ length chart.nfa.states
   pub into : (state : ℕ) → state < length chart.nfa.states
-      → slice_index_or chart.into.items state [] ≡ places_from 0 state (map (λ (arrow : Arrow). arrow.target) chart.arrows.items)
+      → slice_index_or chart.into.items state []
+      ≡ places_from 0 state (map (λ (arrow : Arrow). arrow.target) chart.arrows.items)
   pub cells : chart.cells ≡ length chart.before.items * length chart.nfa.states
   pub few : chart.cells < 2 ^ 32
   pub few_states : length chart.nfa.states < 2 ^ 32

@@ -20,11 +20,13 @@ cell_of width place state = place * width + state
 -- a path from the state leads to an end, and its last letter is read at a place of the table
 abbrev pub HitsFrom : List State → Course → List Truth → ℕ → ℕ → Type 0
 HitsFrom states course hits place state =
-    Exists (λ j. AcceptsFrom states state (first (suc j) (read_from course place)) × IsTrue (value_at hits (walk course.next j place)))
+    Exists (λ j. AcceptsFrom states state (first (suc j) (read_from course place))
+    × IsTrue (value_at hits (walk course.next j place)))
 
 -- a prefix is read from the state wherever the course is cut
 abbrev pub LastsFrom : List State → Course → ℕ → ℕ → Type 0
-LastsFrom states course place state = (j : ℕ) → Exists (λ i. AcceptsFrom states state (first (suc i) (cut (read_from course place) (suc j))))
+LastsFrom states course place state =
+    (j : ℕ) → Exists (λ i. AcceptsFrom states state (first (suc i) (cut (read_from course place) (suc j))))
 
 -- the cells from which such a path leads to a hit
 pub record AreHits (states : List State) (course : Course) (count : ℕ) (hits cells : List Truth) : Type 0 where
@@ -40,12 +42,14 @@ pub record AreFallen (states : List State) (course : Course) (count : ℕ) (cell
 
 -- some edge on whose label the letter holds leads to an end
 abbrev pub ends_on : List State → Letter → List Edge → Truth
-ends_on states letter edges = list_any (λ (edge : Edge). holds letter edge.label && (state_at states edge.target).is_final) edges
+ends_on states letter edges =
+    list_any (λ (edge : Edge). holds letter edge.label && (state_at states edge.target).is_final) edges
 
 -- the last letter of a path of length 1 from the cell is read at a hit
 abbrev pub ends_at : List State → (ℕ → Letter) → List Truth → ℕ → Truth
 ends_at states letter hits cell =
-    value_at hits (cell / length states) && ends_on states (letter (cell / length states)) (state_at states (cell % length states)).edges
+    value_at hits (cell / length states)
+    && ends_on states (letter (cell / length states)) (state_at states (cell % length states)).edges
 
 -- the numbers below a bound that pass a test
 abbrev pub numbers_below : (ℕ → Truth) → ℕ → List ℕ
@@ -56,13 +60,15 @@ numbers_below test (suc number) = numbers_below test number ++ (if test number t
 abbrev pub cells_at : List State → (ℕ → Letter) → List Arrow → ℕ → List ℕ → List ℕ
 cells_at states letter arrows place [] = []
 cells_at states letter arrows place (number ∷ numbers) =
-    (if holds (letter place) (label_of states (arrow_at arrows number)) then cell_of (length states) place (arrow_at arrows number).state ∷ [] else [])
+    (if holds (letter place) (label_of states (arrow_at arrows number))
+    then cell_of (length states) place (arrow_at arrows number).state ∷ [] else [])
     ++ cells_at states letter arrows place numbers
 
 -- those of several places
 abbrev pub cells_back : List State → (ℕ → Letter) → List Arrow → List ℕ → List ℕ → List ℕ
 cells_back states letter arrows [] numbers = []
-cells_back states letter arrows (place ∷ places) numbers = cells_at states letter arrows place numbers ++ cells_back states letter arrows places numbers
+cells_back states letter arrows (place ∷ places) numbers =
+    cells_at states letter arrows place numbers ++ cells_back states letter arrows places numbers
 
 -- each state is marked from which no final state is reached, over letters Top
 pub record AreDead (states : List State) (cells : ℕ) (marks : List Truth) : Type 0 where
@@ -73,20 +79,24 @@ pub record AreDead (states : List State) (cells : ℕ) (marks : List Truth) : Ty
 -- target at the place whose first cell this is
 abbrev pub goes_on : List State → Letter → List Truth → ℕ → List Edge → Truth
 goes_on states letter marks first edges =
-    list_any (λ (edge : Edge). holds letter edge.label && ((state_at states edge.target).is_final || not (value_at marks (first + edge.target)))) edges
+    list_any (λ (edge : Edge). holds letter edge.label
+    && ((state_at states edge.target).is_final || not (value_at marks (first + edge.target)))) edges
 
 -- the same of a cell
 abbrev pub lasts_at : List State → (ℕ → Letter) → List ℕ → List Truth → ℕ → Truth
 lasts_at states letter next marks cell =
-    goes_on states (letter (cell / length states)) marks (slice_index next (cell / length states) * length states) (state_at states (cell % length states)).edges
+    goes_on states (letter (cell / length states)) marks (slice_index next (cell / length states) * length states)
+    (state_at states (cell % length states)).edges
 
 -- a cell from which the sequence does not go on is visited
 abbrev pub fall : List State → (ℕ → Letter) → List ℕ → Marking → ℕ → Marking
-fall states letter next marking cell = if lasts_at states letter next marking.marks cell then marking else visit marking cell
+fall states letter next marking cell =
+    if lasts_at states letter next marking.marks cell then marking else visit marking cell
 
 abbrev pub fall_all : List State → (ℕ → Letter) → List ℕ → Marking → List ℕ → Marking
 fall_all states letter next marking [] = marking
-fall_all states letter next marking (cell ∷ cells) = fall_all states letter next (fall states letter next marking cell) cells
+fall_all states letter next marking (cell ∷ cells) =
+    fall_all states letter next (fall states letter next marking cell) cells
 
 -- numbers that count up, so many from one on
 abbrev pub counted_from : ℕ → ℕ → List ℕ

@@ -15,7 +15,8 @@ seen_at word flipped place = seen flipped (letter_at word place)
 
 -- the course of the word, or of its dual, where a list has the next place of each place
 abbrev pub course_by : Word → Truth → List ℕ → Course
-course_by word flipped next = record { letter = λ place. seen_at word flipped place; next = λ place. slice_index next place }
+course_by word flipped next =
+    record { letter = λ place. seen_at word flipped place; next = λ place. slice_index next place }
 
 -- a next place for each place of the word, and for the two behind it, at which the word does not end
 pub record IsWhole (word : Word) (next : List ℕ) : Type 0 where

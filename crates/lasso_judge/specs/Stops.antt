@@ -11,4 +11,6 @@ use Rattle.lasso_judge.specs.declared.abort.Stopped.{Stopped}
 pub record IsStopped (word : Word) (flipped : Truth) (test : Boolean) (next : List ℕ) (stopped : Stopped) : Type 0 where
   pub stops : Has (length next) (λ place. holds (seen_at word flipped place) test) stopped.stops.items
   pub sink : stopped.sink ≡ sink_of word flipped
-  pub leads : Leads (length next) (λ place. if value_at stopped.stops.items (slice_index next place) then stopped.sink else slice_index next place) stopped.next.items
+  pub leads : Leads (length next)
+      (λ place. if value_at stopped.stops.items (slice_index next place) then stopped.sink else slice_index next place)
+      stopped.next.items

@@ -17,7 +17,8 @@ pub record IsReached (left right : List Truth) (next : List ℕ) (reached : List
 
 -- the table has no place without such a walk
 abbrev pub IsSound : List Truth → List Truth → List ℕ → List Truth → Type 0
-IsSound left right next reached = (place : ℕ) → place < length next → IsTrue (value_at reached place) → WalksTo left right next place
+IsSound left right next reached =
+    (place : ℕ) → place < length next → IsTrue (value_at reached place) → WalksTo left right next place
 
 -- how many places the table does not have
 abbrev pub unset : List Truth → ℕ

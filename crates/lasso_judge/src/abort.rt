@@ -59,7 +59,8 @@ fn halted(
     requires { (place : ℕ) → place < length next.now → slice_index next.now place < length stops.now }
     ensures { IfOk result (λ halted.
         Leads (length next.now)
-        (λ place. if value_at stops.now (slice_index next.now place) then sink else slice_index next.now place) halted.items) }
+        (λ place. if value_at stops.now (slice_index next.now place) then sink else slice_index next.now place)
+        halted.items) }
 {
     let mut halted = Vec::new(alloc);
     for place in next {
@@ -77,7 +78,8 @@ impl Stopped {
         requires within { self.now.sink < length part.now }
         ensures { IfOk result (λ values.
             Has (length part.now)
-            (λ place. value_at part.now (if value_at self.now.stops.items place then self.now.sink else place)) values.items) }
+            (λ place. value_at part.now (if value_at self.now.stops.items place then self.now.sink else place))
+            values.items) }
     {
         let mut values = Vec::new(alloc);
         for place in 0..part.len() {

@@ -48,7 +48,8 @@ fn add_back(
     requires arrows { All (λ number. number < length chart.now.arrows.items) arrows.now }
     ensures { OnOk result (found.new.items ≡
         found.old.items
-        ++ cells_back chart.now.nfa.states (λ place. seen_at word.now flipped place) chart.now.arrows.items places.now arrows.now) }
+        ++ cells_back chart.now.nfa.states (λ place. seen_at word.now flipped place) chart.now.arrows.items places.now
+        arrows.now) }
 {
     for place in places {
         add_at(chart, word, flipped, *place, arrows, found)?;
@@ -70,7 +71,8 @@ fn add_at(
     requires arrows { All (λ number. number < length chart.now.arrows.items) arrows.now }
     ensures { OnOk result (found.new.items ≡
         found.old.items
-        ++ cells_at chart.now.nfa.states (λ place. seen_at word.now flipped place) chart.now.arrows.items place arrows.now) }
+        ++ cells_at chart.now.nfa.states (λ place. seen_at word.now flipped place) chart.now.arrows.items place
+        arrows.now) }
 {
     for number in arrows {
         add_one(chart, word, flipped, place, *number, found)?;
@@ -92,7 +94,8 @@ fn add_one(
     requires arrow { number < length chart.now.arrows.items }
     ensures { OnOk result (found.new.items ≡
         found.old.items
-        ++ (if holds (seen_at word.now flipped place) (label_of chart.now.nfa.states (arrow_at chart.now.arrows.items number))
+        ++ (if holds (seen_at word.now flipped place)
+        (label_of chart.now.nfa.states (arrow_at chart.now.arrows.items number))
         then cell_of (length chart.now.nfa.states) place (arrow_at chart.now.arrows.items number).state ∷ [] else [])) }
 {
     if is_taken(chart, word, flipped, place, number) {

@@ -49,14 +49,8 @@ fn table(
             let values = held(alloc, test, word, next.len(), flipped)?;
             Ok(values)
         }
-        Fl::Weak(r) => {
-            let values = weak(alloc, r, word, next, flipped)?;
-            Ok(values)
-        }
-        Fl::Strong(r) => {
-            let values = strong(alloc, r, word, next, flipped)?;
-            Ok(values)
-        }
+        Fl::Weak(r) => weak(alloc, r, word, next, flipped),
+        Fl::Strong(r) => strong(alloc, r, word, next, flipped),
         Fl::Not(part) => {
             let part = table(alloc, part, word, next, !flipped)?;
             let values = opposites(alloc, &part)?;
@@ -80,8 +74,7 @@ fn table(
         }
         Fl::Suffix(r, part) => {
             let part = table(alloc, part, word, next, flipped)?;
-            let values = suffix(alloc, r, &part, word, next, flipped)?;
-            Ok(values)
+            suffix(alloc, r, &part, word, next, flipped)
         }
         Fl::Abort(part, test) => {
             let stopped = stopped_course(alloc, test, word, next, flipped)?;

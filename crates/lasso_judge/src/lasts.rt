@@ -101,6 +101,7 @@ fn fall_each(
 }
 
 // Visits a cell from which the sequence does not go on.
+#[tactic(auto, using(crate::proofs::Visiting::fall_marked))]
 fn fall_one(
     chart: &Chart,
     word: &Word,
@@ -117,6 +118,9 @@ fn fall_one(
         fall chart.now.nfa.states (λ place. seen_at word.now flipped place) next.now (marking_of marking.old) cell) }
     ensures len { OnOk result (length marking.new.marks.items ≡ length marking.old.marks.items) }
 {
+    if marking.marks[cell as usize] {
+        return Ok(());
+    }
     if !lasts(chart, word, next, flipped, cell as usize, &marking.marks) {
         marking.visit(cell)?;
     }

@@ -14,3 +14,6 @@ mod tables;
 mod until;
 
 pub use judge::satisfies;
+
+#[cfg(test)]
+mod tests;

@@ -1,11 +1,11 @@
-use Rattle.std.proofs.Common.{ap, sym, subst, ℕ, List, length}
+use Rattle.std.proofs.Common.{ap, sym, subst, Bool as Truth, Vec, Global, ℕ, List, length}
 use Rattle.std.specs.Prelude.{not}
 use Rattle.psl_meaning.specs.Clockless.{IsPlain}
-use Rattle.psl_tree.specs.Trees.{boolean_of, formula_of}
+use Rattle.psl_tree.specs.Trees.{boolean_of, sequence_of, formula_of}
 use Rattle.psl_tree.specs.declared.fl.Fl.{Fl}
 use Rattle.lasso_judge.specs.Seen.{course_by}
 use Rattle.lasso_judge.specs.Tables.{Tells}
-use Rattle.lasso_judge.proofs.Forms.{told, not-tells, next-tells, until-tells, abort-tells}
+use Rattle.lasso_judge.proofs.Forms.{told, suffix-ok, not-tells, next-tells, until-tells, abort-tells}
 use Rattle.lasso_judge.proofs.judge.+table.Goals as goal
 
 pub returns-in_ok-values-in-Not : goal.returns-in_ok-values-in-Not
@@ -41,14 +41,14 @@ returns-in_ok-right-in-Until t c =
     c.in_ok-right-in-Until.ensures)
     c.reached.ensures)
 
-pub returns-in_ok-values-in-Suffix : goal.returns-in_ok-values-in-Suffix
-returns-in_ok-values-in-Suffix t c =
-    let course = course_by c.args.word.now c.args.flipped c.args.next.now in
+pub returns-in_ok-part-in-Suffix : goal.returns-in_ok-part-in-Suffix
+returns-in_ok-part-in-Suffix t c =
     let f = formula_of c.in-Suffix.part.value in
-    subst (λ (g : Fl). Tells (course_by c.args.word.now c.args.flipped c.args.next.now) (length c.args.next.now) (formula_of g) c.in_ok-values-in-Suffix.values.items) (sym c.in-Suffix.is)
-    (c.in_ok-values-in-Suffix.ensures f
-    (told course (length c.args.next.now) (formula_of c.deref-in-Suffix.result.now) f c.in_ok-part-in-Suffix.part.items c.deref-in-Suffix-2.result.now
-    (ap (λ (g : Fl). formula_of g) c.deref-in-Suffix.ensures) c.deref-in-Suffix-2.ensures.value c.in_ok-part-in-Suffix.ensures))
+    suffix-ok c.suffix.result (λ (v : Vec Truth Global). v.items) (course_by c.args.word.now c.args.flipped c.args.next.now) (length c.args.next.now) (sequence_of c.in-Suffix.r) f
+    (formula_of c.args.f.now) c.deref-in-Suffix-2.result.now (ap (λ (g : Fl). formula_of g) c.in-Suffix.is)
+    (told (course_by c.args.word.now c.args.flipped c.args.next.now) (length c.args.next.now) (formula_of c.deref-in-Suffix.result.now) f c.in_ok-part-in-Suffix.part.items c.deref-in-Suffix-2.result.now
+    (ap (λ (g : Fl). formula_of g) c.deref-in-Suffix.ensures) c.deref-in-Suffix-2.ensures.value c.in_ok-part-in-Suffix.ensures)
+    c.suffix.ensures
 
 pub returns-in_ok-values-in-Abort : goal.returns-in_ok-values-in-Abort
 returns-in_ok-values-in-Abort t c =
