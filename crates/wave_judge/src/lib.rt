@@ -10,10 +10,6 @@ mod laws;
 mod leveling;
 mod packing;
 mod pass;
-#[cfg(test)]
-mod ranged;
-#[cfg(test)]
-mod tests;
 mod verdict;
 
 pub use fault::JudgeFault;
