@@ -45,7 +45,8 @@ abbrev pub own_signal : Path → ℕ → Signal
 own_signal path name = record { path = path; name = name }
 
 -- one more name has a cell: that of its actual, or a new one
-pub record OpensName (above : List ℕ) (path : Path) (name : ℕ) (actual : Option ℕ) (old new : List Signal) (cell : ℕ) : Type 0 where
+pub record OpensName (above : List ℕ) (path : Path) (name : ℕ) (actual : Option ℕ) (old new : List Signal) (cell : ℕ)
+    : Type 0 where
   pub within : cell < length new
   pub grown : (new ≡ old) ⊎ (new ≡ old ++ own_signal path name ∷ [])
   pub is : signal_in new cell ≡ owner_by (λ above_name. signal_in old (slice_index above above_name)) path name actual
@@ -56,7 +57,8 @@ opened_by owners above path actuals name =
     owner_by (λ actual. signal_in owners (slice_index above actual)) path name (slice_index_or actuals name None)
 
 -- an instance that is open: its model, and the cell of each of its names
-pub record IsOpened {Line : Type 0} (models : List (Model Line)) (owners : List Signal) (instance : Instance) : Type 0 where
+pub record IsOpened {Line : Type 0} (models : List (Model Line)) (owners : List Signal) (instance : Instance)
+    : Type 0 where
   pub model : instance.model ≡ model_at models instance.path
   pub cells : AreCells owners instance.cells (names_of models instance.model) (owner models instance.path)
 
@@ -67,7 +69,8 @@ pub record Under (top path : Path) : Type 0 where
 
 -- no signal there is of a placement in an instance, from one on
 abbrev pub IsFresh : List Signal → Path → ℕ → Type 0
-IsFresh owners path k = (signal : Signal) → Among signal owners → (later : ℕ) → k ≤ later → Under (later ∷ path) signal.path → ⊥
+IsFresh owners path k =
+    (signal : Signal) → Among signal owners → (later : ℕ) → k ≤ later → Under (later ∷ path) signal.path → ⊥
 
 -- the table of signals has grown by those of placements in an instance
 pub record Grows (path : Path) (old new : List Signal) : Type 0 where

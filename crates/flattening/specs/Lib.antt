@@ -1,4 +1,5 @@
 pub mod Cells
+pub mod Example
 pub mod Hierarchy
 pub mod Instances
 pub mod Members

@@ -33,5 +33,6 @@ UnfoldsToEach {Line} mentions models =
 -- and of one only
 abbrev pub UnfoldsFromOne : {Line : Type 0} → (Line → List ℕ) → List (Model Line) → Type 0
 UnfoldsFromOne mentions models =
-    (one other : List ℕ) → length one ≡ length (signals mentions models) → length other ≡ length (signals mentions models)
+    (one other : List ℕ) → length one ≡ length (signals mentions models)
+    → length other ≡ length (signals mentions models)
     → Same mentions models (unfold_of mentions models 0 one) (unfold_of mentions models 0 other) → one ≡ other

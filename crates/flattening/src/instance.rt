@@ -85,7 +85,8 @@ fn open_name(
     requires fresh { Among (own_signal path.now name) table.old.owners → ⊥ }
     requires above { All (λ cell. cell < length table.old.owners) above.now }
     requires actual { ForSome actual (λ name. name < length above.now) }
-    ensures opens { IfOk result (λ cell. OpensName above.now path.now name actual table.old.owners table.new.owners cell) }
+    ensures opens { IfOk result (λ cell.
+        OpensName above.now path.now name actual table.old.owners table.new.owners cell) }
     ensures seen { OnOk result (table.new.seen ≡ table.old.seen) }
 {
     match actual {

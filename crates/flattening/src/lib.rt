@@ -10,6 +10,8 @@ mod hierarchy;
 mod instance;
 mod laws;
 mod model;
+#[cfg(test)]
+mod tests;
 mod walk;
 
 pub use hierarchy::{Flat, flatten};

@@ -58,7 +58,8 @@ pub(crate) fn walk<L: Line>(
     requires fresh { IsFresh out.old.table.owners instance.now.path 0 }
     requires room { length (onto out.old.table.seen
         (mentioned L.mentions models.now (expand models.now levels instance.now.path))) ≤ 2 ^ 32 }
-    ensures walks { OnOk result (Walks L.mentions models.now (expand models.now levels instance.now.path) out.old out.new) }
+    ensures walks { OnOk result
+        (Walks L.mentions models.now (expand models.now levels instance.now.path) out.old out.new) }
     ensures grows { OnOk result (Grows instance.now.path out.old.table.owners out.new.table.owners) }
 {
     if levels == 0 {
@@ -137,7 +138,8 @@ fn open_placement<L: Line>(
     requires placed { placement_at models.now instance.now.path k ≡ Some placement.now }
     ensures path { IfOk result (λ child. child.path ≡ k ∷ instance.now.path) }
     ensures opened { IfOk result (λ child. IsOpened models.now out.new.table.owners child) }
-    ensures opens { IfOk result (λ child. Opens child.path (names_of models.now child.model) out.old.table.owners out.new.table.owners) }
+    ensures opens { IfOk result (λ child.
+        Opens child.path (names_of models.now child.model) out.old.table.owners out.new.table.owners) }
     ensures seen { OnOk result (out.new.table.seen ≡ out.old.table.seen) }
     ensures lines { OnOk result (out.new.lines ≡ out.old.lines) }
 {
@@ -198,7 +200,8 @@ fn add_line(
 ) -> Result<(), NoMemory>
     requires names { All (λ name. name < length instance.now.cells) names.now }
     requires cells { All (λ cell. cell < length out.old.table.owners) instance.now.cells }
-    requires room { length (onto out.old.table.seen (named out.old.table.owners instance.now.cells names.now)) ≤ 2 ^ 32 }
+    requires room { length
+        (onto out.old.table.seen (named out.old.table.owners instance.now.cells names.now)) ≤ 2 ^ 32 }
     ensures { OnOk result (AddsLine instance.now item names.now out.old out.new) }
 {
     let numbers = out
