@@ -19,15 +19,15 @@ pub struct Netlist {
 }
 
 impl Model for Netlist {
-    ghost use Rattle.std.specs.Prelude.{◌≡◌};
     ghost use Rattle.netlist.specs.Design.{Design};
-    ghost use Rattle.netlist.specs.Sound.{IsOrder, IsSound};
 
     ghost Value = { Design };
 
-    ghost view = { λ netlist. record { signals = netlist.signals; inputs = netlist.inputs; latches = netlist.latches; tables = netlist.tables; names = netlist.names } };
+    ghost use Rattle.netlist.specs.Kept.{design_of, IsKept};
 
-    ghost invariant = { λ netlist. IsSound (record { signals = netlist.signals; inputs = netlist.inputs; latches = netlist.latches; tables = netlist.tables; names = netlist.names }) × IsOrder netlist.tables netlist.order };
+    ghost view = { design_of };
+
+    ghost invariant = { IsKept };
 }
 
 impl Netlist {
