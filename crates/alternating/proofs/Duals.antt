@@ -10,8 +10,8 @@ use Rattle.alternating_theory.specs.Dual.{opposite_automaton}
 use Rattle.alternating_theory.specs.Laws.{SizeOf}
 use Rattle.alternating_theory.specs.Obligations.{Obligation, Automaton}
 use Rattle.alternating_theory.specs.Positive.{OwesWithin}
-use Rattle.alternating_theory.specs.Trimmed.{built}
-use Rattle.alternating_theory.proofs.Duals.{opposite_built}
+use Rattle.alternating_theory.specs.Built.{built}
+use Rattle.alternating_theory.proofs.Negations.{opposite_built}
 use Rattle.alternating_theory.proofs.LawsHold.{size}
 use Rattle.alternating_theory.proofs.MetLaws.{within-opposite}
 use Rattle.alternating.specs.Negations.{OfItsFormula}
@@ -51,8 +51,8 @@ duals-many os new e =
 -- what holds of the automaton of each negation holds of the dual of each formula's
 pub of-negation : (P : Automaton → Formula → Type 0) → ((f : Formula) → IsPlain f → P (built (Not f)) f) → (dual automaton : Automaton) → dual ≡ opposite_automaton automaton
     → OfItsFormula automaton (λ f. P dual f)
-of-negation P holds dual automaton e f plain is = subst (λ (a : Automaton). P a f) (sym (e ∙ ap opposite_automaton is ∙ opposite_built f)) (holds f plain)
+of-negation P holds dual automaton e f plain is = subst (λ (a : Automaton). P a f) (sym (e ∙ ap opposite_automaton is ∙ opposite_built f plain)) (holds f plain)
 
 -- the dual of the automaton of a formula is as long
 pub negation-size : (f : Formula) → IsPlain f → SizeOf (built (Not f)) f
-negation-size f plain = subst (λ (a : Automaton). SizeOf a f) (opposite_built f) (omega (arith, length-map (built f).obligations opposite_obligation, size f plain))
+negation-size f plain = subst (λ (a : Automaton). SizeOf a f) (opposite_built f plain) (omega (arith, length-map (built f).obligations opposite_obligation, size f plain))

@@ -1,6 +1,7 @@
 pub mod Built
 pub mod Duals
 pub mod Edges
+pub mod Merging
 pub mod Search
 pub mod Shown
 pub mod Trims

@@ -10,9 +10,12 @@ use Rattle.sere_nfa.specs.Construction as sequences
 use Rattle.sere_nfa.specs.Construction.{Draft, either_of, both_of, joined, narrowed, narrowed_by, fused, edge_pair, edge_pairs, state_pair, state_pairs, again, star_part, is_repetition, nfa_of}
 use Rattle.alternating_theory.specs.Construction.{Part, part_of, opposite_obligation, with_letter, until_obligation, cut_obligation, taken, going, quiet, prefix_obligation, suffix_obligation}
 use Rattle.alternating_theory.specs.Going.{edges_of_all, entry, goes_on}
-use Rattle.alternating_theory.specs.Obligations.{Obligation}
+use Rattle.alternating_theory.specs.Obligations.{Obligation, Automaton}
 use Rattle.alternating_theory.specs.Positive.{Positive, Const, Holds, Owed, And, Or, renumbered, opposite}
-use Rattle.alternating_theory.specs.Trimmed.{kept, renumbered_obligation, is_reached, count_below, built}
+use Rattle.alternating_theory.specs.Trimmed.{kept, renumbered_obligation, is_reached, count_below}
+use Rattle.alternating_theory.specs.Built.{built, unmerged}
+use Rattle.alternating_theory.specs.Merged.{class_in, classes_upto, fits, is_first, merged_by}
+use Rattle.alternating_theory.specs.Merged as merging
 use Rattle.alternating.specs.Atoms.{AtomsOfPositive, AtomsOfObligations, KeepsAtoms}
 
 -- sequences
@@ -288,8 +291,8 @@ module _ (P : Atom → Type 0) where
       at true u = (t.0, u)
       at false u = u
 
-pub keeps-atoms : (f : Formula) → KeepsAtoms (built f) f
-keeps-atoms f test t =
+unmerged-has : (f : Formula) → KeepsAtoms (unmerged f) f
+unmerged-has f test t =
     let part = part_of 0 f in
     let P : Atom → Type 0 = λ atom. IsTrue (test atom) in
     let u = part-has P 0 f t in
@@ -298,3 +301,16 @@ keeps-atoms f test t =
     (λ o v. renumbered-has P (λ number. count_below number (is_reached os (length part.rest))) o.delta v)
     (kept (is_reached os (length part.rest)) os)
     (kept-has P (is_reached os (length part.rest)) os (obligations-append P part.rest (part.start ∷ []) u.1 (u.0, tt)))
+
+-- merging keeps some of the obligations, with other numbers
+merged-has : (P : Atom → Type 0) (a : Automaton) (class : ℕ → ℕ) → AtomsOfObligations P a.obligations → AtomsOfObligations P (merged_by class a).obligations
+merged-has P a class u = at (fits a class)
+  where
+    at : (b : Truth) → AtomsOfObligations P (if b then merging.joined a class else a).obligations
+    at true = obligations-map P (λ obligation. renumbered_obligation (λ number. count_below (class number) (is_first class)) obligation)
+        (λ o v. renumbered-has P (λ number. count_below (class number) (is_first class)) o.delta v)
+        (kept (is_first class) a.obligations) (kept-has P (is_first class) a.obligations u)
+    at false = u
+
+pub keeps-atoms : (f : Formula) → KeepsAtoms (built f) f
+keeps-atoms f test t = merged-has (λ atom. IsTrue (test atom)) (unmerged f) (class_in (classes_upto (unmerged f).obligations (unmerged f).start)) (unmerged-has f test t)

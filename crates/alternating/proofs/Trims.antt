@@ -61,14 +61,14 @@ kept-step f keep os i o h is false t old new e g =
 
 -- tests that agree below a bound
 
-count-same : (n : ℕ) (f g : ℕ → Truth) → ((q : ℕ) → q < n → f q ≡ g q) → count_below n f ≡ count_below n g
+pub count-same : (n : ℕ) (f g : ℕ → Truth) → ((q : ℕ) → q < n → f q ≡ g q) → count_below n f ≡ count_below n g
 count-same zero f g s = refl
 count-same (suc n) f g s =
     let a = s zero (omega arith) in
     let b = count-same n (λ q. f (suc q)) (λ q. g (suc q)) (λ q h. s (suc q) (omega arith)) in
     ap (λ (t : Truth). (if t then 1 else 0) + count_below n (λ q. f (suc q))) a ∙ ap (λ k. (if g zero then 1 else 0) + k) b
 
-kept-same : (f g : ℕ → Truth) (os : List Obligation) → ((q : ℕ) → q < length os → f q ≡ g q) → kept f os ≡ kept g os
+pub kept-same : (f g : ℕ → Truth) (os : List Obligation) → ((q : ℕ) → q < length os → f q ≡ g q) → kept f os ≡ kept g os
 kept-same f g [] s = refl
 kept-same f g (o ∷ os) s =
     let a = s zero (omega arith) in
@@ -82,7 +82,7 @@ renumbered-same high f g s (Owed q) w = ap (λ k. Owed k) (s q w.1)
 renumbered-same high f g s (And p r) w = let a = renumbered-same high f g s p w.0 in let b = renumbered-same high f g s r w.1 in cc
 renumbered-same high f g s (Or p r) w = let a = renumbered-same high f g s p w.0 in let b = renumbered-same high f g s r w.1 in cc
 
-renamed-same : (high : ℕ) (f g : ℕ → ℕ) → ((q : ℕ) → q < high → f q ≡ g q) → (keep : ℕ → Truth) (os : List Obligation)
+pub renamed-same : (high : ℕ) (f g : ℕ → ℕ) → ((q : ℕ) → q < high → f q ≡ g q) → (keep : ℕ → Truth) (os : List Obligation)
     → ((q : ℕ) → q < length os → OwesWithin 0 high (obligation_at os q).delta)
     → map (λ o. renumbered_obligation f o) (kept keep os) ≡ map (λ o. renumbered_obligation g o) (kept keep os)
 renamed-same high f g s keep [] w = refl
@@ -141,7 +141,7 @@ at-recursion : (low high : ℕ) (os : List code_obligation.Obligation) → ((q :
 at-recursion low high [] w = tt
 at-recursion low high (o ∷ os) w = (w 0 (omega arith), at-recursion low high os (λ q h. w (suc q) (omega arith)))
 
-at-within : (low high : ℕ) (os : List code_obligation.Obligation) → ((q : ℕ) → q < length (obligations_of_code os) → OwesWithin low high (obligation_at (obligations_of_code os) q).delta)
+pub at-within : (low high : ℕ) (os : List code_obligation.Obligation) → ((q : ℕ) → q < length (obligations_of_code os) → OwesWithin low high (obligation_at (obligations_of_code os) q).delta)
     → ObligationsWithin low high os
 at-within low high os w = All-from_recursion (λ (o : code_obligation.Obligation). OwesWithin low high (positive_of o.delta)) os (at-recursion low high os w)
 

@@ -1,6 +1,7 @@
 pub mod AlternatingView
 pub mod Atoms
 pub mod Beyonds
+pub mod Classes
 pub mod Codes
 pub mod Limits
 pub mod Negations

@@ -3,7 +3,7 @@ use Rattle.std.specs.Prelude.{◌≡◌}
 use Rattle.psl_meaning.specs.Clockless.{IsPlain}
 use Rattle.psl_tree.specs.Trees.{Formula}
 use Rattle.alternating_theory.specs.Obligations.{Automaton}
-use Rattle.alternating_theory.specs.Trimmed.{built}
+use Rattle.alternating_theory.specs.Built.{built}
 
 -- P holds of each formula without clocks whose automaton it is
 abbrev pub OfItsFormula : Automaton → (Formula → Type 0) → Type 0

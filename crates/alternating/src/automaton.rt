@@ -5,9 +5,11 @@ ghost use Rattle.psl_tree.specs.Counts.{obligations_of, states_of};
 ghost use Rattle.psl_tree.specs.Trees.{formula_of, sequence_of};
 ghost use Rattle.alternating_loops.specs.Laws.{LoopsOf};
 ghost use Rattle.alternating_theory.specs.Laws.{ValuesOf, NamesOf, SizeOf};
+ghost use Rattle.alternating_theory.specs.Merged.{merged};
 ghost use Rattle.alternating_theory.specs.Obligations.{obligation_at};
 ghost use Rattle.alternating_theory.specs.Positive.{OwesWithin};
-ghost use Rattle.alternating_theory.specs.Trimmed.{built, trimmed};
+ghost use Rattle.alternating_theory.specs.Built.{built, unmerged};
+ghost use Rattle.alternating_theory.specs.Trimmed.{trimmed};
 ghost use Rattle.alternating.specs.Atoms.{KeepsAtoms};
 ghost use Rattle.alternating.specs.Limits.{HasLargeSequence};
 ghost use Rattle.alternating.specs.Packed.{letter_of};
@@ -16,6 +18,7 @@ ghost use Rattle.alternating.specs.Views.{positive_of, obligations_of_code, Obli
 
 use crate::build::build;
 use crate::marking::reached_marks;
+use crate::merge::{class_names, classes_of, firsts};
 use crate::obligation::Obligation;
 use crate::part::{Part, add};
 use crate::positive::Positive;
@@ -231,6 +234,18 @@ fn finished(alloc: Global, f: &Fl) -> Result<Alternating, NoMemory>
     requires room { obligations_of (formula_of f.now) ≤ MOST_OBLIGATIONS }
     ensures { IfOk result (λ automaton. automaton ≡ built (formula_of f.now)) }
 {
+    let whole = unmerged(alloc, f)?;
+    let found = merged(alloc, whole.obligations.as_slice(), whole.start)?;
+    Ok(found)
+}
+
+// The same, before obligations are merged.
+fn unmerged(alloc: Global, f: &Fl) -> Result<Alternating, NoMemory>
+    requires plain { IsPlain (formula_of f.now) }
+    requires small { HasLargeSequence (formula_of f.now) → ⊥ }
+    requires room { obligations_of (formula_of f.now) ≤ MOST_OBLIGATIONS }
+    ensures { IfOk result (λ automaton. automaton ≡ unmerged (formula_of f.now)) }
+{
     let Part {
         start: first,
         rest: mut obligations,
@@ -238,6 +253,23 @@ fn finished(alloc: Global, f: &Fl) -> Result<Alternating, NoMemory>
     let start = obligations.len() as u32;
     add(&mut obligations, first)?;
     trimmed(alloc, obligations.as_slice(), start)
+}
+
+// Of obligations that ask the same the first, in one pass.
+fn merged(alloc: Global, obligations: &[Obligation], start: u32) -> Result<Alternating, NoMemory>
+    requires names { NamesOf (record { start = start; obligations = obligations_of_code obligations.now }) }
+    requires room { length obligations.now < 2 ^ 32 }
+    ensures { IfOk result (λ automaton. automaton ≡ merged (record { start = start; obligations = obligations_of_code obligations.now })) }
+{
+    let classes = classes_of(alloc, obligations, start)?;
+    let marks = firsts(alloc, classes.as_slice())?;
+    let names = names_of(alloc, marks.as_slice())?;
+    let new = class_names(alloc, classes.as_slice(), names.as_slice())?;
+    let found = kept(alloc, obligations, marks.as_slice(), new.as_slice())?;
+    Ok(Alternating {
+        start: names[start as usize],
+        obligations: found,
+    })
 }
 
 // Of the obligations those that are reached from the start, the last.

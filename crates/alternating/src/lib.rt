@@ -10,6 +10,7 @@ mod dual;
 mod laws;
 mod letter;
 mod marking;
+mod merge;
 mod obligation;
 mod part;
 mod positive;

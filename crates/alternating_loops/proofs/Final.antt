@@ -7,14 +7,15 @@ use Rattle.psl_meaning.specs.Trace.{Trace, trace_of}
 use Rattle.psl_meaning.proofs.Choice.{iff-trans}
 use Rattle.psl_tree.specs.Trees.{Formula}
 use Rattle.psl_tree.specs.declared.letter.Word.{Word}
-use Rattle.lasso_theory.specs.Courses.{Course, read_from, places, course_of}
+use Rattle.lasso_theory.specs.Courses.{Course, read_from, places, letter_at, next_place, course_of}
 use Rattle.lasso_theory.proofs.Ends.{IsCourse, word-course, word-next}
 use Rattle.lasso_theory.proofs.Words.{word_read}
 use Rattle.alternating_theory.specs.Construction.{Part, part_of, HasNoClock}
 use Rattle.alternating_theory.specs.Obligations.{Obligation, obligation_at, numbered}
 use Rattle.alternating_theory.specs.Positive.{OwesWithin}
-use Rattle.alternating_theory.specs.Trimmed.{built}
-use Rattle.alternating_theory.proofs.Built.{all-below, built-last}
+use Rattle.alternating_theory.specs.Built.{unmerged, built}
+use Rattle.alternating_theory.specs.Merged.{class_in, classes_upto}
+use Rattle.alternating_theory.proofs.Built.{all-below, unmerged-names}
 use Rattle.alternating_theory.proofs.Means.{part-means}
 use Rattle.alternating_theory.proofs.MetLaws.{met-same, within-wider}
 use Rattle.alternating_theory.proofs.Parts.{end_of, IsPartOf}
@@ -22,6 +23,7 @@ use Rattle.alternating_theory.proofs.Values.{at-left, at-right}
 use Rattle.alternating_loops.specs.Acceptance.{AcceptsAlong, Accepts}
 use Rattle.alternating_loops.proofs.Accepts.{accepts-scores}
 use Rattle.alternating_loops.proofs.Induction.{part-scored}
+use Rattle.alternating_loops.proofs.LoopMerges.{merged-accepts}
 use Rattle.alternating_loops.proofs.Scores.{Scored}
 use Rattle.alternating_loops.proofs.Singles.{single_value, single_whole, single-step, single-at, single, single-whole}
 use Rattle.alternating_loops.proofs.Splits.{below-left, split-score, split-value}
@@ -108,19 +110,22 @@ module _ (f : Formula) (plain : HasNoClock f) (c : Course) (n top bottom : ℕ) 
   below : (q : ℕ) → q < length os → OwesWithin 0 mid (obligation_at os q).delta
   below = all-below part is.right
 
-  pub built-score : Scored c n top bottom 0 (length (built f).obligations) (obligation_at (built f).obligations)
-  built-score = trimmed-score os mid many below c n top bottom score
+  pub unmerged-score : Scored c n top bottom 0 (length (unmerged f).obligations) (obligation_at (unmerged f).obligations)
+  unmerged-score = trimmed-score os mid many below c n top bottom score
 
-  pub built-scores : (p : ℕ) → p < n → IsTrue (built-score.value p (built f).start) ↔ Sat (read_from c p) f None
-  unfolding built-score
-  built-scores p l = subst (λ (b : Truth). IsTrue b ↔ Sat (read_from c p) f None) (sym (trimmed-start os mid many below c n top bottom score p ∙ score-start p)) (means p l)
+  pub unmerged-scores : (p : ℕ) → p < n → IsTrue (unmerged-score.value p (unmerged f).start) ↔ Sat (read_from c p) f None
+  unfolding unmerged-score
+  unmerged-scores p l = subst (λ (b : Truth). IsTrue b ↔ Sat (read_from c p) f None) (sym (trimmed-start os mid many below c n top bottom score p ∙ score-start p)) (means p l)
 
   -- over the first m places, which the course does not leave
-  pub built-accepts : (m : ℕ) → m ≤ n → ((p : ℕ) → p < m → c.next p < m) → 0 < m → AcceptsAlong (built f) m c.letter c.next ↔ Sat (read_from c 0) f None
-  built-accepts m few stays some =
-      iff-trans (accepts-scores c n top bottom (built f) built-score m few stays some (omega (arith, built-last f plain))) (built-scores 0 (omega arith))
+  pub unmerged-accepts : (m : ℕ) → m ≤ n → ((p : ℕ) → p < m → c.next p < m) → 0 < m → AcceptsAlong (unmerged f) m c.letter c.next ↔ Sat (read_from c 0) f None
+  unmerged-accepts m few stays some =
+      iff-trans (accepts-scores c n top bottom (unmerged f) unmerged-score m few stays some (omega (arith, (unmerged-names f plain).start_last))) (unmerged-scores 0 (omega arith))
 
 pub accepts-word : (f : Formula) → HasNoClock f → (word : Word) → 0 < length word.looped → Accepts (built f) word ↔ Sat (trace_of word) f None
 accepts-word f plain word some =
-    subst (λ (w : Trace). Accepts (built f) word ↔ Sat w f None) (sym (word_read word some))
-    (built-accepts f plain (course_of word) (places word + 2) (places word) (places word + 1) (word-course word some) (places word) (omega arith) (word-next word some) (omega arith))
+    iff-trans
+    (merged-accepts (unmerged f) (unmerged-names f plain) (class_in (classes_upto (unmerged f).obligations (unmerged f).start)) (places word) (letter_at word) (next_place word)
+    (word-next word some) (omega arith))
+    (subst (λ (w : Trace). Accepts (unmerged f) word ↔ Sat w f None) (sym (word_read word some))
+    (unmerged-accepts f plain (course_of word) (places word + 2) (places word) (places word + 1) (word-course word some) (places word) (omega arith) (word-next word some) (omega arith)))

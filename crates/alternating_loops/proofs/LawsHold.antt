@@ -7,7 +7,7 @@ use Rattle.alternating_theory.specs.Construction.{HasNoClock}
 use Rattle.alternating_theory.specs.Laws.{NamesOf}
 use Rattle.alternating_theory.specs.Merged.{merged_by}
 use Rattle.alternating_theory.specs.Obligations.{Automaton}
-use Rattle.alternating_theory.specs.Trimmed.{built}
+use Rattle.alternating_theory.specs.Built.{built}
 use Rattle.alternating_loops.specs.Laws.{LoopsOf, KeepsLoops}
 use Rattle.alternating_loops.proofs.Final.{accepts-word}
 use Rattle.alternating_loops.proofs.LoopMerges.{merged-accepts}

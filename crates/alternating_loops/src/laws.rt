@@ -4,7 +4,7 @@ ghost use Rattle.alternating_theory.specs.Construction.{HasNoClock};
 ghost use Rattle.alternating_theory.specs.Laws.{NamesOf};
 ghost use Rattle.alternating_theory.specs.Merged.{merged_by};
 ghost use Rattle.alternating_theory.specs.Obligations.{Automaton};
-ghost use Rattle.alternating_theory.specs.Trimmed.{built};
+ghost use Rattle.alternating_theory.specs.Built.{built};
 ghost use Rattle.alternating_loops.specs.Laws.{LoopsOf, KeepsLoops};
 
 /// A law: the automaton that is built of a formula without clocks accepts each word with a loop exactly

@@ -11,7 +11,10 @@ use Rattle.psl_tree.specs.declared.letter.Letter.{Letter}
 use Rattle.alternating_theory.specs.Construction.{Part, part_of, HasNoClock}
 use Rattle.alternating_theory.specs.Obligations.{Obligation, obligation_at, numbered, value_of, value_on, IsReached}
 use Rattle.alternating_theory.specs.Positive.{OwesWithin}
-use Rattle.alternating_theory.specs.Trimmed.{finished, built}
+use Rattle.alternating_theory.specs.Built.{finished, unmerged, built}
+use Rattle.alternating_theory.specs.Laws.{NamesOf, KeepsValues}
+use Rattle.alternating_theory.specs.Merged.{class_in, classes_upto}
+use Rattle.alternating_theory.proofs.Merges.{merging_keeps}
 use Rattle.alternating_theory.proofs.Counts.{part-count}
 use Rattle.alternating_theory.proofs.Means.{part-means}
 use Rattle.alternating_theory.proofs.Parts.{start_value, end_of, IsRight, part-closed}
@@ -56,23 +59,38 @@ module _ (part : Part) (r : IsRight 0 part) where
 right-of : (f : Formula) → HasNoClock f → IsRight 0 (part_of 0 f)
 right-of f h = (part-means 0 f h).right
 
-pub built-means : (f : Formula) → HasNoClock f → (p : Past) (xs : List Letter) → IsTrue (value_on (built f) p xs) ↔ Sat (followed xs p) f None
-built-means f h p xs = subst (λ (t : Truth). IsTrue t ↔ Sat (followed xs p) f None) (sym (finished-value (part_of 0 f) (right-of f h) p xs)) ((part-means 0 f h).means p xs)
+unmerged-means : (f : Formula) → HasNoClock f → (p : Past) (xs : List Letter) → IsTrue (value_on (unmerged f) p xs) ↔ Sat (followed xs p) f None
+unmerged-means f h p xs = subst (λ (t : Truth). IsTrue t ↔ Sat (followed xs p) f None) (sym (finished-value (part_of 0 f) (right-of f h) p xs)) ((part-means 0 f h).means p xs)
 
-pub built-count : (f : Formula) → HasNoClock f → length (built f).obligations ≤ obligations_of f
-built-count f h =
+unmerged-count : (f : Formula) → HasNoClock f → length (unmerged f).obligations ≤ obligations_of f
+unmerged-count f h =
     let part = part_of 0 f in
     let e = trimmed-fewer (part.rest ++ part.start ∷ []) (length part.rest) (all-last part (right-of f h)) (all-below part (right-of f h)) in
     omega (arith, e, all-last part (right-of f h), part-count 0 f h)
 
-pub built-last : (f : Formula) → HasNoClock f → length (built f).obligations ≡ (built f).start + 1
-built-last f h =
+unmerged-last : (f : Formula) → HasNoClock f → length (unmerged f).obligations ≡ (unmerged f).start + 1
+unmerged-last f h =
     let part = part_of 0 f in trimmed-last (part.rest ++ part.start ∷ []) (length part.rest) (all-last part (right-of f h)) (all-below part (right-of f h))
 
-pub built-below : (f : Formula) → HasNoClock f → (q : ℕ) → q < length (built f).obligations → OwesWithin 0 (built f).start (obligation_at (built f).obligations q).delta
-built-below f h =
+unmerged-below : (f : Formula) → HasNoClock f → (q : ℕ) → q < length (unmerged f).obligations → OwesWithin 0 (unmerged f).start (obligation_at (unmerged f).obligations q).delta
+unmerged-below f h =
     let part = part_of 0 f in trimmed-below (part.rest ++ part.start ∷ []) (length part.rest) (all-last part (right-of f h)) (all-below part (right-of f h))
 
-pub built-reached : (f : Formula) → HasNoClock f → (q : ℕ) → q < length (built f).obligations → IsReached (built f) q
-built-reached f h =
+unmerged-reached : (f : Formula) → HasNoClock f → (q : ℕ) → q < length (unmerged f).obligations → IsReached (unmerged f) q
+unmerged-reached f h =
     let part = part_of 0 f in trimmed-reached (part.rest ++ part.start ∷ []) (length part.rest) (all-last part (right-of f h)) (all-below part (right-of f h))
+
+pub unmerged-names : (f : Formula) → HasNoClock f → NamesOf (unmerged f)
+unmerged-names f h = record { start_last = unmerged-last f h; owed_below = unmerged-below f h; all_reached = unmerged-reached f h }
+
+pub built-keeps : (f : Formula) → HasNoClock f → KeepsValues (unmerged f) (built f)
+built-keeps f h = merging_keeps (unmerged f) (unmerged-names f h) (class_in (classes_upto (unmerged f).obligations (unmerged f).start))
+
+pub built-means : (f : Formula) → HasNoClock f → (p : Past) (xs : List Letter) → IsTrue (value_on (built f) p xs) ↔ Sat (followed xs p) f None
+built-means f h p xs = subst (λ (t : Truth). IsTrue t ↔ Sat (followed xs p) f None) (sym ((built-keeps f h).values p xs)) (unmerged-means f h p xs)
+
+pub built-count : (f : Formula) → HasNoClock f → length (built f).obligations ≤ obligations_of f
+built-count f h = omega (arith, (built-keeps f h).fewer, unmerged-count f h)
+
+pub built-names : (f : Formula) → HasNoClock f → NamesOf (built f)
+built-names f h = (built-keeps f h).names

@@ -19,18 +19,18 @@ use Rattle.alternating_theory.proofs.Values.{at-map}
 
 -- classes in a list
 
-class-left : (xs : List ℕ) (y n d : ℕ) → n < length xs → get_or (xs ++ y ∷ []) n d ≡ get_or xs n d
+pub class-left : (xs : List ℕ) (y n d : ℕ) → n < length xs → get_or (xs ++ y ∷ []) n d ≡ get_or xs n d
 class-left [] y n d h = absurd (omega arith)
 class-left (x ∷ xs) y zero d h = refl
 class-left (x ∷ xs) y (suc n) d h = class-left xs y n d (omega arith)
 
-class-last : (xs : List ℕ) (y n d : ℕ) → n ≡ length xs → get_or (xs ++ y ∷ []) n d ≡ y
+pub class-last : (xs : List ℕ) (y n d : ℕ) → n ≡ length xs → get_or (xs ++ y ∷ []) n d ≡ y
 class-last [] y zero d e = refl
 class-last [] y (suc n) d e = absurd (omega arith)
 class-last (x ∷ xs) y zero d e = absurd (omega arith)
 class-last (x ∷ xs) y (suc n) d e = class-last xs y n d (omega arith)
 
-class-past : (xs : List ℕ) (n d : ℕ) → length xs ≤ n → get_or xs n d ≡ d
+pub class-past : (xs : List ℕ) (n d : ℕ) → length xs ≤ n → get_or xs n d ≡ d
 class-past [] n d h = refl
 class-past (x ∷ xs) zero d h = absurd (omega arith)
 class-past (x ∷ xs) (suc n) d h = class-past xs n d (omega arith)
@@ -149,6 +149,9 @@ module _ (os : List Obligation) where
           found-own : ((found k < k) ⊎ (k ≤ found k)) → class_at (suc k) (found k) ≡ found k
           found-own (inl m) = class-before k (found k) m ∙ (found-is k).0
           found-own (inr m) = let e : found k ≡ k = omega (arith, found-low k) in ap (λ i. class_at (suc k) i) e ∙ class-new k
+
+  pub low-class : (start q : ℕ) → q < start → class_in (classes_upto os start) q ≤ q
+  low-class start q l = (good start).low q l
 
   all-from : (n : ℕ) (test : ℕ → Truth) → ((q : ℕ) → q < n → IsTrue (test q)) → IsTrue (all_below n test)
   all-from zero test f = refl

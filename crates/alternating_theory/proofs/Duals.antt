@@ -1,15 +1,14 @@
 -- The dual of the automaton of a formula is the automaton of the negation.
-use Rattle.std.proofs.Common.{◌≡◌, refl, sym, ap, ◌∙◌, ℕ, zero, suc, Bool as Truth, true, false, if◌then◌else◌, List, [], ◌∷◌, ◌++◌, length, map}
+use Rattle.std.proofs.Common.{◌≡◌, refl, ap, ◌∙◌, ℕ, zero, suc, Bool as Truth, true, false, if◌then◌else◌, List, [], ◌∷◌, ◌++◌, length, map}
 use Rattle.std.specs.Prelude.{◌&&◌, ◌||◌}
 use Rattle.std.proofs.lemmas.List.{length-map}
 use mathlib.Core.Path.{fun_ext}
-use Rattle.psl_tree.specs.Trees as trees
-use Rattle.psl_tree.specs.Trees.{Formula}
-use Rattle.alternating_theory.specs.Construction.{Part, opposite_obligation, not_part, part_of}
+use Rattle.alternating_theory.specs.Construction.{Part, opposite_obligation, not_part}
+use Rattle.alternating_theory.specs.Built.{finished}
 use Rattle.alternating_theory.specs.Dual.{opposite_automaton}
 use Rattle.alternating_theory.specs.Obligations.{Obligation, Automaton, obligation_at}
 use Rattle.alternating_theory.specs.Positive.{Positive, Const, Holds, Owed, And, Or, owes, renumbered, opposite}
-use Rattle.alternating_theory.specs.Trimmed.{some_below, reached_within, is_reached, count_below, kept, renumbered_obligation, trimmed, finished, built}
+use Rattle.alternating_theory.specs.Trimmed.{some_below, reached_within, is_reached, count_below, kept, renumbered_obligation, trimmed}
 
 pub owes-opposite : (p : Positive) (q : ℕ) → owes (opposite p) q ≡ owes p q
 owes-opposite (Const v) q = refl
@@ -95,6 +94,3 @@ finished-opposite part =
     ap (λ (l : List Obligation). trimmed l (length (map opposite_obligation part.rest))) (map-last part.rest part.start)
     ∙ ap (λ n. trimmed (map opposite_obligation (part.rest ++ part.start ∷ [])) n) (length-map part.rest opposite_obligation)
     ∙ trimmed-opposite (part.rest ++ part.start ∷ []) (length part.rest)
-
-pub opposite_built : (f : Formula) → opposite_automaton (built f) ≡ built (trees.Not f)
-opposite_built f = sym (finished-opposite (part_of 0 f))

@@ -12,8 +12,8 @@ use Rattle.alternating_theory.specs.Construction.{HasNoClock}
 use Rattle.alternating_theory.specs.Laws.{ValuesOf, NamesOf, SizeOf}
 use Rattle.alternating_theory.specs.Obligations.{value_on}
 use Rattle.alternating_theory.specs.Rows.{SizeRows}
-use Rattle.alternating_theory.specs.Trimmed.{built}
-use Rattle.alternating_theory.proofs.Built.{built-means, built-count, built-last, built-below, built-reached}
+use Rattle.alternating_theory.specs.Built.{built}
+use Rattle.alternating_theory.proofs.Built.{built-means, built-count, built-names}
 
 on-trace : (f : Formula) → HasNoClock f → (p : Past) (xs : List Letter) (w : Trace) → w ≡ followed xs p → IsTrue (value_on (built f) p xs) ↔ Sat w f None
 on-trace f h p xs w e = subst (λ (v : Trace). IsTrue (value_on (built f) p xs) ↔ Sat v f None) (sym e) (built-means f h p xs)
@@ -29,10 +29,10 @@ values f h = record {
 }
 
 pub names : (f : Formula) → HasNoClock f → NamesOf (built f)
-names f h = record { start_last = built-last f h; owed_below = built-below f h; all_reached = built-reached f h }
+names f h = built-names f h
 
 pub size : (f : Formula) → HasNoClock f → SizeOf (built f) f
 size f h = built-count f h
 
 pub size_rows : SizeRows
-size_rows = record { letter = refl; always_letter = refl; always_eventually = refl; handshake = refl; false_edge = refl; twice = refl; aborted = refl }
+size_rows = record { letter = refl; always_letter = refl; always_eventually = refl; handshake = refl; false_edge = refl; twice = refl; aborted = refl; next_twice = refl }

@@ -12,6 +12,7 @@ pub mod LawsHold
 pub mod MergedDuals
 pub mod Merges
 pub mod MetLaws
+pub mod Negations
 pub mod Opposites
 pub mod Parts
 pub mod Prefixes

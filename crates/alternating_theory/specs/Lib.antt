@@ -1,3 +1,4 @@
+pub mod Built
 pub mod Construction
 pub mod Dual
 pub mod Going

@@ -2,8 +2,8 @@
 use Rattle.std.specs.Prelude.{◌≡◌, ℕ, length}
 use Rattle.psl_meaning.specs.Sugar.{always, eventually, implication, next_strong}
 use Rattle.psl_meaning.specs.Rows.{a, b, a_then_false, asynchronous}
-use Rattle.psl_tree.specs.Trees.{Formula, Now, Strong, One, Concat}
-use Rattle.alternating_theory.specs.Trimmed.{built}
+use Rattle.psl_tree.specs.Trees.{Formula, Now, And, Next, Strong, One, Concat}
+use Rattle.alternating_theory.specs.Built.{built}
 
 abbrev size : Formula → ℕ
 size formula = length (built formula).obligations
@@ -17,3 +17,5 @@ pub record SizeRows : Type 0 where
   pub false_edge : size a_then_false ≡ 2
   pub twice : size (Strong (Concat (One a) (One b))) ≡ 2
   pub aborted : size asynchronous ≡ 3
+  -- what both sides owe at the next place is one obligation
+  pub next_twice : size (And (Next (Now a)) (Next (Now a))) ≡ 2

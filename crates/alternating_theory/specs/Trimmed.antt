@@ -1,8 +1,5 @@
--- The automaton of a formula: of its part only what is reached from the start stays, in order, and
--- the start is last.
+-- Trimming: only what is reached from the start stays, in order, and the start is last.
 use Rattle.std.specs.Prelude.{Bool as Truth, false, ◌&&◌, ◌||◌, ◌==◌, if◌then◌else◌, ℕ, zero, suc, ◌+◌, List, [], ◌∷◌, ◌++◌, length, map}
-use Rattle.psl_tree.specs.Trees.{Formula}
-use Rattle.alternating_theory.specs.Construction.{Part, part_of}
 use Rattle.alternating_theory.specs.Obligations.{Obligation, Automaton, obligation_at}
 use Rattle.alternating_theory.specs.Positive.{owes, renumbered}
 
@@ -50,11 +47,3 @@ trimmed obligations start = record {
   obligations = map (λ obligation. renumbered_obligation (λ number. count_below number (is_reached obligations start)) obligation)
       (kept (is_reached obligations start) obligations);
 }
-
--- the automaton of a part from 0 on
-abbrev pub finished : Part → Automaton
-finished part = trimmed (part.rest ++ part.start ∷ []) (length part.rest)
-
--- the automaton of a formula without clocks
-abbrev pub built : Formula → Automaton
-built formula = finished (part_of 0 formula)

@@ -6,7 +6,7 @@ ghost use Rattle.alternating_theory.specs.Laws.{ValuesOf, NamesOf, SizeOf, Keeps
 ghost use Rattle.alternating_theory.specs.Merged.{class_in, classes_upto, fits, merged, merged_by};
 ghost use Rattle.alternating_theory.specs.Obligations.{Automaton};
 ghost use Rattle.alternating_theory.specs.Rows.{SizeRows};
-ghost use Rattle.alternating_theory.specs.Trimmed.{built};
+ghost use Rattle.alternating_theory.specs.Built.{built};
 
 /// A law: the automaton that is built of a formula without clocks has on each finite word, in each of
 /// the three views, the value that satisfaction gives (IEEE 1850, Annex B); it is no larger than the
@@ -20,9 +20,9 @@ pub fn automaton_means_formula()
 
 /// A law: the dual of the automaton of a formula is the automaton of its negation, obligation by
 /// obligation.
-#[tactic(auto, using(crate::proofs::Duals::opposite_built))]
+#[tactic(auto, using(crate::proofs::Negations::opposite_built))]
 pub fn dual_is_negation()
-    ensures { (formula : Formula) → opposite_automaton (built formula) ≡ built (Not formula) }
+    ensures { (formula : Formula) → HasNoClock formula → opposite_automaton (built formula) ≡ built (Not formula) }
 {}
 
 /// A law: merging by any classes keeps the values and what the numbers are, and changes places with the

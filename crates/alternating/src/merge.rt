@@ -1,0 +1,188 @@
+ghost use Rattle.std.specs.Prelude.{◌≡◌, ◌≤◌, ◌<◌, ◌+◌, ◌^◌, ℕ, length, slice_index, IfOk};
+ghost use Rattle.psl_tree.specs.Trees.{boolean_of};
+ghost use Rattle.alternating_theory.specs.Merged.{same_truth, same_boolean, same_positive, same_obligation, class_in, first_from, is_like, classes_upto};
+ghost use Rattle.alternating_theory.specs.Positive.{renumbered};
+ghost use Rattle.alternating_theory.specs.Trimmed.{renumbered_obligation};
+ghost use Rattle.alternating.specs.Classes.{Firsts, ClassNames};
+ghost use Rattle.alternating.specs.Views.{positive_of, obligation_of, obligations_of_code};
+
+use crate::obligation::Obligation;
+use crate::positive::Positive;
+use psl_base::NoMemory;
+use psl_tree::{Bool, same_atom};
+use std::alloc::Global;
+
+/// The classes of so many obligations in one pass: each becomes one with the first before it that asks
+/// the same, once those before it have become one. A class is the number of its first obligation.
+pub(crate) fn classes_of(
+    alloc: Global,
+    obligations: &[Obligation],
+    count: u32,
+) -> Result<Vec<u32>, NoMemory>
+    requires { count ≤ length obligations.now }
+    ensures { IfOk result (λ classes. classes.items ≡ classes_upto (obligations_of_code obligations.now) count) }
+{
+    let mut classes = Vec::new(alloc);
+    for number in 0..count {
+        let class = first_like(obligations, classes.as_slice(), number);
+        classes.push(class).map_err(|_| NoMemory)?;
+    }
+    Ok(classes)
+}
+
+// The first obligation that asks what this one asks, up to the classes of those before it.
+fn first_like(obligations: &[Obligation], classes: &[u32], number: u32) -> u32
+    requires number { number < length obligations.now }
+    requires classes { length classes.now ≡ number }
+    ensures { result ≡ first_from 0 number (λ earlier. is_like (obligations_of_code obligations.now) (class_in classes.now) earlier number) }
+{
+    for earlier in 0..number {
+        if is_like(obligations, classes, earlier, number) {
+            return earlier;
+        }
+    }
+    number
+}
+
+// Whether an earlier obligation is the first of its class and asks what this one asks.
+fn is_like(obligations: &[Obligation], classes: &[u32], earlier: u32, number: u32) -> bool
+    requires number { number < length obligations.now }
+    requires classes { length classes.now ≡ number }
+    requires earlier { earlier < number }
+    ensures { result ≡ is_like (obligations_of_code obligations.now) (class_in classes.now) earlier number }
+{
+    let first = &obligations[earlier as usize];
+    let second = &obligations[number as usize];
+    class_of(classes, earlier) == earlier && same_obligation(first, second, classes)
+}
+
+/// The class of an obligation, which is its own where none is known yet.
+fn class_of(classes: &[u32], number: u32) -> u32
+    ensures { result ≡ class_in classes.now number }
+{
+    if (number as usize) < classes.len() {
+        classes[number as usize]
+    } else {
+        number
+    }
+}
+
+fn same_truth(left: bool, right: bool) -> bool
+    ensures { result ≡ same_truth left right }
+{
+    if left { right } else { !right }
+}
+
+// What is told apart soonest goes first: the values, and of combinations the right parts.
+fn same_obligation(left: &Obligation, right: &Obligation, classes: &[u32]) -> bool
+    ensures { result ≡ same_obligation (renumbered_obligation (λ number. class_in classes.now number) (obligation_of left.now)) (renumbered_obligation (λ number. class_in classes.now number) (obligation_of right.now)) }
+{
+    same_truth(left.accepting, right.accepting)
+        && (same_truth(left.end, right.end)
+            && (same_truth(left.top, right.top)
+                && (same_truth(left.bottom, right.bottom)
+                    && same_positive(&left.delta, &right.delta, classes))))
+}
+
+fn same_positive(left: &Positive, right: &Positive, classes: &[u32]) -> bool
+    ensures { result ≡ same_positive (renumbered (λ number. class_in classes.now number) (positive_of left.now)) (renumbered (λ number. class_in classes.now number) (positive_of right.now)) }
+{
+    match left {
+        Positive::Const(value) => match right {
+            Positive::Const(other) => same_truth(*value, *other),
+            Positive::Holds(_) | Positive::Owed(_) | Positive::And(_, _) | Positive::Or(_, _) => {
+                false
+            }
+        },
+        Positive::Holds(test) => match right {
+            Positive::Holds(other) => same_boolean(test, other),
+            Positive::Const(_) | Positive::Owed(_) | Positive::And(_, _) | Positive::Or(_, _) => {
+                false
+            }
+        },
+        Positive::Owed(number) => match right {
+            Positive::Owed(other) => class_of(classes, *number) == class_of(classes, *other),
+            Positive::Const(_) | Positive::Holds(_) | Positive::And(_, _) | Positive::Or(_, _) => {
+                false
+            }
+        },
+        Positive::And(first, second) => match right {
+            Positive::And(third, fourth) => {
+                same_positive(second, fourth, classes) && same_positive(first, third, classes)
+            }
+            Positive::Const(_) | Positive::Holds(_) | Positive::Owed(_) | Positive::Or(_, _) => {
+                false
+            }
+        },
+        Positive::Or(first, second) => match right {
+            Positive::Or(third, fourth) => {
+                same_positive(second, fourth, classes) && same_positive(first, third, classes)
+            }
+            Positive::Const(_) | Positive::Holds(_) | Positive::Owed(_) | Positive::And(_, _) => {
+                false
+            }
+        },
+    }
+}
+
+fn same_boolean(left: &Bool, right: &Bool) -> bool
+    ensures { result ≡ same_boolean (boolean_of left.now) (boolean_of right.now) }
+{
+    match left {
+        Bool::Const(value) => match right {
+            Bool::Const(other) => same_truth(*value, *other),
+            Bool::Test(_) | Bool::Not(_) | Bool::And(_, _) | Bool::Or(_, _) => false,
+        },
+        Bool::Test(atom) => match right {
+            Bool::Test(other) => same_atom(atom, other),
+            Bool::Const(_) | Bool::Not(_) | Bool::And(_, _) | Bool::Or(_, _) => false,
+        },
+        Bool::Not(part) => match right {
+            Bool::Not(other) => same_boolean(part, other),
+            Bool::Const(_) | Bool::Test(_) | Bool::And(_, _) | Bool::Or(_, _) => false,
+        },
+        Bool::And(first, second) => match right {
+            Bool::And(third, fourth) => {
+                same_boolean(first, third) && same_boolean(second, fourth)
+            }
+            Bool::Const(_) | Bool::Test(_) | Bool::Not(_) | Bool::Or(_, _) => false,
+        },
+        Bool::Or(first, second) => match right {
+            Bool::Or(third, fourth) => {
+                same_boolean(first, third) && same_boolean(second, fourth)
+            }
+            Bool::Const(_) | Bool::Test(_) | Bool::Not(_) | Bool::And(_, _) => false,
+        },
+    }
+}
+
+/// Whether each obligation is the first of its class. The last one, behind those with a class, is.
+pub(crate) fn firsts(alloc: Global, classes: &[u32]) -> Result<Vec<bool>, NoMemory>
+    requires { length classes.now + 1 < 2 ^ 32 }
+    ensures { IfOk result (λ marks. Firsts classes.now marks.items) }
+{
+    let mut marks = Vec::new(alloc);
+    for (number, class) in classes.iter().enumerate() {
+        marks.push(*class == number as u32).map_err(|_| NoMemory)?;
+    }
+    marks.push(true).map_err(|_| NoMemory)?;
+    Ok(marks)
+}
+
+/// The new number of each obligation: that of the first of its class.
+pub(crate) fn class_names(
+    alloc: Global,
+    classes: &[u32],
+    names: &[u32],
+) -> Result<Vec<u32>, NoMemory>
+    requires names { length names.now ≡ length classes.now + 1 }
+    requires below { (number : ℕ) → number < length classes.now → slice_index classes.now number ≤ number }
+    ensures { IfOk result (λ new. ClassNames classes.now names.now new.items) }
+{
+    let mut new = Vec::new(alloc);
+    for class in classes {
+        new.push(names[*class as usize]).map_err(|_| NoMemory)?;
+    }
+    new.push(names[classes.len()]).map_err(|_| NoMemory)?;
+    Ok(new)
+}
