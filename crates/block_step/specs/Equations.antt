@@ -2,8 +2,11 @@
 use Rattle.std.specs.Prelude.{◌≡◌, ℕ, List, length, All}
 use Rattle.psl_tree.specs.declared.atom.Atom.{Atom}
 use Rattle.alternating_theory.specs.Obligations.{Automaton}
-use Rattle.block_step.specs.Plan.{NodeWithin, IsPlan, TestsTell}
+use Rattle.block_step.specs.Block.{MeetsAll, AreAllBlockValues}
+use Rattle.block_step.specs.Plan.{combination_of, NodeWithin, IsPlan, TestsTell}
 use Rattle.block_step.specs.declared.equations.Equations.{Equations}
+use Rattle.block_step.specs.declared.plan.Node.{Node}
+use Rattle.block_step.specs.declared.words.Words.{Words}
 
 -- there is a node for each obligation and a word for each Boolean, and the nodes name no others
 pub record IsReady (equations : Equations) : Type 0 where
@@ -15,3 +18,16 @@ pub record IsReady (equations : Equations) : Type 0 where
 pub record AreEquations (automaton : Automaton) (atoms : List Atom) (columns : List ℕ) (equations : Equations) : Type 0 where
   pub plan : IsPlan automaton equations.plan.now
   pub tests : TestsTell atoms columns equations.plan.now.tests.items equations.tests.now
+
+-- words are found for a node: they say at which letters its combination is met
+abbrev pub MeetsNode : Equations → List Words → Node → Words → Type 0
+MeetsNode equations words node found =
+    (atoms : List Atom) (columns : List ℕ) → TestsTell atoms columns equations.plan.now.tests.items equations.tests.now
+    → length equations.tests.now ≡ length equations.plan.now.tests.items
+    → MeetsAll atoms columns equations.after.now words (combination_of equations.plan.now.tests.items node) found
+
+-- words are the values of each automaton at all letters that have these equations
+abbrev pub AreSolution : Equations → List Words → Type 0
+AreSolution equations words =
+    (automaton : Automaton) (atoms : List Atom) (columns : List ℕ) → AreEquations automaton atoms columns equations
+    → AreAllBlockValues automaton atoms columns equations.after.now words

@@ -1,9 +1,6 @@
-ghost use Rattle.std.specs.Prelude.{◌≡◌, IsTrue, ℕ, List, length};
-ghost use Rattle.psl_tree.specs.declared.atom.Atom.{Atom};
-ghost use Rattle.alternating_theory.specs.Obligations.{Automaton};
-ghost use Rattle.block_step.specs.Block.{MeetsAll, AreAllBlockValues};
-ghost use Rattle.block_step.specs.Equations.{IsReady, AreEquations};
-ghost use Rattle.block_step.specs.Plan.{combination_of, NodeWithin, TestsTell};
+ghost use Rattle.std.specs.Prelude.{◌≡◌, IsTrue, length};
+ghost use Rattle.block_step.specs.Equations.{IsReady, MeetsNode, AreSolution};
+ghost use Rattle.block_step.specs.Plan.{NodeWithin};
 
 use crate::plan::{Node, Plan};
 use crate::words::{Words, filled};
@@ -25,7 +22,7 @@ impl Equations<'_> {
     pub(crate) fn hold(&self, words: &[Words]) -> bool
         requires ready { IsReady self.now }
         requires words { length words.now ≡ length self.now.after.now }
-        ensures { IsTrue result → (automaton : Automaton) (atoms : List Atom) (columns : List ℕ) → AreEquations automaton atoms columns self.now → AreAllBlockValues automaton atoms columns self.now.after.now words.now }
+        ensures { IsTrue result → AreSolution self.now words.now }
     {
         let deltas = self.plan.deltas.as_slice();
         for number in 0..words.len() {
@@ -41,7 +38,7 @@ impl Equations<'_> {
     pub(crate) fn met(&self, node: &Node, words: &[Words]) -> Words
         requires node { NodeWithin (length self.now.after.now) (length self.now.tests.now) node.now }
         requires words { length words.now ≡ length self.now.after.now }
-        ensures { (atoms : List Atom) (columns : List ℕ) → TestsTell atoms columns self.now.plan.now.tests.items self.now.tests.now → length self.now.tests.now ≡ length self.now.plan.now.tests.items → MeetsAll atoms columns self.now.after.now words.now (combination_of self.now.plan.now.tests.items node.now) result }
+        ensures { MeetsNode self.now words.now node.now result }
     {
         match node {
             Node::Const(value) => Words::same(filled(*value)),
