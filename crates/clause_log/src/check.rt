@@ -3,6 +3,8 @@ ghost use Rattle.std.specs.Prelude.{◌≡◌, ◌+◌, ◌<◌, ◌≤◌, leng
 ghost use Rattle.clauses.specs.Logs.{entry_words, is_lemma, is_empty_lemma};
 ghost use Rattle.clauses.specs.Entries.{entry_of};
 ghost use Rattle.clauses.specs.Models.{Assignment, IsModel};
+ghost use Rattle.clauses.specs.declared.log.TheConstants.{MOST_LOG_WORDS};
+ghost use Rattle.clause_log.specs.declared.checker.TheConstants.{MOST_LEMMAS};
 ghost use Rattle.clause_log.specs.Checking.{live_literals};
 ghost use Rattle.clause_log.specs.Checked.{IsAnswer, GoesOn};
 ghost use Rattle.clause_log.specs.declared.answer.LogAnswer.{LogAnswer};
@@ -12,8 +14,8 @@ use clauses::{Cnf, Entry, Log};
 use psl_base::NoMemory;
 use std::alloc::Global;
 
-/// Whether a log refutes a formula, which then has no model. It takes time in proportion to the words of the log and of
-/// the clauses that its hints name.
+/// Whether a log refutes a formula, which then has no model. It takes time in proportion to the variables and to
+/// the words of the log and of the clauses that its hints name.
 pub fn check_log(alloc: Global, cnf: &Cnf, log: &Log) -> Result<LogAnswer, NoMemory>
     ensures answer { IfOk result (IsAnswer cnf.now log.now) }
     ensures no_model { result ≡ Ok LogAnswer.Refutes → (values : Assignment) → IsModel values cnf.now.clauses → ⊥ }
@@ -68,8 +70,8 @@ fn ends(ended: bool, entry: Entry<'_>) -> bool
 /// Takes an entry, behind an empty lemma or not. A lemma that does not pass stops the check; a drop of what is not live
 /// changes nothing.
 fn goes_on(checker: &mut LogChecker<'_>, ended: bool, entry: Entry<'_>) -> Result<bool, NoMemory>
-    requires words { live_literals checker.old.lemmas + entry_words (entry_of entry) ≤ 1000000000 }
-    requires lemmas { length checker.old.lemmas < 1000000000 }
+    requires words { live_literals checker.old.lemmas + entry_words (entry_of entry) ≤ MOST_LOG_WORDS }
+    requires lemmas { length checker.old.lemmas < MOST_LEMMAS }
     requires limit { checker.old.limit ≡ 4294967295 }
     ensures { IfOk result (λ passes. GoesOn ended checker.old (entry_of entry.entry) passes checker.new) }
 {

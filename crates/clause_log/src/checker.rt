@@ -5,6 +5,7 @@ ghost use Rattle.clauses.specs.Logs.{entry_words};
 ghost use Rattle.clauses.specs.Logs.LogEntry.{Lemma, Forget};
 ghost use Rattle.clauses.specs.Entries.{entry_of};
 ghost use Rattle.clauses.specs.declared.flat.TheConstants.{MOST_VARIABLES};
+ghost use Rattle.clauses.specs.declared.log.TheConstants.{MOST_LOG_WORDS};
 ghost use Rattle.clause_log.specs.Codes.{code_of};
 ghost use Rattle.clause_log.specs.Checking.{Answers, begun, held as held_by, live_literals, lemma_place, IsLiveLemma};
 
@@ -18,6 +19,9 @@ use clauses::{Cnf, Entry};
 use psl_base::NoMemory;
 use std::alloc::Global;
 use std::marker::Model;
+
+/// How many lemmas a checker takes at most.
+pub const MOST_LEMMAS: usize = 1_000_000_000;
 
 /// A checker that takes the entries of a log one after another, and holds the lemmas that are live.
 ///
@@ -73,8 +77,8 @@ impl<'a> LogChecker<'a> {
     ///
     /// Behind the empty lemma no lemma of a log passes: that is left to the caller, who has seen it.
     pub fn take(&mut self, entry: Entry<'_>) -> Result<Step, NoMemory>
-        requires words { live_literals self.old.lemmas + entry_words (entry_of entry) ≤ 1000000000 }
-        requires lemmas { length self.old.lemmas < 1000000000 }
+        requires words { live_literals self.old.lemmas + entry_words (entry_of entry) ≤ MOST_LOG_WORDS }
+        requires lemmas { length self.old.lemmas < MOST_LEMMAS }
         ensures ok { IfOk result (λ step. Answers self.old (entry_of entry.entry) step self.new) }
         ensures err { OnErr result (self.new ≡ self.old) }
     {
@@ -85,8 +89,8 @@ impl<'a> LogChecker<'a> {
     }
 
     fn take_lemma(&mut self, literals: &[i32], hints: &[u32]) -> Result<Step, NoMemory>
-        requires words { live_literals self.old.lemmas + length literals.now ≤ 1000000000 }
-        requires lemmas { length self.old.lemmas < 1000000000 }
+        requires words { live_literals self.old.lemmas + length literals.now ≤ MOST_LOG_WORDS }
+        requires lemmas { length self.old.lemmas < MOST_LEMMAS }
         ensures ok { IfOk result (λ step. Answers self.old (Lemma literals.now hints.now) step self.new) }
         ensures err { OnErr result (self.new ≡ self.old) }
     {

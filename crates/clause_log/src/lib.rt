@@ -15,6 +15,6 @@ mod tests;
 
 pub use answer::LogAnswer;
 pub use check::check_log;
-pub use checker::LogChecker;
+pub use checker::{LogChecker, MOST_LEMMAS};
 pub use psl_base::NoMemory;
 pub use step::Step;
