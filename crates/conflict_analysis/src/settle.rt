@@ -63,7 +63,7 @@ fn settle(
 }
 
 /// Whether the lemma can do without a literal: it is of level 0, or its reason names no literal but such as were
-/// reached or are of level 0. (Local minimization: Beame, Kautz and Sabharwal, 2004; Sorensson and Biere, 2009.)
+/// reached or are of level 0. (Local minimization, as in Minimizing learned clauses, 2009.)
 fn is_redundant(
     place: usize,
     trail: &TrailView<'_>,

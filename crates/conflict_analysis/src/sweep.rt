@@ -12,8 +12,8 @@ use clause_store::Store;
 use psl_base::NoMemory;
 
 /// Explains the places of the current level that wait, the highest first, until a single one does: the first unique
-/// implication point, which is kept. (Marques-Silva and Sakallah, GRASP, 1999; Zhang and others, Efficient conflict
-/// driven learning in a Boolean satisfiability solver, 2001.)
+/// implication point, which is kept. (GRASP, a search algorithm for propositional satisfiability, 1999;
+/// Efficient conflict driven learning in a Boolean satisfiability solver, 2001.)
 pub fn sweep(
     mut waiting: usize,
     trail: &TrailView<'_>,

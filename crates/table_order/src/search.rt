@@ -1,7 +1,8 @@
 // The state of the search for strong components, and its steps.
 //
-// Path-based strong components (Gabow 2000; the older form is Tarjan's of 1972): the open tables stand in the order in
-// which they were met, and a list of places says where the components begin, as far as is known.
+// Path-based strong components (Path-based depth-first search for strong and biconnected components, 2000): the open
+// tables stand in the order in which they were met, and a list of places says where the components begin, as far as
+// is known.
 ghost use Rattle.std.specs.Prelude.{◌≡◌, ◌+◌, ◌-◌, ◌<◌, ◌≤◌, ◌^◌, length, All, IfOk, IfErr, OnOk, slice_get};
 ghost use Rattle.table_order.specs.State.{mark_of, next_of, table_at, unvisited, entered, with_heads, advanced, left, closed, mark_done, lowest, DropsAbove, Reaches};
 
