@@ -1,4 +1,5 @@
-//! A reader of netlists in the Berkeley Logic Interchange Format: the netlist that a text says, or its first fault.
+//! What a text in the Berkeley Logic Interchange Format says: its lines word by word, with their places, and the faults of
+//! single lines. The netlist of a whole text does not come yet.
 #![tactic(auto)]
 
 mod class;
