@@ -4,20 +4,20 @@ use Rattle.std.proofs.lemmas.Bool.{cases_lt, false≢true}
 use Rattle.std.proofs.lemmas.Option.{none-some}
 use Rattle.std.proofs.lemmas.List.{get_or-set_same, get_or-set_other, get_or_past, get_or_append_left, get_or_at, length-set, length-append, length_push, drop_at, take_all, drop-append-le, take-append-le, length-drop}
 use Rattle.std.proofs.lemmas.List.Sums.{sum_by-set, sum_by_push}
-use Rattle.std.specs.FinMap.{insert, remove}
+use Rattle.std.specs.FinMap.{insert}
 use Rattle.word_pool.specs.declared.runs.Run.{Run}
 use Rattle.word_pool.specs.Layout.{run_at, slot_offset, slot_length, offset_of, length_of, list_in, lists_from, run_words, slots_length, live_slots, IsLaidOut, IsVacantList}
 use Rattle.word_pool.specs.Marks.{HasLengthsOf}
 use Rattle.word_pool.proofs.Marking.{for_each_id}
 use Rattle.word_pool.proofs.Slots.{live_slots_same}
-use Rattle.word_pool.proofs.Lists.{same_lists, lists-insert, lists-remove}
+use Rattle.word_pool.proofs.Lists.{same_lists, lists-insert}
 
 -- 1 for a slot with a run
 abbrev pub live_count : Option Run → ℕ
 live_count slot = cond (is_some slot) 1 0
 
 -- a slot that is None stands past the table too
-run_at_push : (slots : List (Option Run)) (id : ℕ) → run_at (slots ++ None ∷ []) id ≡ run_at slots id
+pub run_at_push : (slots : List (Option Run)) (id : ℕ) → run_at (slots ++ None ∷ []) id ≡ run_at slots id
 run_at_push [] zero = refl
 run_at_push [] (suc id) = refl
 run_at_push (slot ∷ slots) zero = refl
@@ -209,10 +209,6 @@ pub put_lists : (words xs : List ℕ) (slots : List (Option Run)) (id : ℕ) (ru
 put_lists words xs slots id run laid lt begins size = lists-insert words (words ++ xs) slots (slice_set slots id (Some run)) id xs
     (ap (list_in (words ++ xs)) (get_or-set_same slots id (Some run) None lt) ∙ ap Some (run_words_last words xs run begins size))
     (λ q ne. ap (list_in (words ++ xs)) (get_or-set_other slots id q (Some run) None ne) ∙ list_in_append words xs (run_at slots q) (laid.within q))
-
-pub give_back_lists : (words : List ℕ) (slots : List (Option Run)) (id : ℕ) → id < length slots → lists_from words 0 (slice_set slots id None) ≡ remove (lists_from words 0 slots) id
-give_back_lists words slots id lt = lists-remove words slots (slice_set slots id None) id
-    (get_or-set_same slots id None None lt) (λ q ne. get_or-set_other slots id q None None ne)
 
 pub push_lists : (words : List ℕ) (slots : List (Option Run)) → lists_from words 0 (slots ++ None ∷ []) ≡ lists_from words 0 slots
 push_lists words slots = same_lists words words slots (slots ++ None ∷ []) (λ q. ap (list_in words) (run_at_push slots q))

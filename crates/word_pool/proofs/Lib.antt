@@ -1,4 +1,6 @@
 pub mod Changes
+pub mod Fitting
+pub mod Freeing
 pub mod Lists
 pub mod Marking
 pub mod Sliding

@@ -125,11 +125,11 @@ pub get_remove_other : (lists : Map) (id q : ℕ) → q ≢ id → get (remove l
 get_remove_other lists id q ne = grind (gets, rules)
 
 -- a slot loses its list
-pub lists-remove : (words : List ℕ) (slots slots' : List (Option Run)) (id : ℕ) → run_at slots' id ≡ None
-    → ((other : ℕ) → other ≢ id → run_at slots' other ≡ run_at slots other)
-    → lists_from words 0 slots' ≡ remove (lists_from words 0 slots) id
-lists-remove words slots slots' id here others =
-    same_map nat_cmp_total nat_cmp-IsAntisymmetric (lists_from words 0 slots') (remove (lists_from words 0 slots) id)
-    (λ q. get_list words slots' q ∙ for_each_id (λ q. list_in words (run_at slots' q) ≡ get (remove (lists_from words 0 slots) id) q) id
-    (ap (list_in words) here ∙ sym (get_remove_same (lists_from words 0 slots) id))
-    (λ q ne. ap (list_in words) (others q ne) ∙ sym (get_list words slots q) ∙ sym (get_remove_other (lists_from words 0 slots) id q ne)) q)
+pub lists-remove : (words words' : List ℕ) (slots slots' : List (Option Run)) (id : ℕ) → run_at slots' id ≡ None
+    → ((other : ℕ) → other ≢ id → list_in words' (run_at slots' other) ≡ list_in words (run_at slots other))
+    → lists_from words' 0 slots' ≡ remove (lists_from words 0 slots) id
+lists-remove words words' slots slots' id here others =
+    same_map nat_cmp_total nat_cmp-IsAntisymmetric (lists_from words' 0 slots') (remove (lists_from words 0 slots) id)
+    (λ q. get_list words' slots' q ∙ for_each_id (λ q. list_in words' (run_at slots' q) ≡ get (remove (lists_from words 0 slots) id) q) id
+    (ap (list_in words') here ∙ sym (get_remove_same (lists_from words 0 slots) id))
+    (λ q ne. others q ne ∙ sym (get_list words slots q) ∙ sym (get_remove_other (lists_from words 0 slots) id q ne)) q)

@@ -3,6 +3,7 @@ use Rattle.std.specs.Prelude.{◌≡◌, ◌-◌, ◌<◌, ◌≤◌, ◌^◌, v
 use Rattle.word_pool.specs.declared.region.Pool.TheInside.{Inside}
 use Rattle.word_pool.specs.declared.region.TheConstants.{MOST_WORDS}
 use Rattle.word_pool.specs.Region.{Region}
+use Rattle.word_pool.specs.Free.{IsFree}
 use Rattle.word_pool.specs.Layout.{lists_from, slots_length, IsLaidOut, IsVacantList}
 
 -- the region that the fields stand for
@@ -18,6 +19,7 @@ region_of a = record {
 pub record IsSound (a : Inside) : Type 0 where
   pub layout : IsLaidOut a.words.items a.slots.items
   pub vacancies : IsVacantList a.slots.items a.vacant.items
+  pub free : IsFree a.words.items a.firsts.items a.slots.items
   pub used_is : a.used ≡ slots_length a.slots.items
   pub used_in_region : a.used ≤ vec_len a.words
   pub region_in_room : vec_len a.words ≤ a.room

@@ -1,3 +1,4 @@
+pub mod Free
 pub mod Inside
 pub mod Layout
 pub mod Marks

@@ -4,6 +4,7 @@
 //! block for each list. A list keeps its id until it is given back, whatever happens to the others.
 #![tactic(auto)]
 
+mod free;
 mod region;
 mod runs;
 #[cfg(test)]

@@ -1,8 +1,9 @@
 // The pool: its table of ids, its room and its public calls.
-ghost use Rattle.std.specs.Prelude.{◌≡◌, ◌≢◌, ℕ, ◌+◌, ◌-◌, ◌<◌, ◌≤◌, ◌^◌, ◌↔◌, length, IsTrue, IfOk, OnOk, OnErr, IfSome, Some, None};
+ghost use Rattle.std.specs.Prelude.{◌≡◌, ◌≢◌, ℕ, ◌+◌, ◌-◌, ◌<◌, ◌≤◌, ◌^◌, ◌↔◌, length, IsTrue, IfOk, OnOk, OnErr, IfSome, IfNone, Some, None};
 ghost use Rattle.std.specs.FinMap.{empty, insert, remove};
 ghost use Rattle.word_pool.specs.Region.{used_words, live_ids, filled_words, list_of, IsLive, IsBounded, KeepsRoom};
 
+use crate::free::{LONGEST_LISTED, NO_RUN, add_lengths, first_run, list_run, use_run};
 use crate::runs::{Run, close_gaps, has_run, live_run};
 use psl_base::NoMemory;
 use std::alloc::Global;
@@ -33,8 +34,8 @@ impl Model for Id {
 ///
 /// Contracts see a map from the live ids to their lists, and three numbers. Words and ids that are
 /// spare can be put with no more memory, and free words are those of the region that no list has.
-/// Words given back are free at once, and spare when the pool is compacted; an id given back is spare
-/// at once.
+/// Words given back are free at once: `put` gives them to a list of just their length, and they are
+/// spare when the pool is compacted. An id given back is spare at once.
 #[derive(Drop)]
 pub struct Pool {
     // The region: the runs of the live ids, and between them words that were given back.
@@ -43,6 +44,8 @@ pub struct Pool {
     slots: Vec<Option<Run>>,
     // The ids of the table that are not live. The last one is handed out next.
     vacant: Vec<u32>,
+    // By length, where the first free run of so many words begins, or `NO_RUN`.
+    firsts: Vec<u32>,
     // The words of all runs together.
     used: usize,
     // How long the region may become with no more memory.
@@ -78,6 +81,7 @@ impl Pool {
             words: Vec::new(alloc),
             slots: Vec::new(alloc),
             vacant: Vec::new(alloc),
+            firsts: Vec::new(alloc),
             used: 0,
             room: 0,
         }
@@ -108,8 +112,53 @@ impl Pool {
         ensures refused { OnErr result (self.new.lists ≡ self.old.lists) }
         ensures refused_room { OnErr result (KeepsRoom self.old self.new) }
     {
-        self.reserve(words.len() as u32, 1)?;
+        self.reserve_ids(1)?;
+        if let Some(id) = self.put_again(words) {
+            return Ok(id);
+        }
+        self.list_length(words.len())?;
+        self.reserve_words(words.len())?;
         Ok(self.put_reserved(words))
+    }
+
+    // Stores a copy of the words in a free run of just their length, if one is listed.
+    fn put_again(&mut self, words: &[u32]) -> Option<Id>
+        requires ids { 1 ≤ self.old.spare_ids }
+
+        ensures new_id { IfSome result (λ id. list_of self.old id ≡ None) }
+        ensures lists { IfSome result (λ id. self.new.lists ≡ insert self.old.lists id words.now) }
+        ensures stored { IfSome result (λ id. list_of self.new id ≡ Some words.now) }
+        ensures others { IfSome result (λ id. (other : ℕ) → other ≢ id → list_of self.new other ≡ list_of self.old other) }
+        ensures used { IfSome result (λ _. used_words self.new ≡ used_words self.old + length words.now) }
+        ensures live { IfSome result (λ _. live_ids self.new ≡ live_ids self.old + 1) }
+        ensures spare_words { self.new.spare_words ≡ self.old.spare_words }
+        ensures spare_ids { IfSome result (λ _. self.new.spare_ids + 1 ≡ self.old.spare_ids) }
+        ensures free_words { IfSome result (λ _. self.new.free_words + length words.now ≡ self.old.free_words) }
+        ensures bounded { IsBounded self.new }
+        ensures none { IfNone result (self.new ≡ self.old) }
+    {
+        let offset = first_run(&self.firsts, words.len())?;
+        let Some(index) = self.vacant.pop() else {
+            unreachable!()
+        };
+        use_run(&mut self.words, &mut self.firsts, offset, words);
+        self.slots[index as usize] = Some(Run {
+            offset,
+            length: words.len() as u32,
+            head: 0,
+        });
+        self.used += words.len();
+        Some(Id { index })
+    }
+
+    // Sees to it that runs of a length are listed once they are free.
+    fn list_length(&mut self, size: usize) -> Result<(), NoMemory>
+        ensures { self.new ≡ self.old }
+    {
+        if size <= LONGEST_LISTED && self.firsts.len() <= size {
+            add_lengths(&mut self.firsts, size)?;
+        }
+        Ok(())
     }
 
     /// The words of a live id.
@@ -139,6 +188,7 @@ impl Pool {
         let run = live_run(&self.slots, id.index);
         self.slots[id.index as usize] = None;
         self.used -= run.length as usize;
+        list_run(&mut self.words, &mut self.firsts, run);
         let Ok(()) = self.vacant.push(id.index) else {
             unreachable!()
         };
@@ -268,7 +318,7 @@ impl Pool {
 
     /// Moves the lists together, so that every free word becomes spare.
     ///
-    /// It takes no memory, and walks once over the table and once over the region.
+    /// It takes no memory, and walks once over the table and once over the region. No free run is listed then.
     pub fn compact(&mut self)
         ensures lists { self.new.lists ≡ self.old.lists }
         ensures spare_ids { self.new.spare_ids ≡ self.old.spare_ids }
@@ -279,6 +329,7 @@ impl Pool {
         if self.used < self.words.len() {
             let end = close_gaps(&mut self.words, &mut self.slots);
             self.words.truncate(end);
+            self.firsts.fill(NO_RUN);
         }
     }
 

@@ -38,6 +38,21 @@ fn lists_survive_compaction(rt: HostRuntime) -> Result<(), Fail> {
     Ok(())
 }
 
+// A list gets the words of one of its length that was given back, and else new ones.
+#[test]
+fn free_runs_are_used_again(rt: HostRuntime) -> Result<(), Fail> {
+    let mut pool = Pool::new(rt.alloc());
+    let first = pool.put(&[1, 2])?;
+    pool.give_back(first);
+    let one = pool.put(&[3])?;
+    assert_eq!(rt; (pool.used_words(), pool.free_words()), (1, 2));
+    let again = pool.put(&[4, 5])?;
+    assert_eq!(rt; (pool.used_words(), pool.free_words()), (3, 0));
+    assert_eq!(rt; pool.get(one), [3].as_slice());
+    assert_eq!(rt; pool.get(again), [4, 5].as_slice());
+    Ok(())
+}
+
 #[test]
 fn reserved_room_is_there(rt: HostRuntime) -> Result<(), Fail> {
     let mut pool = Pool::new(rt.alloc());

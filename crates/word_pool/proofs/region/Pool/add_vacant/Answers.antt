@@ -1,8 +1,9 @@
-use Rattle.std.proofs.Common.{arith, ap, sym, refl, length, ◌≡◌, ◌∙◌}
+use Rattle.std.proofs.Common.{inl, arith, ap, sym, refl, length, ◌≡◌, ◌∙◌}
 use Rattle.word_pool.specs.Region.{Region, live_ids}
 use Rattle.word_pool.specs.Inside.{region_of}
 use Rattle.word_pool.specs.Layout.{lists_from}
-use Rattle.word_pool.proofs.Changes.{laid_out_push, vacant_push, push_lists, slots_length_push}
+use Rattle.word_pool.proofs.Changes.{run_at_push, laid_out_push, vacant_push, push_lists, slots_length_push}
+use Rattle.word_pool.proofs.Freeing.{free_part}
 use Rattle.word_pool.proofs.Sound.{bounded, bounded_same, live_and_vacant}
 use Rattle.word_pool.proofs.region.Pool.add_vacant.Goals as goal
 
@@ -18,6 +19,7 @@ invariant_of-self-2 c =
     record {
       layout = rw c.in_ok-push.ensures.items (laid_out_push c.self.inside.words.items c.self.inside.slots.items c.self.invariant.layout);
       vacancies = rw (c.in_ok-push.ensures.items, c.in-Ok.ensures.items, c.in_ok-reserve.ensures.items, id_is) (vacant_push c.self.inside.slots.items c.self.inside.vacant.items c.self.invariant.vacancies);
+      free = rw c.in_ok-push.ensures.items (free_part _ (λ q. inl (run_at_push c.self.inside.slots.items q)) c.self.invariant.free);
       used_is = rw c.in_ok-push.ensures.items (c.self.invariant.used_is ∙ sym (slots_length_push c.self.inside.slots.items));
       used_in_region = c.self.invariant.used_in_region;
       region_in_room = c.self.invariant.region_in_room;

@@ -1,5 +1,6 @@
-use Rattle.std.proofs.Common.{arith, ap, sym, subst, length, take, ◌≡◌, ◌∙◌}
-use Rattle.std.proofs.lemmas.List.{with_items_is}
+use Rattle.std.proofs.Common.{arith, ap, sym, subst, slice_index, length, take, ◌≡◌, ◌∙◌}
+use Rattle.std.proofs.lemmas.List.{with_items_is, get_or-replicate}
+use Rattle.word_pool.specs.declared.free.TheConstants.{NO_RUN}
 use Rattle.word_pool.specs.Region.{Region, IsBounded}
 use Rattle.std.specs.Vec.{with_items}
 use Rattle.word_pool.specs.Marks.{HasLengthsOf}
@@ -7,6 +8,7 @@ use Rattle.word_pool.specs.Layout.{list_in, run_at, slots_length}
 use Rattle.word_pool.proofs.Sound.{bounded}
 use Rattle.word_pool.proofs.Lists.{same_lists}
 use Rattle.word_pool.proofs.Changes.{vacant_same}
+use Rattle.word_pool.proofs.Freeing.{free_none}
 use Rattle.word_pool.proofs.Slots.{slots_length_same}
 use Rattle.word_pool.proofs.region.Pool.compact.Goals as goal
 
@@ -22,6 +24,8 @@ invariant_of-self c =
     let end : c.close_gaps-end.result ≡ slots_length c.self.inside.slots.items = h.end ∙ ap slots_length c.deref_mut-then-self-len.ensures.value in
     record {
       layout = rw (words_are, slots_are) h.laid_out;
+      free = free_none _ c.fill.new.self.items _ (λ size lt. ap (λ items. slice_index items size) (c.fill.ensures.items (λ y e. e))
+          ∙ get_or-replicate c.self.inside.firsts.len size NO_RUN 0 (omega (arith, c.fill.ensures.len, c.fill.new.self.ok.0)));
       vacancies = rw slots_are (vacant_same c.self.inside.vacant.items lengths c.self.invariant.vacancies);
       used_is = rw slots_are (c.self.invariant.used_is ∙ sym (slots_length_same lengths));
       used_in_region = omega (arith, c.self.invariant.used_is, end, h.within, c.truncate.ensures.len, c.deref_mut.ensures.len, words_fit);

@@ -1,8 +1,11 @@
-use Rattle.std.proofs.Common.{arith, ap, length, ◌+◌, ◌≤◌, ◌∙◌, None}
+use Rattle.std.proofs.Common.{arith, ap, sym, length, ◌+◌, ◌≤◌, ◌∙◌, None}
 use Rattle.std.specs.FinMap.{get, remove}
 use Rattle.word_pool.specs.Region.{used_words, live_ids, Region}
 use Rattle.word_pool.specs.Layout.{slot_offset, slot_length, lists_from}
-use Rattle.word_pool.proofs.Changes.{live_count, laid_out-remove, vacant-remove, give_back_lists, live_slots-set, slots_length-set}
+use Rattle.word_pool.specs.Free.{ListsRun}
+use Rattle.std.proofs.lemmas.List.{with_items_is}
+use Rattle.word_pool.proofs.Changes.{live_count, laid_out-remove, vacant-remove, live_slots-set, slots_length-set}
+use Rattle.word_pool.proofs.Freeing.{give_back_lists, free_give, listed_size, laid_out_longer}
 use Rattle.word_pool.proofs.Slots.{length-run_words}
 use Rattle.word_pool.proofs.Lists.{get_remove_same, get_remove_other}
 use Rattle.word_pool.proofs.Sound.{bounded, has_run_of_live, list_of_run, live_and_vacant, used_is}
@@ -36,9 +39,15 @@ pub invariant_of-self : goal.invariant_of-self
 invariant_of-self c =
     let run_is = rw c.deref.ensures.value at c.live_run-run.ensures.run in
     let in_table = rw c.deref.ensures.value at c.live_run-run.ensures.in_table in
+    let listed : ListsRun c.self.inside.words.items c.self.inside.firsts.items c.live_run-run.result c.list_run.new.words c.list_run.new.firsts =
+    rw (c.deref_mut.ensures.value, c.deref_mut-2.ensures.value) at c.list_run.ensures in
+    let size = listed_size c.live_run-run.result listed in
+    let words_are = with_items_is c.self.inside.words c.list_run.new.words (size.0 ∙ sym c.self.inside.words.ok.0) in
+    let firsts_are = with_items_is c.self.inside.firsts c.list_run.new.firsts (size.1 ∙ sym c.self.inside.firsts.ok.0) in
     record {
-      layout = laid_out-remove c.self.inside.words.items c.self.inside.slots.items c.id.inside.index c.self.invariant.layout in_table;
+      layout = rw words_are (laid_out_longer _ _ (laid_out-remove c.self.inside.words.items c.self.inside.slots.items c.id.inside.index c.self.invariant.layout in_table) size.0);
       vacancies = rw c.in-Ok.ensures.items (vacant-remove c.self.inside.slots.items c.self.inside.vacant.items c.id.inside.index c.live_run-run.result c.self.invariant.vacancies in_table run_is);
+      free = rw (words_are, firsts_are) (free_give c.id.inside.index c.live_run-run.result c.self.invariant.layout in_table run_is listed c.self.invariant.free);
       used_is = omega (arith, c.self.invariant.used_is, ap slot_length run_is, slots_length-set c.self.inside.slots.items c.id.inside.index None in_table);
       used_in_region = omega (arith, c.self.invariant.used_in_region);
       region_in_room = c.self.invariant.region_in_room;
@@ -50,8 +59,13 @@ invariant_of-self c =
 
 pub returns-clause-lists : goal.returns-clause-lists
 returns-clause-lists c =
+    let run_is = rw c.deref.ensures.value at c.live_run-run.ensures.run in
     let in_table = rw c.deref.ensures.value at c.live_run-run.ensures.in_table in
-    give_back_lists c.self.inside.words.items c.self.inside.slots.items c.id.inside.index in_table
+    let listed : ListsRun c.self.inside.words.items c.self.inside.firsts.items c.live_run-run.result c.list_run.new.words c.list_run.new.firsts =
+    rw (c.deref_mut.ensures.value, c.deref_mut-2.ensures.value) at c.list_run.ensures in
+    let size = listed_size c.live_run-run.result listed in
+    let words_are = with_items_is c.self.inside.words c.list_run.new.words (size.0 ∙ sym c.self.inside.words.ok.0) in
+    rw words_are (give_back_lists c.id.inside.index c.live_run-run.result c.self.invariant.layout in_table run_is listed)
     ∙ ap (λ i. remove (lists_from c.self.inside.words.items 0 c.self.inside.slots.items) i) c.id.view_is
     ∙ ap (λ (r : Region). remove r.lists c.args.id) c.self.view_is
 

@@ -6,6 +6,7 @@ use Rattle.word_pool.proofs.region.Pool.grow.Goals as goal
 pub invariant_of-self-2 : goal.invariant_of-self-2
 invariant_of-self-2 c = record {
   layout = rw c.in_ok-reserve.ensures.items c.self.invariant.layout;
+  free = rw c.in_ok-reserve.ensures.items c.self.invariant.free;
   vacancies = c.self.invariant.vacancies;
   used_is = c.self.invariant.used_is;
   used_in_region = omega (arith, c.self.invariant.used_in_region, c.in_ok-reserve.ensures.len);

@@ -4,6 +4,7 @@ use Rattle.word_pool.specs.Region.{Region, used_words, live_ids}
 use Rattle.word_pool.specs.Layout.{list_in, slot_length}
 use Rattle.word_pool.proofs.Lists.{get_list, get_insert_same, get_insert_other}
 use Rattle.word_pool.proofs.Changes.{laid_out-insert, slots_length-set, vacant_last, vacant_pop, put_lists}
+use Rattle.word_pool.proofs.Freeing.{free_append}
 use Rattle.word_pool.proofs.Sound.{bounded, used_is, live_and_vacant}
 use Rattle.word_pool.proofs.region.Pool.put_reserved.Goals as goal
 
@@ -13,6 +14,7 @@ invariant_of-self c =
     record {
       layout = rw c.in-Ok.ensures.items (laid_out-insert c.self.inside.words.items c.args.words.now c.self.inside.slots.items c.in-Some.index _ c.self.invariant.layout known.0 (omega (arith, c.self.inside.words.ok.0)) refl);
       vacancies = vacant_pop c.self.inside.slots.items c.self.inside.vacant.items c.pop.new.self.items c.in-Some.index _ c.self.invariant.vacancies c.in-Some.ensures.items;
+      free = rw c.in-Ok.ensures.items (free_append c.args.words.now c.in-Some.index _ known.0 (omega (arith, c.self.inside.words.ok.0)) c.self.invariant.free);
       used_is = omega (arith, c.self.invariant.used_is, ap slot_length known.1, slots_length-set c.self.inside.slots.items c.in-Some.index (Some record { offset = c.len-offset.result; length = length c.args.words.now; head = 0 }) known.0);
       used_in_region = omega (arith, c.in-Ok.ensures.len, c.self.invariant.used_in_region);
       region_in_room = omega (arith, c.in-Ok.ensures.len, c.requires.words, ap (λ (r : Region). r.spare_words) c.self.view_is);
