@@ -46,7 +46,11 @@ pub reasons-pushed : (clauses : Numbered ℕ) (path : Path) (literal number : �
     → HasReasons clauses path → HasReasons clauses (pushed path literal number)
 reasons-pushed clauses path literal number same is reasons place within =
     elim (cases_lt place (length path.literals)) [
-      | inl before ↦ elim (reasons place before) [ inl limit ↦ inl limit | inr has ↦ inr (grown clauses path literal number place same before has) ]
+      | inl before ↦ 
+          elim (reasons place before) [
+            | inl limit ↦ inl (limit.0, get_or_append_left path.reasons (number ∷ []) 0 place (omega arith) ∙ limit.1)
+            | inr has ↦ inr (grown clauses path literal number place same before has)
+          ]
       | inr last ↦
           let at : place ≡ length path.literals = omega (arith, length_push path.literals literal) in
           inr (rw at (forced clauses path literal number same is))
@@ -57,12 +61,16 @@ reasons-decided clauses path literal same reasons place within =
     elim (cases_lt place (length path.literals)) [
       | inl before ↦
           elim (reasons place before) [
-            | inl limit ↦ inl (Contains-append_left path.limits (length path.literals ∷ []) place limit)
+            | inl limit ↦
+                inl (
+                  Contains-append_left path.limits (length path.literals ∷ []) place limit.0,
+                  get_or_append_left path.reasons (0 ∷ []) 0 place (omega arith) ∙ limit.1,
+                )
             | inr has ↦ inr (reason-same clauses (pushed path literal 0) (decided path literal) place refl refl refl (grown clauses path literal 0 place same before has))
           ]
       | inr last ↦
           let at : place ≡ length path.literals = omega (arith, length_push path.literals literal) in
-          inl (rw at (Contains-push path.limits (length path.literals)))
+          inl (rw at (Contains-push path.limits (length path.literals)), rw at (get_or_push path.reasons 0 0 (length path.literals) same))
     ]
 
 -- a place below the begin of a level, where another begins, is of a lower level
@@ -85,7 +93,7 @@ reasons-undone clauses path level is inside reasons place within =
     let begun = is.begun level inside in
     let below : place < start = omega (arith, length-take start path.literals) in
     elim (reasons place (omega arith)) [
-      | inl limit ↦ inl (limit_below path level place is inside below limit)
+      | inl limit ↦ inl (limit_below path level place is inside below limit.0, get_or-take start path.reasons place 0 below ∙ limit.1)
       | inr has ↦
           inr (
           reason-same clauses path (undone path level) place

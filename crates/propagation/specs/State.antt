@@ -20,9 +20,13 @@ pub record HasReason (clauses : Numbered ℕ) (path : Path) (place : ℕ) : Type
   pub stands : Contains clause (slice_index path.literals place)
   pub others : All (λ other. (other ≡ slice_index path.literals place) ⊎ Contains (take place path.literals) (opposite other)) clause
 
+-- a level begins at a place, and no clause is the reason there
+abbrev pub IsDecision : Path → ℕ → Type 0
+IsDecision path place = Contains path.limits place × (slice_index path.reasons place ≡ 0)
+
 -- each literal of the trail has a reason, or a level begins with it
 abbrev pub HasReasons : Numbered ℕ → Path → Type 0
-HasReasons clauses path = (place : ℕ) → place < length path.literals → Contains path.limits place ⊎ HasReason clauses path place
+HasReasons clauses path = (place : ℕ) → place < length path.literals → IsDecision path place ⊎ HasReason clauses path place
 
 -- a live clause of which each literal is false
 pub record IsConflict (clauses : Numbered ℕ) (path : Path) (number : ℕ) : Type 0 where
