@@ -250,6 +250,8 @@ impl Propagator {
         ensures was_true { OnOk result (Contains self.old.path.literals literal → self.new.path ≡ self.old.path) }
         ensures asserted { OnOk result ((Contains self.old.path.literals literal → ⊥)
             → self.new.path ≡ pushed self.old.path literal (length self.old.clauses + 1)) }
+        ensures variables { self.new.path.variables ≡ self.old.path.variables }
+        ensures limits { self.new.path.limits ≡ self.old.path.limits }
         ensures head { self.new.head ≡ self.old.head }
         ensures err_clauses { OnErr result (KeepsClauses self.old.clauses self.new.clauses) }
         ensures err { OnErr result (self.new.path ≡ self.old.path) }

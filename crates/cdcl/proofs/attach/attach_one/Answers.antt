@@ -1,0 +1,10 @@
+use Rattle.std.proofs.Common.{◌≡◌, [], ap, ◌∙◌}
+use Rattle.std.proofs.lemmas.Result.{on_ok_weaker}
+use Rattle.propagation.specs.State.{State}
+use Rattle.cdcl.proofs.Returning.{first_not_false}
+use Rattle.cdcl.proofs.attach.attach_one.Goals as goal
+
+pub attach_unit-requires-clause-not_false : goal.attach_unit-requires-clause-not_false
+attach_unit-requires-clause-not_false c =
+    let can = c.requires.can in
+    rw c.undo_to.ensures (first_not_false c.args.propagator.now c.args.lemma.now c.args.first [] 0 can.settled can c.requires.is can.levels)

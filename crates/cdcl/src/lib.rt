@@ -1,0 +1,18 @@
+//! A solver of formulas: it learns lemmas from conflicts, and logs each of them with the clauses that it follows from.
+#![tactic(auto)]
+
+mod answer;
+mod attach;
+mod choose;
+mod learn;
+mod load;
+mod refute;
+mod run;
+mod solver;
+#[cfg(test)]
+mod tests;
+mod values;
+
+pub use answer::{Answer, FULL_LOG_WORDS};
+pub use psl_base::NoMemory;
+pub use run::solve;

@@ -1,0 +1,21 @@
+// The values of variables.
+ghost use Rattle.std.specs.Prelude.{◌≡◌, ◌*◌, ◌≤◌, IfOk};
+ghost use Rattle.clauses.specs.declared.flat.TheConstants.{MOST_VARIABLES};
+ghost use Rattle.cdcl.specs.Turns.{AreValues};
+
+use psl_base::{Bits, Items, NoMemory};
+use std::alloc::Global;
+use trail::Trail;
+
+/// The value of each variable: whether its literal is true.
+pub(crate) fn values(alloc: Global, trail: &Trail, variables: u32) -> Result<Bits, NoMemory>
+    requires all { variables ≡ trail.now.variables }
+    requires few { variables ≤ MOST_VARIABLES }
+    ensures { IfOk result (AreValues trail.now) }
+{
+    let mut values = Vec::with_capacity(alloc, variables as usize)?;
+    for variable in 0..variables {
+        values.push(trail.is_true(2 * variable))?;
+    }
+    Ok(Items::from_vec(values))
+}
