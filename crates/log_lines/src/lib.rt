@@ -1,4 +1,4 @@
-//! Clause logs as lines of text.
+//! Clause logs as lines of text, and the numbers and literals of such lines.
 #![tactic(auto)]
 
 mod fault;
@@ -12,5 +12,6 @@ mod words;
 
 pub use fault::{LogFault, MOST_READ_WORDS};
 pub use laws::one_log_law;
+pub use numbers::{literal, number};
 pub use printing::{print_log, print_log2};
 pub use reading::{read_log, read_log2};

@@ -1,11 +1,23 @@
 // Numbers in decimal digits, as they stand in the lines of a log.
-ghost use Rattle.std.specs.Prelude.{◌≡◌, ℕ, ℤ, true, decimal, ◌∷◌, slice_index, IfSome, IfNone};
+ghost use Rattle.std.specs.Prelude.{◌≡◌, ◌≤◌, ℕ, ℤ, true, decimal, ◌∷◌, slice_index, IfSome, IfNone};
 ghost use Rattle.std.specs.Fmt.{signed_decimal};
 ghost use Rattle.clauses.specs.Literals.{is_literal};
+ghost use Rattle.clauses.specs.declared.flat.TheConstants.{MOST_VARIABLES};
 ghost use Rattle.clauses.specs.Logs.{is_number};
 
 use clauses::MOST_VARIABLES;
 use psl_base::plain_decimal;
+
+/// The number that a text says in decimal digits without leading zeros, where it is at most `MOST_VARIABLES`.
+pub fn number(text: &[u8]) -> Option<u32>
+    ensures some { IfSome result (λ number. (number ≤ MOST_VARIABLES) × (text.now ≡ decimal number)) }
+    ensures none { IfNone result ((number : ℕ) → number ≤ MOST_VARIABLES → text.now ≡ decimal number → ⊥) }
+{
+    match plain_decimal(u64::from(MOST_VARIABLES), text) {
+        Some(number) => Some(number as u32),
+        None => None,
+    }
+}
 
 /// The number of a clause that a text says, in decimal digits without leading zeros.
 pub(crate) fn clause_number(text: &[u8]) -> Option<u32>
@@ -20,8 +32,9 @@ pub(crate) fn clause_number(text: &[u8]) -> Option<u32>
     }
 }
 
-/// The literal that a text says, which is negated where a `-` stands before its digits.
-pub(crate) fn literal(text: &[u8]) -> Option<i32>
+/// The literal that a text says: the number of its variable in decimal digits without leading zeros, with a `-` before
+/// them where it is negated.
+pub fn literal(text: &[u8]) -> Option<i32>
     ensures some { IfSome result (λ value. (is_literal value ≡ true) × (text.now ≡ signed_decimal value)) }
     ensures none { IfNone result ((value : ℤ) → is_literal value ≡ true
         → text.now ≡ signed_decimal value → ⊥) }
