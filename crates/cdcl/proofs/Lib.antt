@@ -6,3 +6,4 @@ pub mod Stepping
 pub mod Loading
 pub mod Modelling
 pub mod Refuting
+pub mod Reducing

@@ -37,12 +37,13 @@ loading_none cnf = record { clauses_are = refl; numbers = refl; words = refl; va
 words_more : (formula : List (List ℤ)) (place : ℕ) → place < length formula → clause_words (take place formula) + (length (get_or formula place []) + 1) ≤ clause_words formula
 words_more formula place within = sum_by_more_le (λ (c : List ℤ). length c + 1) formula place [] within
 
+-- each clause has a word
+pub size_few : (formula : List (List ℤ)) → length formula ≤ clause_words formula
+size_few [] = omega arith
+size_few (clause ∷ formula) = omega (arith, size_few formula, sum_by-cons (λ (c : List ℤ). length c + 1) clause formula)
+
 pub place_few : (formula : List (List ℤ)) (place : ℕ) → place < length formula → place < clause_words formula
-place_few formula place within = omega (arith, size formula, within)
-  where
-    size : (formula : List (List ℤ)) → length formula ≤ clause_words formula
-    size [] = omega arith
-    size (clause ∷ formula) = omega (arith, size formula, sum_by-cons (λ (c : List ℤ). length c + 1) clause formula)
+place_few formula place within = omega (arith, size_few formula, within)
 
 pub can_add : (cnf : Cnf) (place : ℕ) (state : State) (clause : List ℕ) (original : List ℤ) → clause_words cnf.clauses ≤ 400000000 → place < length cnf.clauses → slice_get cnf.clauses place ≡ Some original
     → map signed clause ≡ original → All (λ literal. literal < 2 * cnf.variables) clause → IsLoading cnf place state → CanAdd state clause

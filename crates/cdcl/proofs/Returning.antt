@@ -6,7 +6,7 @@ use Rattle.std.proofs.lemmas.List.{get_or-take, length-take, take-take, length-m
 use Rattle.std.proofs.lemmas.List.Elements.{All-cons, All-weaker, All-head}
 use Rattle.trail.specs.Literals.{opposite, variable}
 use Rattle.trail.specs.Path.{Path, IsPath, start_of, undone, literals_to}
-use Rattle.propagation.specs.State.{State, IsSettled, CanLearn}
+use Rattle.propagation.specs.State.{State, IsSettled, CanLearn, CanWatch}
 use Rattle.conflict_theory.specs.Trails.{IsTrail, size_of, literal_at}
 use Rattle.conflict_theory.specs.Closing.{negation_at}
 use Rattle.conflict_theory.specs.Lemmas.{IsAsserting, IsUnit}
@@ -134,3 +134,50 @@ can_learn state lemma first second rest level is can same of =
           not_false_before state.clauses steps of.place (start_of path below) trail (omega (arith, of.within)) (of.lower below under)
           (subst (λ (l : ℕ). Contains (literals_to path below) (opposite l)) of.at held);
     }
+
+-- the two can be watched at the lowest level
+pub two_differ : (state : State) (lemma : List ℕ) (first second : ℕ) (rest : List ℕ) → IsSettled state → CanAttach state lemma → lemma ≡ first ∷ (second ∷ rest) → first ≢ second
+two_differ state lemma first second rest is can same equal =
+    let path = state.path in
+    let steps = steps_at path in
+    let asserting = can.asserting in
+    let trail = trail_of state is in
+    let lower = lower_second state lemma first second rest can same in
+    let at = first_is path lemma first (second ∷ rest) asserting same in
+    let one = one_place state.clauses steps asserting.first lower.place trail asserting.within (omega (arith, lower.below, trail.within))
+    (opposite-injective (get_or path.literals asserting.first 0) (get_or path.literals lower.place 0) (sym at ∙ equal ∙ lower.at)) in
+    omega (arith, asserting.current, lower.below)
+
+second_not_false : (state : State) (lemma : List ℕ) (first second : ℕ) (rest : List ℕ) → IsSettled state → CanAttach state lemma → lemma ≡ first ∷ (second ∷ rest)
+    → Contains (literals_to state.path 0) (opposite second) → ⊥
+second_not_false state lemma first second rest is can same there =
+    let path = state.path in
+    let steps = steps_at path in
+    let trail = trail_of state is in
+    let found = second_is path lemma first second rest can.asserting same in
+    let lower : All (λ place. place < steps.start) (found.0 ∷ found.1) = rw found.2 at can.asserting.lower in
+    let later : All (λ place. steps.fixed ≤ place) (found.0 ∷ found.1) = rw found.2 at can.asserting.not_fixed in
+    let below = All-head (λ place. place < steps.start) found.0 found.1 lower in
+    let above = All-head (λ place. steps.fixed ≤ place) found.0 found.1 later in
+    not_false_before state.clauses steps found.0 (start_of path 0) trail (omega (arith, below, trail.within))
+    (omega (arith, above, begin_inside path 0 can.levels))
+    (subst (λ (l : ℕ). Contains (literals_to path 0) (opposite l)) found.3 there)
+
+-- what is not false at the lowest level can be watched there
+watch_lowest : (state : State) (literal : ℕ) → IsSettled state → 0 < length state.path.limits → (Contains (literals_to state.path 0) (opposite literal) → ⊥)
+    → CanWatch (record state { path = undone state.path 0; head = start_of state.path 0 }) literal
+watch_lowest state literal is levels not_false = record {
+  ahead = λ there.
+      let start = start_of state.path 0 in
+      not_false (subst (λ (ls : List ℕ). Contains ls (opposite literal)) (take-take start start state.path.literals (omega arith)) there);
+  levels = λ level inside there. absurd (omega arith);
+}
+
+pub watch_first : (state : State) (lemma : List ℕ) (first second : ℕ) (rest : List ℕ) → IsSettled state → CanAttach state lemma → lemma ≡ first ∷ (second ∷ rest)
+    → CanWatch (record state { path = undone state.path 0; head = start_of state.path 0 }) first
+watch_first state lemma first second rest is can same =
+    watch_lowest state first is can.levels (first_not_false state lemma first (second ∷ rest) 0 is can same can.levels)
+
+pub watch_second : (state : State) (lemma : List ℕ) (first second : ℕ) (rest : List ℕ) → IsSettled state → CanAttach state lemma → lemma ≡ first ∷ (second ∷ rest)
+    → CanWatch (record state { path = undone state.path 0; head = start_of state.path 0 }) second
+watch_second state lemma first second rest is can same = watch_lowest state second is can.levels (second_not_false state lemma first second rest is can same)

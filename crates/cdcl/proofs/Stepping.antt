@@ -27,6 +27,7 @@ use Rattle.cdcl.specs.Solving.{signed_clauses, IsLogged, IsReady, KeepsLog}
 use Rattle.cdcl.specs.Stepping.{IsEnding}
 use Rattle.cdcl.specs.Turns.{steps_at, CanAttach}
 use Rattle.cdcl.proofs.Members.{few_members, few_below, all_literals, length_all, stands_in, number_within}
+use Rattle.cdcl.proofs.Loading.{size_few}
 use Rattle.cdcl.proofs.Logging.{AreWithin, good_lemma, lemma_within, none_empty, passes_signed, within_signed}
 
 abbrev as_number : Bool → ℕ
@@ -210,11 +211,7 @@ refutes_end variables formula clauses log literals hints logged refuted =
       last = All-nil (λ entry. is_lemma entry ≡ false);
     }
 
--- each clause has a word, and each lemma two
-formula_size : (formula : List (List ℤ)) → length formula ≤ clause_words formula
-formula_size [] = omega arith
-formula_size (clause ∷ formula) = omega (arith, formula_size formula, sum_by-cons (λ (c : List ℤ). length c + 1) clause formula)
-
+-- each lemma has two words
 entry_two : (entry : LogEntry) → 2 * as_number (is_lemma entry) ≤ entry_words entry
 entry_two (Lemma literals hints) = omega arith
 entry_two (Forget number) = omega arith
@@ -228,7 +225,7 @@ pub end_fits : (variables : ℕ) (formula : List (List ℤ)) (clauses : Numbered
     → clause_words formula ≤ 400000000 → log_words log ≤ 100000000 → clause_words formula + log_words (log ++ Lemma [] hints ∷ []) ≤ 1000000000
 end_fits variables formula clauses log literals hints logged refuted small few =
     let live = hints_live clauses literals hints refuted.passes in
-    omega (arith, logged.numbers, words_push log (Lemma [] hints), hints_few clauses hints live refuted.hints_once, formula_size formula, two_words log)
+    omega (arith, logged.numbers, words_push log (Lemma [] hints), hints_few clauses hints live refuted.hints_once, size_few formula, two_words log)
 
 -- a lemma can be added to the clauses
 pub attach_fits : (variables : ℕ) (formula : List (List ℤ)) (state : State) (log : List LogEntry) (literals hints : List ℕ) → IsLogged variables formula state.clauses log

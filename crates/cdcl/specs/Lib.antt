@@ -6,3 +6,4 @@ pub mod Turns
 pub mod Solving
 pub mod Loading
 pub mod Stepping
+pub mod Reducing

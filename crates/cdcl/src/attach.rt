@@ -1,38 +1,54 @@
 // Going back to a lower level with a lemma.
 ghost use Rattle.std.specs.Prelude.{◌≡◌, ◌++◌, ◌∷◌, [], ◌<◌, List, ℕ, length, Some, OnOk};
+ghost use Rattle.trail.specs.Path.{undone, start_of};
 ghost use Rattle.cdcl.specs.Turns.{CanAttach, IsLower, IsLevelOf};
 
+use crate::decide::Decider;
 use conflict_analysis::level_of;
 use propagation::Propagator;
 use psl_base::NoMemory;
 
 /// Goes back to the level where a lemma asserts its first literal, adds the lemma, and makes that literal true.
-pub(crate) fn attach_lemma(propagator: &mut Propagator, lemma: &[u32]) -> Result<(), NoMemory>
+pub(crate) fn attach_lemma(
+    propagator: &mut Propagator,
+    decider: &mut Decider,
+    lemma: &[u32],
+    restarts: bool,
+) -> Result<(), NoMemory>
     requires { CanAttach propagator.old lemma.now }
     ensures clauses { OnOk result (propagator.new.clauses ≡ propagator.old.clauses ++ Some lemma.now ∷ []) }
     ensures variables { OnOk result (propagator.new.path.variables ≡ propagator.old.path.variables) }
 {
     match lemma {
         [] => unreachable!(),
-        [first] => attach_one(propagator, lemma, *first),
-        [first, second, ..] => attach_two(propagator, lemma, *first, *second),
+        [first] => attach_one(propagator, decider, lemma, *first),
+        [first, second, ..] if restarts => restart_with(
+            propagator, decider, lemma, *first, *second,
+        ),
+        [first, second, ..] => attach_two(propagator, decider, lemma, *first, *second),
     }
 }
 
 /// Adds a lemma of one literal, at the lowest level.
-fn attach_one(propagator: &mut Propagator, lemma: &[u32], first: u32) -> Result<(), NoMemory>
+fn attach_one(
+    propagator: &mut Propagator,
+    decider: &mut Decider,
+    lemma: &[u32],
+    first: u32,
+) -> Result<(), NoMemory>
     requires can { CanAttach propagator.old lemma.now }
     requires is { lemma.now ≡ first ∷ [] }
     ensures clauses { OnOk result (propagator.new.clauses ≡ propagator.old.clauses ++ Some lemma.now ∷ []) }
     ensures variables { OnOk result (propagator.new.path.variables ≡ propagator.old.path.variables) }
 {
-    propagator.undo_to(0);
+    go_back(propagator, decider, 0);
     propagator.attach_unit(lemma, first)
 }
 
 /// Adds a lemma of several literals, at the level of the second.
 fn attach_two(
     propagator: &mut Propagator,
+    decider: &mut Decider,
     lemma: &[u32],
     first: u32,
     second: u32,
@@ -43,7 +59,7 @@ fn attach_two(
     ensures variables { OnOk result (propagator.new.path.variables ≡ propagator.old.path.variables) }
 {
     let level = level_below(propagator, second);
-    propagator.undo_to(level);
+    go_back(propagator, decider, level);
     propagator.learn(lemma, first, second)
 }
 
@@ -55,4 +71,35 @@ fn level_below(propagator: &Propagator, literal: u32) -> usize
     let trail = propagator.trail();
     let place = trail.places()[(literal / 2) as usize];
     level_of(place, trail.limits())
+}
+
+/// Adds a lemma of several literals at the lowest level, where none of them is false, and asserts nothing.
+fn restart_with(
+    propagator: &mut Propagator,
+    decider: &mut Decider,
+    lemma: &[u32],
+    first: u32,
+    second: u32,
+) -> Result<(), NoMemory>
+    requires can { CanAttach propagator.old lemma.now }
+    requires is { (rest : List ℕ) × (lemma.now ≡ first ∷ (second ∷ rest)) }
+    ensures clauses { OnOk result (propagator.new.clauses ≡ propagator.old.clauses ++ Some lemma.now ∷ []) }
+    ensures variables { OnOk result (propagator.new.path.variables ≡ propagator.old.path.variables) }
+{
+    go_back(propagator, decider, 0);
+    propagator.attach(lemma, first, second)
+}
+
+/// Takes back all above a level.
+fn go_back(propagator: &mut Propagator, decider: &mut Decider, level: usize)
+    requires { level < length propagator.old.path.limits }
+    ensures { propagator.new ≡ record propagator.old {
+      path = undone propagator.old.path level;
+      head = start_of propagator.old.path level;
+    } }
+{
+    let trail = propagator.trail();
+    let start = trail.limits()[level] as usize;
+    decider.release(&trail.literals()[start..]);
+    propagator.undo_to(level);
 }

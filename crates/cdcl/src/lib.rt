@@ -4,13 +4,20 @@
 mod answer;
 mod attach;
 mod choose;
+mod decide;
+mod drop;
+mod heuristics;
 mod learn;
 mod load;
+mod order;
 mod refute;
+mod restart;
 mod run;
 mod solver;
+mod spread;
 #[cfg(test)]
 mod tests;
+mod usage;
 mod values;
 
 pub use answer::{Answer, FULL_LOG_WORDS};

@@ -50,6 +50,7 @@ fn search(alloc: Global, mut solver: Solver<'_>, steps: u64) -> Result<Answer, N
         if solver.log.words() > FULL_LOG_WORDS {
             return Ok(Answer::LogFull(solver.into_log()));
         }
+        solver.reduce(alloc)?;
     }
     Ok(Answer::Spent(solver.into_log()))
 }

@@ -1,18 +1,23 @@
 // The solver, step by step.
-ghost use Rattle.std.specs.Prelude.{◌≡◌, ◌≤◌, ℕ, length, [], OnOk, IfOk, IfSome, IfNone};
+ghost use Rattle.std.specs.Prelude.{◌≡◌, ◌+◌, ◌*◌, ◌≤◌, ℕ, length, [], OnOk, IfOk, IfSome, IfNone};
+ghost use Rattle.std.specs.Bool.{OnTrue};
+ghost use Rattle.clauses.specs.declared.flat.TheConstants.{MOST_WORDS};
+ghost use Rattle.clauses.specs.declared.log.TheConstants.{MOST_LOG_WORDS};
 ghost use Rattle.clauses.specs.Logs.{log_words, lemmas};
 ghost use Rattle.cdcl.specs.declared.answer.TheConstants.{FULL_LOG_WORDS};
 ghost use Rattle.propagation.specs.State.{IsConflict};
 ghost use Rattle.cdcl.specs.Turns.{IsFree, IsComplete, IsSolved};
 ghost use Rattle.cdcl.specs.Stepping.{IsStep};
+ghost use Rattle.cdcl.specs.Reducing.{CanDrop, IsReduced};
 ghost use Rattle.cdcl.specs.Answers.{IsModelOf};
 ghost use Rattle.cdcl.specs.Solving.{IsReady, IsLogged, KeepsLog};
 
 use crate::attach::attach_lemma;
-use crate::choose::free_variable;
+use crate::drop::is_reason;
+use crate::heuristics::Heuristics;
 use crate::learn::{analyze, log_lemma};
 use crate::values::values;
-use clauses::{Cnf, Log};
+use clauses::{Cnf, Entry, Log};
 use conflict_analysis::{Analyzer, Lemma};
 use propagation::Propagator;
 use psl_base::{Bits, NoMemory};
@@ -28,6 +33,7 @@ pub(crate) struct Solver<'a> {
     // The lemma that is learned, and its literals as the log has them.
     lemma: Lemma,
     signed: Vec<i32>,
+    heuristics: Heuristics,
 }
 
 impl<'a> Solver<'a> {
@@ -52,20 +58,8 @@ impl<'a> Solver<'a> {
                 hints: Vec::new(alloc),
             },
             signed: Vec::new(alloc),
+            heuristics: Heuristics::new(alloc, formula.variables)?,
         })
-    }
-
-    /// A literal that is to be decided.
-    fn next_decision(&self) -> Option<u32>
-        requires { self.now.propagator.path.variables ≡ self.now.formula.now.variables }
-        ensures some { IfSome result (IsFree self.now.propagator.path) }
-        ensures none { IfNone result (IsComplete self.now.propagator.path) }
-        ensures few { length self.now.propagator.path.literals ≤ self.now.propagator.path.variables }
-    {
-        match free_variable(self.propagator.trail(), self.formula.variables) {
-            Some(variable) => Some(2 * variable + 1),
-            None => None,
-        }
     }
 
     /// Propagates and decides in turn, up to a conflict. Without one, each variable has a value in the end.
@@ -79,7 +73,9 @@ impl<'a> Solver<'a> {
             if let Some(conflict) = self.propagator.propagate()? {
                 return Ok(Some(conflict));
             }
-            let Some(literal) = self.next_decision() else {
+            let trail = self.propagator.trail();
+            let decider = &mut self.heuristics.decider;
+            let Some(literal) = decider.next(trail, self.formula.variables) else {
                 return Ok(None);
             };
             self.propagator.decide(literal);
@@ -106,8 +102,76 @@ impl<'a> Solver<'a> {
         if is_lowest {
             return Ok(true);
         }
-        attach_lemma(&mut self.propagator, &self.lemma.literals)?;
+        let restarts = self.heuristics.count(
+            self.propagator.trail(),
+            self.analyzer.reached(),
+            &self.lemma,
+            self.formula.clauses.len(),
+        )?;
+        attach_lemma(
+            &mut self.propagator,
+            &mut self.heuristics.decider,
+            &self.lemma.literals,
+            restarts,
+        )?;
         Ok(false)
+    }
+
+    /// Drops lemmas of little use, where it is time for that, while half of them stay live.
+    pub(crate) fn reduce(&mut self, alloc: Global) -> Result<(), NoMemory>
+        requires ready { IsReady self.old }
+        requires few { log_words self.old.log ≤ FULL_LOG_WORDS }
+        ensures { OnOk result (IsReduced self.old self.new) }
+    {
+        let candidates = self.heuristics.candidates(
+            alloc,
+            &self.propagator,
+            self.log.lemmas(),
+            self.formula.clauses.len(),
+        )?;
+        for candidate in &candidates {
+            self.drop_lemma(candidate.number)?;
+        }
+        Ok(())
+    }
+
+    /// Drops a lemma, if it may be dropped.
+    fn drop_lemma(&mut self, number: u32) -> Result<(), NoMemory>
+        requires ready { IsReady self.old }
+        requires few { log_words self.old.log ≤ FULL_LOG_WORDS }
+        ensures { OnOk result (IsReduced self.old self.new) }
+    {
+        let _few = self.formula.clauses.words();
+        if self.can_drop(number) {
+            self.log.push(Entry::Forget(number))?;
+            self.propagator.remove(number);
+        }
+        Ok(())
+    }
+
+    /// Whether a number names a lemma of more than two literals that is no reason, and half of the lemmas stay live
+    /// without it.
+    fn can_drop(&self, number: u32) -> bool
+        requires ready { IsReady self.now }
+        requires few { log_words self.now.log ≤ FULL_LOG_WORDS }
+        ensures { OnTrue result (CanDrop self.now number) }
+    {
+        let _few = self.formula.clauses.words();
+        let clauses = self.formula.clauses.len();
+        if number as usize <= clauses {
+            return false;
+        }
+        let Some(clause) = self.propagator.clause(number) else {
+            return false;
+        };
+        if clause.len() <= 2 {
+            return false;
+        }
+        let live = self.propagator.clauses().live();
+        if !stays_half(self.log.lemmas(), live, clauses) {
+            return false;
+        }
+        !is_reason(self.propagator.trail(), clause, number)
     }
 
     /// The model, where each variable has a value.
@@ -126,4 +190,13 @@ impl<'a> Solver<'a> {
         let Solver { log, .. } = self;
         log
     }
+}
+
+/// Whether half of so many lemmas stay live where one more is dropped, of so many clauses that are live.
+fn stays_half(lemmas: usize, live: u32, clauses: usize) -> bool
+    requires lemmas { lemmas ≤ MOST_LOG_WORDS }
+    requires clauses { clauses ≤ MOST_WORDS }
+    ensures { OnTrue result (lemmas + 2 + 2 * clauses ≤ 2 * live) }
+{
+    lemmas + 2 + 2 * clauses <= 2 * live as usize
 }

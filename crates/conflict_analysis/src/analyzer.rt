@@ -86,4 +86,9 @@ impl Analyzer {
             lemma,
         )
     }
+
+    /// The places that the last analysis reached. It is of use to heuristics alone, and no clause speaks of it.
+    pub fn reached(&self) -> &[u32] {
+        &self.reached
+    }
 }

@@ -8,5 +8,5 @@ level_below-level-requires c =
 pub learn-requires-clause-learn : goal.learn-requires-clause-learn
 learn-requires-clause-learn c =
     let can = c.requires.can in
-    rw c.undo_to.ensures
+    rw c.go_back.ensures
     (can_learn c.args.propagator.now c.args.lemma.now c.args.first c.args.second c.requires.is.0 c.level_below-level.result can.settled can c.requires.is.1 c.level_below-level.ensures)

@@ -1,0 +1,66 @@
+// What the solver goes by where more than one way is right. No proof rests on it.
+use crate::decide::Decider;
+use crate::restart::Restarts;
+use crate::spread::Spread;
+use crate::usage::{Candidate, Usage};
+use conflict_analysis::Lemma;
+use propagation::Propagator;
+use psl_base::NoMemory;
+use std::alloc::Global;
+use trail::Trail;
+
+/// How many lemmas there are when the first are dropped.
+const FIRST_DROP: usize = 32;
+
+/// The choices of a solver: what to decide, when to restart, which lemmas to drop.
+#[derive(Drop)]
+pub(crate) struct Heuristics {
+    pub(crate) decider: Decider,
+    restarts: Restarts,
+    usage: Usage,
+    spread: Spread,
+    // How many lemmas there are when some are dropped next.
+    next_drop: usize,
+}
+
+impl Heuristics {
+    pub(crate) fn new(alloc: Global, variables: u32) -> Result<Heuristics, NoMemory> {
+        Ok(Heuristics {
+            decider: Decider::new(alloc, variables)?,
+            restarts: Restarts::new(),
+            usage: Usage::new(alloc),
+            spread: Spread::new(alloc, variables)?,
+            next_drop: FIRST_DROP,
+        })
+    }
+
+    /// Counts a lemma, which an analysis found that reached some places of the trail: whether it is time to restart.
+    pub(crate) fn count(
+        &mut self,
+        trail: &Trail,
+        reached: &[u32],
+        lemma: &Lemma,
+        clauses: usize,
+    ) -> Result<bool, NoMemory> {
+        self.decider.bump(trail, reached);
+        let levels = self.spread.of(trail, &lemma.literals);
+        self.usage.add(levels, &lemma.hints, clauses)?;
+        Ok(self.restarts.count(levels))
+    }
+
+    /// The lemmas that might be dropped, the least useful first, where there are so many lemmas and clauses of the
+    /// formula. None while it is too early.
+    pub(crate) fn candidates(
+        &mut self,
+        alloc: Global,
+        propagator: &Propagator,
+        lemmas: usize,
+        clauses: usize,
+    ) -> Result<Vec<Candidate>, NoMemory> {
+        if lemmas < self.next_drop {
+            return Ok(Vec::new(alloc));
+        }
+        self.next_drop = lemmas.saturating_add(FIRST_DROP + lemmas / 8);
+        self.usage.candidates(alloc, propagator, clauses)
+    }
+}

@@ -1,0 +1,91 @@
+// Which lemmas are of use.
+use propagation::Propagator;
+use psl_base::NoMemory;
+use std::alloc::Global;
+
+/// What is known of a lemma.
+#[derive(Clone, Copy, Drop)]
+struct Use {
+    // How many levels it spanned when it was learned.
+    levels: u32,
+    // The count of lemmas when it was last a hint.
+    last: u32,
+}
+
+/// A lemma that may be dropped. The least useful comes first.
+#[derive(Clone, Copy, PartialEq, Eq, PartialOrd, Ord, Drop)]
+pub(crate) struct Candidate {
+    last: u32,
+    levels: u32,
+    pub(crate) number: u32,
+}
+
+/// The use of each lemma.
+#[derive(Drop)]
+pub(crate) struct Usage {
+    uses: Vec<Use>,
+    // How many lemmas there are.
+    count: u32,
+}
+
+impl Usage {
+    pub(crate) fn new(alloc: Global) -> Usage {
+        Usage {
+            uses: Vec::new(alloc),
+            count: 0,
+        }
+    }
+
+    /// Counts a lemma that spans so many levels, and marks those that its hints name, where the formula has so many
+    /// clauses.
+    pub(crate) fn add(
+        &mut self,
+        levels: u32,
+        hints: &[u32],
+        clauses: usize,
+    ) -> Result<(), NoMemory> {
+        self.count = self.count.saturating_add(1);
+        self.uses.push(Use {
+            levels,
+            last: self.count,
+        })?;
+        for hint in hints {
+            let index = (*hint as usize).saturating_sub(clauses).saturating_sub(1);
+            if *hint as usize > clauses && index < self.uses.len() {
+                self.uses[index].last = self.count;
+            }
+        }
+        Ok(())
+    }
+
+    /// The lemmas that might be dropped, the least useful first.
+    pub(crate) fn candidates(
+        &self,
+        alloc: Global,
+        propagator: &Propagator,
+        clauses: usize,
+    ) -> Result<Vec<Candidate>, NoMemory> {
+        let mut candidates = Vec::new(alloc);
+        let mut number = u32::try_from(clauses).unwrap_or(u32::MAX);
+        for lemma in &self.uses {
+            number = number.saturating_add(1);
+            if lemma.levels > 2 && is_long(propagator, number) {
+                candidates.push(Candidate {
+                    last: lemma.last,
+                    levels: lemma.levels,
+                    number,
+                })?;
+            }
+        }
+        candidates.sort_unstable();
+        Ok(candidates)
+    }
+}
+
+/// Whether a number names a live clause of more than two literals.
+fn is_long(propagator: &Propagator, number: u32) -> bool {
+    match propagator.clause(number) {
+        Some(clause) => clause.len() > 2,
+        None => false,
+    }
+}
