@@ -1,0 +1,8 @@
+use Rattle.circuit_theory.proofs.Models.{model-path, path-model}
+use Rattle.circuit_theory.proofs.laws.unrolling_law.Goals as goal
+
+pub returns : goal.returns
+returns c = record {
+  models = λ circuit positions values sound.
+      (model-path circuit positions values sound, path-model circuit positions values sound);
+}
