@@ -1,5 +1,5 @@
 -- Circuits of gates with state bits, and their paths.
-use Rattle.std.specs.Prelude.{◌≡◌, ℕ, suc, ◌<◌, ℤ, pos, Bool, true, false, not, ◌&&◌, List, [], ◌∷◌, map, length, slice_get, Some, IsTrue}
+use Rattle.std.specs.Prelude.{◌≡◌, ℕ, suc, ◌<◌, ◌≤◌, ℤ, pos, Bool, true, false, not, ◌&&◌, List, [], ◌∷◌, map, length, slice_get, Some, IsTrue}
 use Rattle.std.specs.List.{list_all, All}
 use Rattle.clauses.specs.Literals.{is_within, clause_within}
 use Rattle.clauses.specs.Models.{Assignment, is_true}
@@ -64,3 +64,7 @@ pub record IsPath (circuit : Circuit) (positions : ℕ) (values : ℕ → Assign
 abbrev pub AreDistinct : Circuit → ℕ → (ℕ → Assignment) → Type 0
 AreDistinct circuit positions values = (earlier later : ℕ) → earlier < later → later < positions
     → state_of circuit (values earlier) ≡ state_of circuit (values later) → ⊥
+
+-- two assignments give the first so many variables the same values
+abbrev pub AreSame : ℕ → Assignment → Assignment → Type 0
+AreSame variables values others = (variable : ℕ) → 0 < variable → variable ≤ variables → values variable ≡ others variable

@@ -1,2 +1,4 @@
 pub mod Circuits
+pub mod Distinct
+pub mod Sizes
 pub mod Unrolled
