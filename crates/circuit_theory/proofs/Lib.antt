@@ -5,4 +5,5 @@ pub mod Joining
 pub mod Literals
 pub mod Models
 pub mod Parts
+pub mod Sizes
 pub mod Within

@@ -11,6 +11,7 @@ use Rattle.circuit_theory.specs.declared.circuit.Gate.TheVariants.{Free, And}
 use Rattle.circuit_theory.specs.Circuits.{IsSound, gate_within, gates_within}
 use Rattle.circuit_theory.specs.Unrolled.{up_to, moved, equality, conjunction, gate_clauses, gates_clauses, units, links, position_clauses, unrolled}
 use Rattle.circuit_theory.specs.Distinct.{pairs, following, differences, pair_clauses, variables_before, distinct}
+use Rattle.circuit_theory.specs.Sizes.{distinct_variables}
 use Rattle.circuit_theory.proofs.Literals.{within_is, within_from, variable-moved}
 use Rattle.circuit_theory.proofs.Models.{now_within}
 use Rattle.circuit_theory.proofs.Parts.{up_to-all}
@@ -202,3 +203,9 @@ distinct-within c n variables positions sound fits all =
     rows_more later below =
         let few : pairs (suc later) + 0 ≤ pairs positions + 0 = omega (arith, pairs_more (suc later) positions below) in
         omega (arith, mul-le-mul_right (length c.now) few)
+
+pub distinct-all_within : (c : Circuit) (variables positions : ℕ) → IsSound c → positions * length c.gates ≤ variables →
+    IsTrue (clauses_within (distinct_variables c variables positions) (distinct c variables positions))
+distinct-all_within c variables positions sound fits =
+    let e : pairs positions + 0 ≡ pairs positions = omega arith in
+    distinct-within c (distinct_variables c variables positions) variables positions sound fits (omega (arith, ap (λ k. k * length c.now) e))

@@ -1,10 +1,11 @@
 // What follows from the definitions alone.
-ghost use Rattle.std.specs.Prelude.{ℕ, ◌*◌, ◌≤◌, ◌↔◌, ℤ, List, ◌++◌, length, IsTrue};
-ghost use Rattle.clauses.specs.Literals.{clauses_within};
+ghost use Rattle.std.specs.Prelude.{ℕ, ◌*◌, ◌≤◌, ◌↔◌, ◌≡◌, ℤ, List, ◌++◌, length, IsTrue};
+ghost use Rattle.clauses.specs.Literals.{clause_words, clauses_within};
 ghost use Rattle.clauses.specs.Models.{Assignment, IsModel};
 ghost use Rattle.circuit_theory.specs.declared.circuit.Circuit.{Circuit};
 ghost use Rattle.circuit_theory.specs.Circuits.{AreDistinct, AreSame, IsSound, IsPath};
 ghost use Rattle.circuit_theory.specs.Distinct.{distinct};
+ghost use Rattle.circuit_theory.specs.Sizes.{distinct_variables, distinct_words, unrolled_variables, unrolled_words};
 ghost use Rattle.circuit_theory.specs.Unrolled.{positions_of, unrolled};
 
 /// A law: the models of an unrolled circuit are its paths, and each path is the first part of some model.
@@ -27,4 +28,15 @@ pub fn distinct_law()
         → IsModel values clauses → AreDistinct circuit positions (positions_of circuit values)
         → (further : Assignment) × IsModel further (clauses ++ distinct circuit variables positions)
         × AreSame variables further values }
+{}
+
+/// A law: the words and the variables of an unrolled circuit, and of the clauses that states are different.
+pub fn size_law()
+    ensures unrolled { (circuit : Circuit) (positions : ℕ) → IsSound circuit
+        → (clause_words (unrolled circuit positions) ≡ unrolled_words circuit positions)
+        × IsTrue (clauses_within (unrolled_variables circuit positions) (unrolled circuit positions)) }
+    ensures distinct { (circuit : Circuit) (variables positions : ℕ) → IsSound circuit
+        → positions * length circuit.gates ≤ variables
+        → (clause_words (distinct circuit variables positions) ≡ distinct_words circuit positions)
+        × IsTrue (clauses_within (distinct_variables circuit variables positions) (distinct circuit variables positions)) }
 {}
