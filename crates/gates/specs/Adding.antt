@@ -1,0 +1,15 @@
+-- What adding clauses to others does.
+use Rattle.std.specs.Prelude.{◌≡◌, ◌≤◌, ℤ, List, ◌++◌, length, take, Result, IfErr, OnOk, OnErr}
+use Rattle.clauses.specs.declared.flat.CnfFault.{CnfFault}
+use Rattle.clauses.specs.declared.flat.TheConstants.{MOST_WORDS}
+use Rattle.clauses.specs.Literals.{clause_words}
+
+-- there may be so many words, with the clauses that are to be added
+pub record FitsWith (old more : List (List ℤ)) : Type 0 where
+  pub few : clause_words (old ++ more) ≤ MOST_WORDS
+
+-- The clauses were added; or memory was refused, and the old ones are the first of those that are there.
+pub record Adds {A : Type 0} (old new more : List (List ℤ)) (result : Result A CnfFault) : Type 0 where
+  pub ok : OnOk result (new ≡ old ++ more)
+  pub err : OnErr result (take (length old) new ≡ old)
+  pub memory : IfErr result (λ fault. fault ≡ CnfFault.NoMemory)

@@ -1,0 +1,8 @@
+//! Circuits as clauses: a circuit at so many positions, and that its states there are different.
+#![tactic(auto)]
+
+mod adding;
+mod limits;
+mod literals;
+
+pub use limits::fits;
