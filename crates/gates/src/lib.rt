@@ -4,5 +4,6 @@
 mod adding;
 mod limits;
 mod literals;
+mod parts;
 
 pub use limits::fits;

@@ -1,0 +1,12 @@
+use Rattle.std.proofs.Common.{drop, IsTrue}
+use Rattle.clauses.specs.Literals.{clause_within}
+use Rattle.circuit_theory.specs.Circuits.{gates_within}
+use Rattle.circuit_theory.specs.Unrolled.{gates_clauses, units}
+use Rattle.gates.proofs.Additions.{AddsSoFar}
+use Rattle.gates.proofs.parts.add_gates.Given as goal
+
+abbrev pub invariant-loop-before : goal.invariant-loop-before
+invariant-loop-before l = record {
+  so_far : AddsSoFar l.initial.clauses l.clauses (gates_clauses l.base l.before (drop l.before l.gates)) (gates_clauses l.base 0 l.gates);
+  within : IsTrue (gates_within l.before (drop l.before l.gates));
+}
