@@ -11,13 +11,6 @@ use crate::literals::{moved, negated, positive};
 use circuit_theory::{Circuit, Gate};
 use clauses::{Clauses, CnfFault};
 
-/// Literals of gates at a position, others whose values they have at the position before it, and how many gates there are.
-struct Linked<'a> {
-    literals: &'a [i32],
-    others: &'a [i32],
-    variables: u32,
-}
-
 /// A literal is the conjunction of two others.
 fn add_conjunction(clauses: &mut Clauses, output: i32, first: i32, second: i32) -> Result<(), CnfFault>
     requires output { IsTrue (is_within MOST_VARIABLES output) }
@@ -86,19 +79,51 @@ pub fn add_units(clauses: &mut Clauses, base: u32, literals: &[i32], variables: 
     Ok(())
 }
 
-/// Literals at one position have the values that others have at another.
-fn add_links(clauses: &mut Clauses, base: u32, base_before: u32, linked: Linked<'_>) -> Result<(), CnfFault>
-    requires within { IsTrue (clause_within linked.variables linked.literals.now) }
-    requires others { IsTrue (clause_within linked.variables linked.others.now) }
-    requires each { length linked.others.now ≡ length linked.literals.now }
-    requires few { base + linked.variables ≤ MOST_VARIABLES }
-    requires few_before { base_before + linked.variables ≤ MOST_VARIABLES }
-    requires fits { FitsWith clauses.old (links base base_before linked.literals.now linked.others.now) }
-    ensures { Adds clauses.old clauses.new (links base base_before linked.literals.now linked.others.now) result }
+/// Literals at a position have the values that others have at the one before it, whose gates are numbered from so many.
+fn add_links(
+    clauses: &mut Clauses,
+    base_before: u32,
+    variables: u32,
+    literals: &[i32],
+    others: &[i32],
+) -> Result<(), CnfFault>
+    requires within { IsTrue (clause_within variables literals.now) }
+    requires others { IsTrue (clause_within variables others.now) }
+    requires each { length others.now ≡ length literals.now }
+    requires few { base_before + variables + variables ≤ MOST_VARIABLES }
+    requires fits { FitsWith clauses.old (links (base_before + variables) base_before literals.now others.now) }
+    ensures { Adds clauses.old clauses.new (links (base_before + variables) base_before literals.now others.now) result }
 {
-    let Linked { literals, others, variables: _ } = linked;
+    let base = base_before + variables;
     for i in 0..literals.len() {
         add_equality(clauses, moved(base, literals[i]), moved(base_before, others[i]))?;
     }
     Ok(())
+}
+
+/// What a position adds.
+pub fn add_position(clauses: &mut Clauses, circuit: &Circuit, position: u32) -> Result<(), CnfFault>
+    requires sound { IsSound circuit.now }
+    requires few { suc position * length circuit.now.gates ≤ MOST_VARIABLES }
+    requires fits { FitsWith clauses.old (position_clauses circuit.now position) }
+    ensures { Adds clauses.old clauses.new (position_clauses circuit.entry.now position) result }
+{
+    match position.checked_sub(1) {
+        None => add_gates(clauses, 0, circuit.gates.as_slice()),
+        Some(before) => add_next(clauses, circuit, before),
+    }
+}
+
+/// What a position behind another adds.
+fn add_next(clauses: &mut Clauses, circuit: &Circuit, before: u32) -> Result<(), CnfFault>
+    requires sound { IsSound circuit.now }
+    requires few { suc (suc before) * length circuit.now.gates ≤ MOST_VARIABLES }
+    requires fits { FitsWith clauses.old (position_clauses circuit.now (suc before)) }
+    ensures { Adds clauses.old clauses.new (position_clauses circuit.entry.now (suc before)) result }
+{
+    let size = circuit.gates.len() as u32;
+    let base_before = before * size;
+    add_units(clauses, base_before, circuit.hold.as_slice(), size)?;
+    add_links(clauses, base_before, size, circuit.now.as_slice(), circuit.next.as_slice())?;
+    add_gates(clauses, base_before + size, circuit.gates.as_slice())
 }
