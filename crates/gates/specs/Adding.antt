@@ -1,7 +1,7 @@
 -- What adding clauses to others does.
-use Rattle.std.specs.Prelude.{◌≡◌, ◌≤◌, ℤ, List, ◌++◌, length, take, Result, IfErr, OnOk, OnErr}
+use Rattle.std.specs.Prelude.{◌≡◌, ◌≤◌, ℕ, ℤ, List, ◌++◌, length, take, Result, IfErr, OnOk, OnErr}
 use Rattle.clauses.specs.declared.flat.CnfFault.{CnfFault}
-use Rattle.clauses.specs.declared.flat.TheConstants.{MOST_WORDS}
+use Rattle.clauses.specs.declared.flat.TheConstants.{MOST_VARIABLES, MOST_WORDS}
 use Rattle.clauses.specs.Literals.{clause_words}
 
 -- there may be so many words, with the clauses that are to be added
@@ -13,3 +13,8 @@ pub record Adds {A : Type 0} (old new more : List (List ℤ)) (result : Result A
   pub ok : OnOk result (new ≡ old ++ more)
   pub err : OnErr result (take (length old) new ≡ old)
   pub memory : IfErr result (λ fault. fault ≡ CnfFault.NoMemory)
+
+-- there may be so many variables and words
+pub record AreFew (variables : ℕ) (clauses : List (List ℤ)) : Type 0 where
+  pub few_variables : variables ≤ MOST_VARIABLES
+  pub few_words : clause_words clauses ≤ MOST_WORDS

@@ -5,5 +5,8 @@ mod adding;
 mod limits;
 mod literals;
 mod parts;
+mod sizes;
+mod unrolling;
 
 pub use limits::fits;
+pub use unrolling::unroll;
