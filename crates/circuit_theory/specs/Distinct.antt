@@ -13,14 +13,16 @@ abbrev pub following : ℕ → ℕ → List ℤ
 following variables zero = []
 following variables (suc count) = pos (suc variables) ∷ following (suc variables) count
 
--- for each of some literals a variable, behind so many others, that is true only where the literal has different values
--- at two positions
+-- the variable behind so many is true only where two literals have different values
+abbrev pub difference : ℕ → ℤ → ℤ → List (List ℤ)
+difference variables first second =
+    (negsuc variables ∷ first ∷ second ∷ []) ∷ (negsuc variables ∷ neg_ℤ first ∷ neg_ℤ second ∷ []) ∷ []
+
+-- for each of some literals a variable that is true only where the literal has different values at two positions
 abbrev pub differences : ℕ → ℕ → ℕ → List ℤ → List (List ℤ)
 differences variables low high [] = []
 differences variables low high (literal ∷ literals) =
-    (negsuc variables ∷ moved low literal ∷ moved high literal ∷ [])
-    ∷ (negsuc variables ∷ neg_ℤ (moved low literal) ∷ neg_ℤ (moved high literal) ∷ [])
-    ∷ differences (suc variables) low high literals
+    difference variables (moved low literal) (moved high literal) ++ differences (suc variables) low high literals
 
 -- the states at two positions are different: one of these variables is true
 abbrev pub pair_clauses : Circuit → ℕ → ℕ → ℕ → List (List ℤ)
@@ -32,8 +34,11 @@ pair_clauses circuit variables earlier later =
 abbrev pub variables_before : Circuit → ℕ → ℕ → ℕ → ℕ
 variables_before circuit variables earlier later = variables + (pairs later + earlier) * length circuit.now
 
+-- the states at the first so many positions are different from that at a later one
+abbrev pub row_clauses : Circuit → ℕ → ℕ → ℕ → List (List ℤ)
+row_clauses circuit variables later count =
+    up_to count (λ earlier. pair_clauses circuit (variables_before circuit variables earlier later) earlier later)
+
 -- the states at the first so many positions are different, where so many variables are in use
 abbrev pub distinct : Circuit → ℕ → ℕ → List (List ℤ)
-distinct circuit variables positions =
-    up_to positions (λ later. up_to later
-    (λ earlier. pair_clauses circuit (variables_before circuit variables earlier later) earlier later))
+distinct circuit variables positions = up_to positions (λ later. row_clauses circuit variables later later)

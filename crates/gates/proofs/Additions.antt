@@ -1,11 +1,13 @@
 -- Adding clauses part by part.
-use Rattle.std.proofs.Common.{◌≡◌, ℕ, ◌+◌, ◌≤◌, ℤ, List, [], ◌∷◌, ◌++◌, length, take, Err, Ok, refl, sym, ap, ◌∙◌, subst, arith, length-append, append_assoc}
+use Rattle.std.proofs.Common.{◌≡◌, ℕ, suc, ◌+◌, ◌<◌, ◌≤◌, ℤ, List, [], ◌∷◌, ◌++◌, length, take, Err, Ok, refl, sym, ap, ◌∙◌, subst, arith, length-append, append_assoc}
 use Rattle.std.specs.Prelude.{Result, min}
 use Rattle.std.proofs.lemmas.List.{take-append-le, append-nil, length-take, take-take, take_all}
 use Rattle.clauses.specs.declared.flat.CnfFault.{CnfFault}
 use Rattle.clauses.specs.declared.flat.TheConstants.{MOST_WORDS}
 use Rattle.clauses.specs.Literals.{clause_words}
 use Rattle.circuit_theory.proofs.Sizes.{words-append}
+use Rattle.circuit_theory.specs.Unrolled.{up_to}
+use Rattle.gates.proofs.Words.{words-up}
 use Rattle.gates.specs.Adding.{FitsWith, Adds}
 
 abbrev pub Clauses : Type 0
@@ -53,3 +55,25 @@ adds-none old value = record { ok = sym (append-nil old); err = tt; memory = tt 
 pub adds-then : {A : Type 0} (old mid new first more : Clauses) (result : Result A CnfFault) → mid ≡ old ++ first → Adds mid new more result → Adds old new (first ++ more) result
 adds-then old mid new first more result added then =
     so_far-last old mid new more (first ++ more) result (so_far-step old old mid first more (first ++ more) (so_far-init old (first ++ more)) added) then
+
+-- lists one behind another
+pub list-fits : (old mid : Clauses) (list : ℕ → Clauses) (count i : ℕ) → i < count → FitsWith old (up_to count list) → mid ≡ old ++ up_to i list → FitsWith mid (list i)
+list-fits old mid list count i below fits added =
+    let e : mid ++ list i ≡ old ++ up_to (suc i) list = ap (λ c. c ++ list i) added ∙ append_assoc old (up_to i list) (list i) in
+    record { few = omega (
+      arith,
+      fits.few,
+      ap clause_words e,
+      words-append old (up_to (suc i) list),
+      words-append old (up_to count list),
+      words-up list (suc i) count below,
+    ) }
+
+pub list-next : (old mid new : Clauses) (list : ℕ → Clauses) (i : ℕ) → mid ≡ old ++ up_to i list → new ≡ mid ++ list i → new ≡ old ++ up_to (suc i) list
+list-next old mid new list i before added = added ∙ ap (λ c. c ++ list i) before ∙ append_assoc old (up_to i list) (list i)
+
+pub list-err : {A B : Type 0} (old mid new front part all : Clauses) (fault : CnfFault) → mid ≡ old ++ front → Adds {A = A} mid new part (Err fault) → Adds {A = B} old new all (Err fault)
+list-err {A} {B} old mid new front part all fault before failed =
+    let sofar : AddsSoFar old mid [] front = so_far-step old old mid front [] front (rw append-nil (so_far-init old front)) before in
+    let kept : take (length old) new ≡ old = (so_far-err {A = A} {B = B} old mid new part [] front fault sofar failed).err in
+    record { ok = tt; err = kept; memory = failed.memory }

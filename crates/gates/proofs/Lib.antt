@@ -1,3 +1,4 @@
 pub mod Additions
 pub mod Drops
+pub mod Rows
 pub mod Words

@@ -2,11 +2,14 @@
 #![tactic(auto)]
 
 mod adding;
+mod distinctness;
 mod limits;
 mod literals;
 mod parts;
 mod sizes;
+mod states;
 mod unrolling;
 
+pub use distinctness::distinct;
 pub use limits::fits;
 pub use unrolling::unroll;

@@ -69,7 +69,7 @@ pub fn unrolled_variables(circuit: &Circuit, positions: u32) -> Result<u32, CnfF
 }
 
 /// How many pairs there are of numbers below a bound.
-fn pairs(count: u32) -> u64
+pub fn pairs(count: u32) -> u64
     ensures { result ≡ pairs_below count }
 {
     u64::from(count) * u64::from(count.saturating_sub(1)) / 2
