@@ -1,14 +1,14 @@
 -- Assignments that agree on the variables of what they are asked about.
-use Rattle.std.proofs.Common.{◌≡◌, ℕ, zero, suc, ◌+◌, ◌*◌, ◌<◌, ◌≤◌, ℤ, pos, negsuc, Bool, not, ◌&&◌, ◌||◌, List, [], ◌∷◌, length, refl, sym, ap, ◌∙◌, subst, arith}
+use Rattle.std.proofs.Common.{◌≡◌, ℕ, suc, ◌+◌, ◌<◌, ◌≤◌, ℤ, pos, negsuc, not, List, [], ◌∷◌, length, refl, sym, ap, ◌∙◌, arith}
 use Rattle.std.specs.Bool.{IsTrue}
-use Rattle.std.specs.List.{list_all, list_any}
-use Rattle.std.proofs.lemmas.Bool.{and_from, and_parts}
-use Rattle.clauses.specs.Literals.{variable_of, is_within, clause_within, clauses_within}
-use Rattle.clauses.specs.Models.{Assignment, IsModel, is_true, meets}
+use Rattle.std.specs.List.{list_all}
+use Rattle.std.proofs.lemmas.Bool.{and_parts}
+use Rattle.clauses.specs.Literals.{is_within, clause_within, clauses_within}
+use Rattle.clauses.specs.Models.{Assignment, is_true, meets}
 use Rattle.circuit_theory.specs.declared.circuit.Circuit.{Circuit}
 use Rattle.circuit_theory.specs.declared.circuit.Gate.{Gate}
 use Rattle.circuit_theory.specs.declared.circuit.Gate.TheVariants.{Free, And}
-use Rattle.circuit_theory.specs.Circuits.{IsSound, IsPath, AreSame, gate_within, gates_within, same, gate_holds, gates_hold, state_of, literal_values}
+use Rattle.circuit_theory.specs.Circuits.{IsSound, IsPath, AreSame, gate_within, gates_within, gate_holds, gates_hold, literal_values}
 use Rattle.circuit_theory.proofs.Literals.{shifted, within_is}
 use Rattle.circuit_theory.proofs.Models.{now_within}
 

@@ -1,10 +1,10 @@
 -- Clauses that say that the states at two positions are different.
-use Rattle.std.proofs.Common.{◌≡◌, ◌⊎◌, inl, inr, ℕ, zero, suc, ◌+◌, ◌-◌, ◌*◌, ◌<◌, ◌≤◌, ℤ, pos, negsuc, neg_ℤ, Bool, true, false, not, cond, ◌&&◌, ◌||◌, leb, List, [], ◌∷◌, ◌++◌, map, length, get_or, refl, sym, ap, ◌∙◌, subst, arith}
+use Rattle.std.proofs.Common.{◌≡◌, inl, inr, ℕ, suc, ◌+◌, ◌-◌, ◌*◌, ◌<◌, ◌≤◌, ℤ, Bool, true, false, not, cond, ◌&&◌, ◌||◌, leb, List, [], ◌∷◌, map, length, get_or, refl, sym, ap, ◌∙◌, arith}
 use Rattle.std.specs.Bool.{IsTrue}
-use Rattle.std.specs.List.{list_all, list_any}
+use Rattle.std.specs.List.{list_any}
 use Rattle.std.proofs.lemmas.Bool.{and_from, and_parts, or_parts, le-leb, lt-leb, cond-true, cond-false, cases_Bool, true≢false}
 use Rattle.std.proofs.lemmas.List.Folds.{list_all-append}
-use Rattle.clauses.specs.Literals.{variable_of, is_within, clause_within}
+use Rattle.clauses.specs.Literals.{is_within, clause_within}
 use Rattle.clauses.specs.Models.{Assignment, is_true, meets}
 use Rattle.circuit_theory.specs.declared.circuit.Circuit.{Circuit}
 use Rattle.circuit_theory.specs.Circuits.{IsSound, AreSame, same, state_of, literal_values}
@@ -63,8 +63,8 @@ module _ (values : Assignment) (size low high : ℕ) where
       let here : is_true (shifted low values) literal ≡ is_true (shifted high values) literal = cc in
       let there : literal_values (shifted low values) literals ≡ literal_values (shifted high values) literals = cc in
       let left = no_difference (values (suc variables)) (is_true (shifted low values) literal) (is_true (shifted high values) literal)
-          (meets_all values (differences (suc variables) low high literals)) (meets values (following (suc variables) (length literals)))
-          (sym (first-met variables literal literals parts.0) ∙ met) here some in
+      (meets_all values (differences (suc variables) low high literals)) (meets values (following (suc variables) (length literals)))
+      (sym (first-met variables literal literals parts.0) ∙ met) here some in
       differences-apart (suc variables) literals parts.1 left.1 left.0 there
 
   tells-first : (variables : ℕ) (literal : ℤ) (literals : List ℤ) → Tells values low high variables (literal ∷ literals) → values (suc variables) ≡ differs values low high literal
@@ -81,7 +81,7 @@ module _ (values : Assignment) (size low high : ℕ) where
       let parts = and_parts (is_within size literal) (clause_within size literals) within in
       first-met variables literal literals parts.0
       ∙ ap (λ d. apart d (is_true (shifted low values) literal) (is_true (shifted high values) literal) (meets_all values (differences (suc variables) low high literals)))
-          (tells-first variables literal literals tells)
+      (tells-first variables literal literals tells)
       ∙ difference (is_true (shifted low values) literal) (is_true (shifted high values) literal) (meets_all values (differences (suc variables) low high literals))
       ∙ differences-met (suc variables) literals parts.1 (tells-rest variables literal literals tells)
 
@@ -148,16 +148,16 @@ pair-fills c values variables earlier later sound fits_earlier fits_later unequa
     let further = filled values variables low high c.now in
     let old : AreSame variables further values = filled-old values variables low high c.now in
     let equal : map (differs further low high) c.now ≡ map (differs values low high) c.now =
-        differs-same g low high further values c.now (same-fewer (low + g) variables further values fits_earlier old) (same-fewer (high + g) variables further values fits_later old) within in
+    differs-same g low high further values c.now (same-fewer (low + g) variables further values fits_earlier old) (same-fewer (high + g) variables further values fits_later old) within in
     let tells : Tells further low high variables c.now = λ m below. filled-new values variables low high c.now m ∙ ap (λ ds. get_or ds m false) (sym equal) in
     let some : IsTrue (list_any (differs further low high) c.now) = some-differs further g low high c.now (λ same_states. unequal
-        (sym (same-values g (shifted low further) (shifted low values) (same-shifted low g further values (same-fewer (low + g) variables further values fits_earlier old)) c.now within)
-        ∙ same_states
-        ∙ same-values g (shifted high further) (shifted high values) (same-shifted high g further values (same-fewer (high + g) variables further values fits_later old)) c.now within)) in (
+    (sym (same-values g (shifted low further) (shifted low values) (same-shifted low g further values (same-fewer (low + g) variables further values fits_earlier old)) c.now within)
+    ∙ same_states
+    ∙ same-values g (shifted high further) (shifted high values) (same-shifted high g further values (same-fewer (high + g) variables further values fits_later old)) c.now within)) in (
       further,
       old,
       list_all-append (meets further) (differences variables low high c.now) (following variables (length c.now) ∷ [])
-      ∙ and_from (meets_all further (differences variables low high c.now)) (meets_all further (following variables (length c.now) ∷ []))
+          ∙ and_from (meets_all further (differences variables low high c.now)) (meets_all further (following variables (length c.now) ∷ []))
           (differences-met further g low high variables c.now within tells)
           (and_from (meets further (following variables (length c.now))) (meets_all further []) (following-met further g low high variables c.now tells ∙ some) refl),
     )
@@ -168,6 +168,6 @@ pub pair-apart : (c : Circuit) (values : Assignment) (variables earlier later : 
 pair-apart c values variables earlier later sound met equal =
     let g = length c.gates in
     let parts = and_parts (meets_all values (differences variables (earlier * g) (later * g) c.now)) (meets_all values (following variables (length c.now) ∷ []))
-        (sym (list_all-append (meets values) (differences variables (earlier * g) (later * g) c.now) (following variables (length c.now) ∷ [])) ∙ met) in
+    (sym (list_all-append (meets values) (differences variables (earlier * g) (later * g) c.now) (following variables (length c.now) ∷ [])) ∙ met) in
     let some = and_parts (meets values (following variables (length c.now))) (meets_all values []) parts.1 in
     differences-apart values g (earlier * g) (later * g) variables c.now (now_within c sound) parts.0 some.0 equal

@@ -1,21 +1,19 @@
 -- Values of further variables for a path whose states are different.
-use Rattle.std.proofs.Common.{◌≡◌, ◌⊎◌, inl, inr, ℕ, zero, suc, ◌+◌, ◌*◌, ◌<◌, ◌≤◌, ℤ, List, [], ◌∷◌, ◌++◌, length, refl, sym, ap, ◌∙◌, subst, arith, mul-le-mul_right, suc-mul}
+use Rattle.std.proofs.Common.{◌≡◌, ℕ, zero, suc, ◌+◌, ◌*◌, ◌<◌, ◌≤◌, ℤ, List, ◌++◌, length, refl, sym, ◌∙◌, arith, mul-le-mul_right, suc-mul}
 use Rattle.std.specs.Bool.{IsTrue}
-use Rattle.std.specs.List.{list_all}
-use Rattle.std.proofs.lemmas.Bool.{and_from, and_parts, cases_lt}
+use Rattle.std.proofs.lemmas.Bool.{and_from, and_parts}
 use Rattle.std.proofs.lemmas.List.Folds.{list_all-append}
 use Rattle.clauses.specs.Literals.{clauses_within}
 use Rattle.clauses.specs.Models.{Assignment, IsModel, meets}
 use Rattle.circuit_theory.specs.declared.circuit.Circuit.{Circuit}
-use Rattle.circuit_theory.specs.Circuits.{IsSound, IsPath, AreSame, AreDistinct, state_of}
-use Rattle.circuit_theory.specs.Unrolled.{up_to, unrolled, positions_of}
+use Rattle.circuit_theory.specs.Circuits.{IsSound, AreSame, AreDistinct, state_of}
+use Rattle.circuit_theory.specs.Unrolled.{up_to, positions_of}
 use Rattle.circuit_theory.specs.Distinct.{pairs, pair_clauses, variables_before, distinct}
 use Rattle.circuit_theory.proofs.Parts.{meets_all, all-up_to}
-use Rattle.circuit_theory.proofs.Models.{now_within, model-path}
+use Rattle.circuit_theory.proofs.Models.{now_within}
 use Rattle.circuit_theory.proofs.Agreement.{same-fewer, same-then, same-met, same-values, same-shifted}
 use Rattle.circuit_theory.proofs.Differences.{pair-fills, pair-apart}
-use Rattle.circuit_theory.proofs.Joining.{path-some_model}
-use Rattle.circuit_theory.proofs.Within.{row-within, distinct-within, before_row, unrolled-within}
+use Rattle.circuit_theory.proofs.Within.{row-within, distinct-within}
 
 -- the states of assignments that agree on the variables of a position
 states-same : (c : Circuit) (variables i : ℕ) (v w : Assignment) → IsSound c → i * length c.gates + length c.gates ≤ variables → AreSame variables v w →
@@ -51,13 +49,13 @@ row-fills c values variables positions later (suc count) sound fits below few un
     let fits_later = fits_at g positions later variables below fits in
     let same_old : AreSame variables old.0 values = same-fewer variables pairs_first old.0 values (omega arith) old.1 in
     let new = pair-fills c old.0 used count later sound (omega (arith, fits_earlier)) (omega (arith, fits_later)) (λ equal. unequal count (omega arith)
-        (sym (states-same c variables count old.0 values sound fits_earlier same_old) ∙ equal ∙ states-same c variables later old.0 values sound fits_later same_old)) in (
+    (sym (states-same c variables count old.0 values sound fits_earlier same_old) ∙ equal ∙ states-same c variables later old.0 values sound fits_later same_old)) in (
       new.0,
       same-then pairs_first new.0 old.0 values (same-fewer pairs_first used new.0 old.0 order new.1) old.1,
       both_met new.0 (up_to count (row_of c variables later)) (row_of c variables later count)
-      (kept_met used new.0 old.0 (up_to count (row_of c variables later)) new.1
-        (row-within c used variables count later sound (omega arith) (omega (arith, suc-mul later g, fits_later)) (omega arith)) old.2)
-      new.2,
+          (kept_met used new.0 old.0 (up_to count (row_of c variables later)) new.1
+          (row-within c used variables count later sound (omega arith) (omega (arith, suc-mul later g, fits_later)) (omega arith)) old.2)
+          new.2,
     )
   where
     pairs_first : ℕ
@@ -75,15 +73,15 @@ distinct-fills c values variables positions (suc count) sound fits few unequal =
     let old = distinct-fills c values variables positions count sound fits (omega arith) (λ earlier later order below. unequal earlier later order (omega arith)) in
     let used = variables_before c variables 0 count in
     let new = row-fills c old.0 variables positions count count sound fits (omega arith) (omega arith) (λ earlier below equal. unequal earlier count below (omega arith)
-        (sym (states-same c variables earlier old.0 values sound (fits_at g positions earlier variables (omega arith) fits) old.1)
-        ∙ equal
-        ∙ states-same c variables count old.0 values sound (fits_at g positions count variables (omega arith) fits) old.1)) in (
+    (sym (states-same c variables earlier old.0 values sound (fits_at g positions earlier variables (omega arith) fits) old.1)
+    ∙ equal
+    ∙ states-same c variables count old.0 values sound (fits_at g positions count variables (omega arith) fits) old.1)) in (
       new.0,
       same-then variables new.0 old.0 values (same-fewer variables used new.0 old.0 (omega arith) new.1) old.1,
       both_met new.0 (distinct c variables count) (up_to count (row_of c variables count))
-      (kept_met used new.0 old.0 (distinct c variables count) new.1
-        (distinct-within c used variables count sound (omega (arith, mul-le-mul_right g order)) (omega arith)) old.2)
-      new.2,
+          (kept_met used new.0 old.0 (distinct c variables count) new.1
+          (distinct-within c used variables count sound (omega (arith, mul-le-mul_right g order)) (omega arith)) old.2)
+          new.2,
     )
   where
     order : count ≤ positions

@@ -1,8 +1,8 @@
 -- Literals: their negation, and what moving them does.
-use Rattle.std.proofs.Common.{◌≡◌, ℕ, zero, suc, ◌+◌, ◌<◌, ◌≤◌, ℤ, pos, negsuc, neg_ℤ, Bool, true, false, not, List, [], ◌∷◌, refl, sym, ap, arith}
+use Rattle.std.proofs.Common.{◌≡◌, ℕ, zero, suc, ◌+◌, ◌<◌, ◌≤◌, ℤ, pos, negsuc, neg_ℤ, Bool, true, false, not, refl, sym, ap, arith}
 use Rattle.std.specs.Bool.{IsTrue}
 use Rattle.std.proofs.lemmas.Bool.{and_from, and_parts, ltb-true, leb-true, lt-ltb, le-leb}
-use Rattle.clauses.specs.Literals.{variable_of, is_within, clause_within}
+use Rattle.clauses.specs.Literals.{variable_of, is_within}
 use Rattle.clauses.specs.Models.{Assignment, is_true}
 use Rattle.circuit_theory.specs.Unrolled.{moved}
 

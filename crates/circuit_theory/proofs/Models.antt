@@ -1,5 +1,5 @@
 -- The models of an unrolled circuit are its paths.
-use Rattle.std.proofs.Common.{◌≡◌, ℕ, zero, suc, ◌+◌, ◌*◌, ◌<◌, ◌≤◌, ◌↔◌, ℤ, pos, Bool, ◌&&◌, List, [], ◌∷◌, ◌++◌, length, slice_get, Some, refl, sym, ap, ◌∙◌, subst, arith}
+use Rattle.std.proofs.Common.{◌≡◌, ℕ, zero, suc, ◌*◌, ◌<◌, ℤ, pos, Bool, ◌&&◌, List, [], ◌∷◌, ◌++◌, length, slice_get, Some, refl, sym, ap, ◌∙◌, subst, arith}
 use Rattle.std.specs.Bool.{IsTrue}
 use Rattle.std.specs.List.{list_all, All}
 use Rattle.std.proofs.lemmas.Bool.{and_from, and_parts}
@@ -10,7 +10,7 @@ use Rattle.circuit_theory.specs.declared.circuit.Circuit.{Circuit}
 use Rattle.circuit_theory.specs.declared.circuit.Gate.{Gate}
 use Rattle.circuit_theory.specs.declared.circuit.Gate.TheVariants.{Free}
 use Rattle.circuit_theory.specs.Circuits.{IsSound, IsStateBit, IsPath, gates_hold, state_of, literal_values}
-use Rattle.circuit_theory.specs.Unrolled.{moved, gates_clauses, units, links, position_clauses, unrolled, positions_of}
+use Rattle.circuit_theory.specs.Unrolled.{gates_clauses, units, links, position_clauses, unrolled, positions_of}
 use Rattle.circuit_theory.proofs.Literals.{shifted, within_from}
 use Rattle.circuit_theory.proofs.Parts.{meets_all, all-up_to, up_to-all, gates-met, units-met, links-moves, moves-links}
 
@@ -67,7 +67,7 @@ added c values position sound met =
     let low = position * g_of c in
     let high = suc position * g_of c in
     let outer = and_parts (moves_of c values position) (gates_of c values position)
-        (sym (position-parts c values position) ∙ met) in
+    (sym (position-parts c values position) ∙ met) in
     let inner = and_parts (meets_all values (units low c.hold)) (meets_all values (links high low c.now c.next)) outer.0 in
     record {
       gates = sym (gates-met values high 0 c.gates sound.gates) ∙ outer.1;
@@ -82,10 +82,10 @@ adds c values position sound new =
     let high = suc position * g_of c in
     position-parts c values position
     ∙ and_from (moves_of c values position) (gates_of c values position)
-        (and_from (meets_all values (units low c.hold)) (meets_all values (links high low c.now c.next))
-          (units-met values low c.hold ∙ new.hold)
-          (moves-links values (g_of c) high low c.now c.next sound.each (now_within c sound) sound.next new.moves))
-        (gates-met values high 0 c.gates sound.gates ∙ new.gates)
+    (and_from (meets_all values (units low c.hold)) (meets_all values (links high low c.now c.next))
+    (units-met values low c.hold ∙ new.hold)
+    (moves-links values (g_of c) high low c.now c.next sound.each (now_within c sound) sound.next new.moves))
+    (gates-met values high 0 c.gates sound.gates ∙ new.gates)
 
 -- the gates at the first position
 first-met : (c : Circuit) (values : Assignment) → IsSound c → meets_all values (position_clauses c 0) ≡ gates_hold (positions_of c values 0) 0 c.gates

@@ -1,7 +1,7 @@
 -- What the parts of an unrolled circuit say: its gates, the held literals, and the links from position to position.
-use Rattle.std.proofs.Common.{◌≡◌, ℕ, zero, suc, ◌+◌, ◌<◌, ◌≤◌, ◌⊎◌, inl, inr, ℤ, pos, negsuc, neg_ℤ, Bool, true, false, not, ◌&&◌, ◌||◌, List, [], ◌∷◌, ◌++◌, map, length, refl, sym, ap, ◌∙◌, subst, arith}
+use Rattle.std.proofs.Common.{◌≡◌, ℕ, zero, suc, ◌+◌, ◌<◌, inl, inr, ℤ, pos, Bool, true, false, not, ◌&&◌, ◌||◌, List, [], ◌∷◌, length, refl, sym, ◌∙◌, subst, arith}
 use Rattle.std.specs.Bool.{IsTrue}
-use Rattle.std.specs.List.{list_all, list_any}
+use Rattle.std.specs.List.{list_all}
 use Rattle.std.proofs.lemmas.Bool.{and_from, and_parts, cases_lt}
 use Rattle.std.proofs.lemmas.List.Folds.{list_all-append}
 use Rattle.clauses.specs.Literals.{variable_of, is_within, clause_within}
@@ -116,7 +116,7 @@ module _ (values : Assignment) (variables base base_before : ℕ) where
       let now = and_parts (is_within variables literal) (clause_within variables literals) here in
       let next = and_parts (is_within variables other) (clause_within variables others) there in
       let both = and_parts (meets_all values (equality (moved base literal) (moved base_before other))) (meets_all values (links base base_before literals others))
-          (sym (list_all-append (meets values) (equality (moved base literal) (moved base_before other)) (links base base_before literals others)) ∙ met) in
+      (sym (list_all-append (meets values) (equality (moved base literal) (moved base_before other)) (links base base_before literals others)) ∙ met) in
       let first = same-is (is_true (shifted base values) literal) (is_true (shifted base_before values) other) (sym (link-met literal other now.0 next.0) ∙ both.0) in
       let rest = links-moves literals others (omega arith) now.1 next.1 both.1 in
       rw (first, rest)
@@ -132,5 +132,5 @@ module _ (values : Assignment) (variables base base_before : ℕ) where
       let rest : literal_values (shifted base values) literals ≡ literal_values (shifted base_before values) others = cc in
       list_all-append (meets values) (equality (moved base literal) (moved base_before other)) (links base base_before literals others)
       ∙ and_from (meets_all values (equality (moved base literal) (moved base_before other))) (meets_all values (links base base_before literals others))
-          (link-met literal other now.0 next.0 ∙ same-from (is_true (shifted base values) literal) (is_true (shifted base_before values) other) first)
-          (moves-links literals others (omega arith) now.1 next.1 rest)
+      (link-met literal other now.0 next.0 ∙ same-from (is_true (shifted base values) literal) (is_true (shifted base_before values) other) first)
+      (moves-links literals others (omega arith) now.1 next.1 rest)

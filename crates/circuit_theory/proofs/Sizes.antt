@@ -1,13 +1,13 @@
 -- How many words the clauses of a circuit have.
-use Rattle.std.proofs.Common.{◌≡◌, ℕ, zero, suc, ◌+◌, ◌-◌, ◌*◌, ◌<◌, ◌≤◌, ℤ, pos, negsuc, neg_ℤ, Bool, cond, List, [], ◌∷◌, ◌++◌, length, refl, sym, ap, ◌∙◌, subst, arith, suc-mul, add-mul}
-use Rattle.std.specs.List.{sum_by, count_by}
+use Rattle.std.proofs.Common.{◌≡◌, ℕ, zero, suc, ◌+◌, ◌-◌, ◌*◌, ℤ, pos, negsuc, neg_ℤ, cond, List, [], ◌∷◌, ◌++◌, length, refl, sym, ap, ◌∙◌, arith, suc-mul, add-mul}
+use Rattle.std.specs.List.{count_by}
 use Rattle.std.proofs.lemmas.List.Sums.{sum_by-cons, sum_by-append}
 use Rattle.clauses.specs.Literals.{clause_words}
 use Rattle.circuit_theory.specs.declared.circuit.Circuit.{Circuit}
 use Rattle.circuit_theory.specs.declared.circuit.Gate.{Gate}
 use Rattle.circuit_theory.specs.declared.circuit.Gate.TheVariants.{Free, And}
 use Rattle.circuit_theory.specs.Circuits.{IsSound}
-use Rattle.circuit_theory.specs.Unrolled.{up_to, moved, equality, conjunction, gate_clauses, gates_clauses, units, links, position_clauses, unrolled}
+use Rattle.circuit_theory.specs.Unrolled.{up_to, moved, equality, gate_clauses, gates_clauses, units, links, position_clauses, unrolled}
 use Rattle.circuit_theory.specs.Distinct.{pairs, following, differences, pair_clauses, variables_before, distinct}
 use Rattle.circuit_theory.specs.Sizes.{is_conjunction, unrolled_words, distinct_words}
 

@@ -1,10 +1,9 @@
 -- Which variables the clauses of a circuit have.
-use Rattle.std.proofs.Common.{◌≡◌, ◌⊎◌, inl, inr, ℕ, zero, suc, ◌+◌, ◌*◌, ◌<◌, ◌≤◌, ℤ, pos, negsuc, neg_ℤ, List, [], ◌∷◌, ◌++◌, length, refl, sym, ap, ◌∙◌, subst, arith, mul-le-mul_right, suc-mul}
+use Rattle.std.proofs.Common.{◌≡◌, inl, inr, ℕ, zero, suc, ◌+◌, ◌*◌, ◌<◌, ◌≤◌, ℤ, pos, negsuc, neg_ℤ, List, [], ◌∷◌, ◌++◌, length, refl, ap, ◌∙◌, arith, mul-le-mul_right, suc-mul}
 use Rattle.std.specs.Bool.{IsTrue}
-use Rattle.std.specs.List.{list_all}
 use Rattle.std.proofs.lemmas.Bool.{and_from, and_parts, cases_lt}
 use Rattle.std.proofs.lemmas.List.Folds.{list_all-append}
-use Rattle.clauses.specs.Literals.{variable_of, is_within, clause_within, clauses_within}
+use Rattle.clauses.specs.Literals.{is_within, clause_within, clauses_within}
 use Rattle.circuit_theory.specs.declared.circuit.Circuit.{Circuit}
 use Rattle.circuit_theory.specs.declared.circuit.Gate.{Gate}
 use Rattle.circuit_theory.specs.declared.circuit.Gate.TheVariants.{Free, And}
@@ -109,7 +108,7 @@ position-within c n (suc i) sound fits =
     let fits_low : low + g ≤ n = omega (arith, suc-mul i g) in
     both_within n (units low c.hold ++ links high low c.now c.next) (gates_clauses high 0 c.gates)
     (both_within n (units low c.hold) (links high low c.now c.next) (units-within n g low c.hold sound.hold fits_low)
-      (links-within n g high low c.now c.next (now_within c sound) sound.next fits_high fits_low))
+    (links-within n g high low c.now c.next (now_within c sound) sound.next fits_high fits_low))
     (gates-within n high 0 c.gates sound.gates (omega arith))
 
 -- the clauses at a position are within the variables of the positions up to it

@@ -1,9 +1,8 @@
 -- Adding clauses part by part.
-use Rattle.std.proofs.Common.{◌≡◌, ℕ, suc, ◌+◌, ◌<◌, ◌≤◌, ℤ, List, [], ◌∷◌, ◌++◌, length, take, Err, Ok, refl, sym, ap, ◌∙◌, subst, arith, length-append, append_assoc}
-use Rattle.std.specs.Prelude.{Result, min}
+use Rattle.std.proofs.Common.{◌≡◌, ℕ, suc, ◌<◌, ◌≤◌, ℤ, List, [], ◌++◌, length, take, Err, Ok, refl, sym, ap, ◌∙◌, arith, append_assoc}
+use Rattle.std.specs.Prelude.{Result}
 use Rattle.std.proofs.lemmas.List.{take-append-le, append-nil, length-take, take-take, take_all}
 use Rattle.clauses.specs.declared.flat.CnfFault.{CnfFault}
-use Rattle.clauses.specs.declared.flat.TheConstants.{MOST_WORDS}
 use Rattle.clauses.specs.Literals.{clause_words}
 use Rattle.circuit_theory.proofs.Sizes.{words-append}
 use Rattle.circuit_theory.specs.Unrolled.{up_to}
@@ -60,14 +59,16 @@ adds-then old mid new first more result added then =
 pub list-fits : (old mid : Clauses) (list : ℕ → Clauses) (count i : ℕ) → i < count → FitsWith old (up_to count list) → mid ≡ old ++ up_to i list → FitsWith mid (list i)
 list-fits old mid list count i below fits added =
     let e : mid ++ list i ≡ old ++ up_to (suc i) list = ap (λ c. c ++ list i) added ∙ append_assoc old (up_to i list) (list i) in
-    record { few = omega (
-      arith,
-      fits.few,
-      ap clause_words e,
-      words-append old (up_to (suc i) list),
-      words-append old (up_to count list),
-      words-up list (suc i) count below,
-    ) }
+    record {
+      few = omega (
+        arith,
+        fits.few,
+        ap clause_words e,
+        words-append old (up_to (suc i) list),
+        words-append old (up_to count list),
+        words-up list (suc i) count below,
+      );
+    }
 
 pub list-next : (old mid new : Clauses) (list : ℕ → Clauses) (i : ℕ) → mid ≡ old ++ up_to i list → new ≡ mid ++ list i → new ≡ old ++ up_to (suc i) list
 list-next old mid new list i before added = added ∙ ap (λ c. c ++ list i) before ∙ append_assoc old (up_to i list) (list i)

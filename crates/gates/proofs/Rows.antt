@@ -1,5 +1,5 @@
 -- Variables in use before the pairs of a position.
-use Rattle.std.proofs.Common.{◌≡◌, ℕ, suc, ◌+◌, ◌*◌, ◌<◌, ◌≤◌, length, arith, mul-le-mul_right}
+use Rattle.std.proofs.Common.{ℕ, suc, ◌+◌, ◌*◌, ◌<◌, ◌≤◌, length, arith, mul-le-mul_right}
 use Rattle.circuit_theory.specs.declared.circuit.Circuit.{Circuit}
 use Rattle.circuit_theory.specs.Distinct.{pairs, variables_before}
 use Rattle.circuit_theory.proofs.Within.{pairs_more}

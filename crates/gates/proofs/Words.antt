@@ -1,14 +1,13 @@
 -- How many words lists of clauses have, as they are counted.
-use Rattle.std.proofs.Common.{◌≡◌, ◌⊎◌, inl, inr, ℕ, zero, suc, ◌+◌, ◌-◌, ◌*◌, ◌/◌, ◌<◌, ◌≤◌, ℤ, List, length, ◌++◌, refl, sym, ap, ◌∙◌, arith, suc-mul, mul-suc, mul-le-mul_right, mul-add, mul-one}
+use Rattle.std.proofs.Common.{◌≡◌, inl, inr, ℕ, zero, suc, ◌+◌, ◌-◌, ◌*◌, ◌/◌, ◌<◌, ◌≤◌, ℤ, List, length, ◌++◌, refl, arith, suc-mul, mul-suc, mul-le-mul_right, mul-add, mul-one}
 use Rattle.std.proofs.lemmas.Bool.{cases_lt}
 use Rattle.clauses.specs.declared.flat.TheConstants.{MOST_VARIABLES, MOST_WORDS}
 use Rattle.clauses.specs.Literals.{clause_words}
 use Rattle.circuit_theory.specs.declared.circuit.Circuit.{Circuit}
-use Rattle.circuit_theory.specs.Unrolled.{up_to, unrolled, position_clauses}
+use Rattle.circuit_theory.specs.Unrolled.{up_to}
 use Rattle.circuit_theory.specs.Distinct.{pairs, distinct}
-use Rattle.circuit_theory.specs.Sizes.{IsTooLarge, distinct_variables}
 use Rattle.circuit_theory.proofs.Sizes.{words-append, distinct-words}
-use Rattle.gates.specs.Adding.{AreFew, FitsWith}
+use Rattle.gates.specs.Adding.{FitsWith}
 
 -- fewer lists have no more words
 pub words-up : (list : ℕ → List (List ℤ)) (few more : ℕ) → few ≤ more → clause_words (up_to few list) ≤ clause_words (up_to more list)

@@ -21,7 +21,12 @@ use std::alloc::Global;
 ///
 /// `TooLarge` exactly where there would be too many variables or words, which is told before anything is built, and
 /// `NoMemory` if memory is refused. The formula is then as it was.
-pub fn distinct(alloc: Global, circuit: &Circuit, positions: u32, cnf: &mut Cnf) -> Result<(), CnfFault>
+pub fn distinct(
+    alloc: Global,
+    circuit: &Circuit,
+    positions: u32,
+    cnf: &mut Cnf,
+) -> Result<(), CnfFault>
     requires sound { IsSound circuit.now }
     requires variables { positions * length circuit.now.gates ≤ cnf.old.variables }
     ensures variables { OnOk result (cnf.new.variables ≡ variables_of circuit.entry.now cnf.old.variables positions) }

@@ -12,7 +12,12 @@ use circuit_theory::{Circuit, Gate};
 use clauses::{Clauses, CnfFault};
 
 /// A literal is the conjunction of two others.
-fn add_conjunction(clauses: &mut Clauses, output: i32, first: i32, second: i32) -> Result<(), CnfFault>
+fn add_conjunction(
+    clauses: &mut Clauses,
+    output: i32,
+    first: i32,
+    second: i32,
+) -> Result<(), CnfFault>
     requires output { IsTrue (is_within MOST_VARIABLES output) }
     requires first { IsTrue (is_within MOST_VARIABLES first) }
     requires second { IsTrue (is_within MOST_VARIABLES second) }
@@ -67,7 +72,12 @@ pub fn add_gates(clauses: &mut Clauses, base: u32, gates: &[Gate]) -> Result<(),
 }
 
 /// Literals are true.
-pub fn add_units(clauses: &mut Clauses, base: u32, literals: &[i32], variables: u32) -> Result<(), CnfFault>
+pub fn add_units(
+    clauses: &mut Clauses,
+    base: u32,
+    literals: &[i32],
+    variables: u32,
+) -> Result<(), CnfFault>
     requires within { IsTrue (clause_within variables literals.now) }
     requires few { base + variables ≤ MOST_VARIABLES }
     requires fits { FitsWith clauses.old (units base literals.now) }
@@ -96,7 +106,11 @@ fn add_links(
 {
     let base = base_before + variables;
     for i in 0..literals.len() {
-        add_equality(clauses, moved(base, literals[i]), moved(base_before, others[i]))?;
+        add_equality(
+            clauses,
+            moved(base, literals[i]),
+            moved(base_before, others[i]),
+        )?;
     }
     Ok(())
 }
@@ -124,6 +138,12 @@ fn add_next(clauses: &mut Clauses, circuit: &Circuit, before: u32) -> Result<(),
     let size = circuit.gates.len() as u32;
     let base_before = before * size;
     add_units(clauses, base_before, circuit.hold.as_slice(), size)?;
-    add_links(clauses, base_before, size, circuit.now.as_slice(), circuit.next.as_slice())?;
+    add_links(
+        clauses,
+        base_before,
+        size,
+        circuit.now.as_slice(),
+        circuit.next.as_slice(),
+    )?;
     add_gates(clauses, base_before + size, circuit.gates.as_slice())
 }

@@ -23,7 +23,12 @@ struct Pair {
 }
 
 /// The next variable is true only where two literals have different values.
-fn add_difference(clauses: &mut Clauses, variables: u32, low: i32, high: i32) -> Result<(), CnfFault>
+fn add_difference(
+    clauses: &mut Clauses,
+    variables: u32,
+    low: i32,
+    high: i32,
+) -> Result<(), CnfFault>
     requires few { variables < MOST_VARIABLES }
     requires low { IsTrue (is_within MOST_VARIABLES low) }
     requires high { IsTrue (is_within MOST_VARIABLES high) }
@@ -36,7 +41,12 @@ fn add_difference(clauses: &mut Clauses, variables: u32, low: i32, high: i32) ->
 }
 
 /// The next variables are true only where literals have different values at two positions.
-fn add_differences(clauses: &mut Clauses, pair: Pair, literals: &[i32], size: u32) -> Result<(), CnfFault>
+fn add_differences(
+    clauses: &mut Clauses,
+    pair: Pair,
+    literals: &[i32],
+    size: u32,
+) -> Result<(), CnfFault>
     requires within { IsTrue (clause_within size literals.now) }
     requires few { pair.variables + length literals.now ≤ MOST_VARIABLES }
     requires low { pair.low + size ≤ MOST_VARIABLES }
@@ -66,7 +76,12 @@ fn write_following(literals: &mut [i32], variables: u32)
 }
 
 /// The states at two positions are different. The buffer has a place for each state bit.
-fn add_pair(clauses: &mut Clauses, circuit: &Circuit, buffer: &mut [i32], pair: Pair) -> Result<(), CnfFault>
+fn add_pair(
+    clauses: &mut Clauses,
+    circuit: &Circuit,
+    buffer: &mut [i32],
+    pair: Pair,
+) -> Result<(), CnfFault>
     requires sound { IsSound circuit.now }
     requires buffer { length buffer.old ≡ length circuit.now.now }
     requires few { pair.variables + length circuit.now.now ≤ MOST_VARIABLES }
@@ -103,7 +118,16 @@ fn add_row(
     let mut used = used_before(circuit, variables, later);
     for earlier in 0..later {
         let low = earlier * size;
-        add_pair(clauses, circuit, buffer, Pair { variables: used, low, high })?;
+        add_pair(
+            clauses,
+            circuit,
+            buffer,
+            Pair {
+                variables: used,
+                low,
+                high,
+            },
+        )?;
         used += circuit.now.len() as u32;
     }
     Ok(())

@@ -1,8 +1,7 @@
-use Rattle.std.proofs.Common.{rules, ◌≡◌, ◌++◌, neg_ℤ, [], ◌∷◌, w32}
+use Rattle.std.proofs.Common.{rules, ◌++◌, neg_ℤ, [], ◌∷◌, w32}
 use mir.Val.{SFits}
 use Rattle.std.proofs.lemmas.Int.{to_z-of_z}
 use Rattle.gates.proofs.Additions.{Clauses, adds-then}
-use Rattle.gates.specs.Adding.{Adds}
 use Rattle.gates.proofs.parts.add_conjunction.Goals as goal
 
 pub returns : goal.returns

@@ -1,4 +1,4 @@
-use Rattle.std.proofs.Common.{rules, ◌≡◌, ℕ, suc, ◌+◌, ◌<◌, pos, ◌++◌, length, drop, get_or, add-one, arith, w32}
+use Rattle.std.proofs.Common.{rules, ◌≡◌, suc, ◌+◌, ◌<◌, pos, ◌++◌, length, drop, get_or, add-one, arith, w32}
 use mir.Val.{SFits}
 use Rattle.std.proofs.lemmas.Int.{to_z-of_z}
 use Rattle.circuit_theory.specs.Unrolled.{equality, links, moved}

@@ -1,4 +1,4 @@
-use Rattle.std.proofs.Common.{◌+◌, drop, length, IsTrue}
+use Rattle.std.proofs.Common.{◌+◌, drop, IsTrue}
 use Rattle.clauses.specs.Literals.{clause_within}
 use Rattle.circuit_theory.specs.Distinct.{differences}
 use Rattle.gates.proofs.Additions.{AddsSoFar}

@@ -1,4 +1,4 @@
-use Rattle.std.proofs.Common.{◌<◌, ◌≤◌, arith}
+use Rattle.std.proofs.Common.{arith}
 use Rattle.std.proofs.lemmas.Result.{err_from_is_err_and}
 use Rattle.circuit_theory.specs.Distinct.{distinct, row_clauses}
 use Rattle.gates.proofs.Additions.{list-fits, list-err}
