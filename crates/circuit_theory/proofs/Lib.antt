@@ -6,4 +6,5 @@ pub mod Literals
 pub mod Models
 pub mod Parts
 pub mod Sizes
+pub mod TermValues
 pub mod Within

@@ -1,11 +1,13 @@
 // What follows from the definitions alone.
-ghost use Rattle.std.specs.Prelude.{ℕ, ◌*◌, ◌≤◌, ◌↔◌, ◌≡◌, ℤ, List, ◌++◌, length, IsTrue};
-ghost use Rattle.clauses.specs.Literals.{clause_words, clauses_within};
-ghost use Rattle.clauses.specs.Models.{Assignment, IsModel};
+ghost use Rattle.std.specs.Prelude.{ℕ, ◌+◌, ◌*◌, ◌≤◌, ◌↔◌, ◌≡◌, ℤ, List, ◌++◌, length, IsTrue};
+ghost use Rattle.clauses.specs.Literals.{clause_words, clauses_within, is_within};
+ghost use Rattle.clauses.specs.Models.{Assignment, IsModel, is_true};
 ghost use Rattle.circuit_theory.specs.declared.circuit.Circuit.{Circuit};
-ghost use Rattle.circuit_theory.specs.Circuits.{AreDistinct, AreSame, IsSound, IsPath};
+ghost use Rattle.circuit_theory.specs.declared.circuit.Gate.{Gate};
+ghost use Rattle.circuit_theory.specs.Circuits.{gates_hold, gates_within, AreDistinct, AreSame, IsSound, IsPath};
 ghost use Rattle.circuit_theory.specs.Distinct.{distinct};
 ghost use Rattle.circuit_theory.specs.Sizes.{distinct_variables, distinct_words, unrolled_variables, unrolled_words};
+ghost use Rattle.circuit_theory.specs.Terms.{built, term_size, term_within, value, Term};
 ghost use Rattle.circuit_theory.specs.Unrolled.{positions_of, unrolled};
 
 /// A law: the models of an unrolled circuit are its paths, and each path is the first part of some model.
@@ -39,4 +41,19 @@ pub fn size_law()
         → positions * length circuit.gates ≤ variables
         → (clause_words (distinct circuit variables positions) ≡ distinct_words circuit positions)
         × IsTrue (clauses_within (distinct_variables circuit variables positions) (distinct circuit variables positions)) }
+{}
+
+/// A law: where the gates of a term are as they should be, their literal has the term's value; and they are as many as
+/// the term takes, and name earlier gates.
+pub fn term_law()
+    ensures value { (values : Assignment) (variables : ℕ) (gates : List Gate) (term : Term)
+        → IsTrue (term_within variables term) → variables ≤ length gates → IsTrue (gates_hold values 0 (built gates term).gates)
+        → is_true values (built gates term).output ≡ value values term }
+    ensures size { (variables : ℕ) (gates : List Gate) (term : Term)
+        → IsTrue (term_within variables term) → variables ≤ length gates
+        → length (built gates term).gates ≡ length gates + term_size term }
+    ensures within { (variables : ℕ) (gates : List Gate) (term : Term)
+        → IsTrue (term_within variables term) → variables ≤ length gates → IsTrue (gates_within 0 gates)
+        → IsTrue (gates_within 0 (built gates term).gates)
+        × IsTrue (is_within (length (built gates term).gates) (built gates term).output) }
 {}
