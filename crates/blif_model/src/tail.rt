@@ -1,0 +1,88 @@
+ghost use Rattle.std.specs.Prelude.{◌≡◌, ◌⊎◌, ◌≤◌, length, map, All, None, Some, IfErr, IfSome, OnOk};
+ghost use Rattle.std.specs.Option.{option_map};
+ghost use Rattle.std.specs.Str.{bytes_eq};
+ghost use Rattle.psl_base.specs.Places.{file_limit};
+ghost use Rattle.blif_model.specs.Names.{names_fault_in, with_mentions};
+ghost use Rattle.blif_model.specs.Rules.{clocking_fault, output_fault};
+ghost use Rattle.blif_model.specs.Shapes.{is_one as one};
+ghost use Rattle.blif_model.specs.Scanning.{IsWithin, word_of};
+ghost use Rattle.blif_model.specs.Words.{clocking_in, mention_in};
+
+use crate::BlifFault;
+use crate::pieces::Span;
+use crate::shapes::{Clocking, is_level, text_of};
+use crate::signals::{Signals, place_in};
+
+/// The fault of a row's output, by that of the first row of its table.
+pub fn output_fault(whole: &[u8], first: Option<bool>, output: Span) -> Option<BlifFault>
+    requires limit { length whole.now ≤ file_limit }
+    requires within { IsWithin whole.now output }
+    ensures { result ≡ output_fault first (word_of whole.now output) }
+{
+    let first = first?;
+    if first != is_one(text_of(whole, output)) {
+        return Some(BlifFault::MixedRows(place_in(whole, output)));
+    }
+    None
+}
+
+fn is_one(text: &[u8]) -> bool
+    ensures { result ≡ one text.now }
+{
+    text == "1".as_bytes()
+}
+
+/// The fault of a latch's type, by the type and control of the first latch that has them.
+pub fn clocking_fault(
+    whole: &[u8],
+    earlier: Option<Clocking>,
+    clocking: Clocking,
+) -> Option<BlifFault>
+    requires limit { length whole.now ≤ file_limit }
+    requires kind { IsWithin whole.now clocking.kind }
+    requires control { IsWithin whole.now clocking.control }
+    requires earlier { IfSome earlier (λ other. IsWithin whole.now other.kind × IsWithin whole.now other.control) }
+    ensures { result ≡ clocking_fault (option_map (clocking_in whole.now) earlier) (Some (clocking_in whole.now clocking)) }
+{
+    if is_level(text_of(whole, clocking.kind)) {
+        return Some(BlifFault::LatchType(place_in(whole, clocking.kind)));
+    }
+    let Some(other) = earlier else {
+        return None;
+    };
+    if is_same(whole, other.kind, clocking.kind)
+        && is_same(whole, other.control, clocking.control)
+    {
+        return None;
+    }
+    Some(BlifFault::TwoClocks(place_in(whole, clocking.kind)))
+}
+
+/// Whether two words have the same text.
+fn is_same(whole: &[u8], left: Span, right: Span) -> bool
+    requires left { IsWithin whole.now left }
+    requires right { IsWithin whole.now right }
+    ensures { result ≡ bytes_eq (word_of whole.now left).text (word_of whole.now right).text }
+{
+    text_of(whole, left) == text_of(whole, right)
+}
+
+/// Names are mentioned in order, up to the first fault.
+pub fn mention_all<'a>(
+    signals: &mut Signals<'a>,
+    whole: &'a [u8],
+    words: &[Span],
+    drives: bool,
+) -> Result<(), BlifFault>
+    requires limit { length whole.now ≤ file_limit }
+    requires words { All (IsWithin whole.now) words.now }
+    ensures named { OnOk result (signals.new ≡ with_mentions signals.old (map (mention_in whole.now drives) words.now)) }
+    ensures faultless { OnOk result (names_fault_in signals.old (map (mention_in whole.now drives) words.now) ≡ None) }
+    ensures fault { IfErr result (λ fault. (fault ≡ BlifFault.NoMemory)
+        ⊎ (names_fault_in signals.old (map (mention_in whole.now drives) words.now) ≡ Some fault)) }
+{
+    for word in words {
+        signals.mention(whole, *word, drives)?;
+    }
+    Ok(())
+}

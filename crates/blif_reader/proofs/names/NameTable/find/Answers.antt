@@ -1,9 +1,0 @@
-use Rattle.std.proofs.Common.{◌∙◌, ap}
-use Rattle.blif_reader.specs.Names.{place_of}
-use Rattle.blif_reader.proofs.Places.{found-within}
-use Rattle.blif_reader.proofs.names.NameTable.find.Goals as goal
-
-pub returns-clause-within : goal.returns-clause-within
-returns-clause-within c =
-    found-within c.args.self.now c.args.name.now c.copied.result
-    (c.copied.ensures ∙ c.get.ensures.value ∙ c.self.invariant c.args.name.now ∙ ap (λ texts. place_of texts c.args.name.now) c.self.view_is)
