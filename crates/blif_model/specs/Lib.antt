@@ -4,6 +4,7 @@ pub mod Lines
 pub mod Meaning
 pub mod Models
 pub mod Names
+pub mod Numbered
 pub mod Pieces
 pub mod Rules
 pub mod Scanning

@@ -1,5 +1,5 @@
-//! What a text in the Berkeley Logic Interchange Format says: its lines word by word, with their places, and the faults of
-//! single lines. The netlist of a whole text does not come yet.
+//! What a text in the Berkeley Logic Interchange Format says: its lines word by word, with their places, its first fault,
+//! and its model, in which names have become numbers.
 #![tactic(auto)]
 
 mod class;
@@ -8,12 +8,19 @@ mod fault;
 mod flags;
 mod head;
 mod laws;
+mod line;
 mod names;
 mod pieces;
+mod reading;
 mod shapes;
 mod signals;
 mod tail;
+mod text;
 
 pub use command::Command;
 pub use fault::BlifFault;
 pub use laws::{naming_law, worked_examples};
+pub use line::{LineKind, ModelLine, TableRows};
+pub use names::NameTable;
+pub use reading::read_model;
+pub use text::ModelText;

@@ -1,4 +1,4 @@
-ghost use Rattle.std.specs.Prelude.{◌≡◌, ◌+◌, ◌<◌, ◌^◌, ◌∷◌, ◌++◌, [], true, length, IfOk, IfSome, OnOk, OnErr};
+ghost use Rattle.std.specs.Prelude.{◌≡◌, ◌+◌, ◌<◌, ◌^◌, ◌∷◌, ◌++◌, [], true, length, slice_get, Some, IfOk, IfSome, OnOk, OnErr};
 ghost use Rattle.blif_model.specs.Names.{is_new, place_of};
 
 use psl_base::NoMemory;
@@ -45,6 +45,14 @@ impl<'a> NameTable<'a> {
         ensures { result ≡ length self.now }
     {
         self.texts.as_slice().len()
+    }
+
+    /// The name of a number.
+    pub fn at(&self, number: usize) -> &'a [u8]
+        requires { number < length self.now }
+        ensures { slice_get self.now number ≡ Some result.now }
+    {
+        self.texts[number]
     }
 
     /// The number of a name, if it is there.
