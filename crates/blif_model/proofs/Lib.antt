@@ -1,6 +1,12 @@
 pub mod ExamplesHold
+pub mod Following
 pub mod Going
 pub mod Growing
+pub mod Knowing
 pub mod Latches
+pub mod Mentioning
 pub mod Naming
 pub mod Places
+pub mod Running
+pub mod Stepping
+pub mod Undriving

@@ -28,16 +28,16 @@ or-false true = refl
 or-false false = refl
 
 -- whether the name of a number is driven
-abbrev driven_at : Named → Option ℕ → Bool
+abbrev pub driven_at : Named → Option ℕ → Bool
 driven_at named None = false
 driven_at named (Some number) = get_or named.driven number false
 
 -- what is kept says what the mentions say
-record Tracks (mentions : List Mention) (named : Named) : Type 0 where
-  names : names_of mentions ≡ named.names
-  sized : length named.driven ≡ length named.names
-  mentioned : (word : PlacedToken) → is_mentioned mentions word ≡ not (is_none (place_of named.names word.text))
-  driven : (word : PlacedToken) → is_driven mentions word ≡ driven_at named (place_of named.names word.text)
+pub record Tracks (mentions : List Mention) (named : Named) : Type 0 where
+  pub names : names_of mentions ≡ named.names
+  pub sized : length named.driven ≡ length named.names
+  pub mentioned : (word : PlacedToken) → is_mentioned mentions word ≡ not (is_none (place_of named.names word.text))
+  pub driven : (word : PlacedToken) → is_driven mentions word ≡ driven_at named (place_of named.names word.text)
 
 -- the rule of a mention, by what is kept
 by-found : (limit twice drives : Bool) (named : Named) (place : Option ℕ) → limit ≡ nat_le signal_limit (length named.names) → twice ≡ driven_at named place
@@ -46,25 +46,25 @@ by-found limit twice true named None at is = rw (is, at) refl
 by-found limit twice false named None at is = rw at refl
 by-found limit twice drives named (Some number) at is = rw is refl
 
-rule-same : (before : List Mention) (named : Named) (mention : Mention) → Tracks before named → name_rule before mention ≡ rule_of named mention.word.text mention.drives
+rule-same : (before : List Mention) (named : Named) (mention : Mention) → Tracks before named → name_rule before mention ≡ rule_of named mention
 rule-same before named mention tracks =
     rw (tracks.mentioned mention.word)
     (by-found (nat_le signal_limit (length (names_of before))) (is_driven before mention.word) mention.drives named (place_of named.names mention.word.text)
     (ap (λ names. nat_le signal_limit (length names)) tracks.names) (tracks.driven mention.word))
 
 -- one mention more: its name is kept
-names-by : (named : Named) (name : List ℕ) (drives any : Bool) (place : Option ℕ) → any ≡ not (is_none place)
-    → cond any named.names (named.names ++ name ∷ []) ≡ (with_place named name drives place).names
-names-by named name drives any None is = rw is refl
-names-by named name drives any (Some number) is = rw is refl
+names-by : (named : Named) (mention : Mention) (any : Bool) (place : Option ℕ) → any ≡ not (is_none place)
+    → cond any named.names (named.names ++ mention.word.text ∷ []) ≡ (with_place named mention place).names
+names-by named mention any None is = rw is refl
+names-by named mention any (Some number) is = rw is refl
 
 names-more : (before : List Mention) (named : Named) (mention : Mention) → Tracks before named
-    → names_of (before ++ mention ∷ []) ≡ (with_mention named mention.word.text mention.drives).names
+    → names_of (before ++ mention ∷ []) ≡ (with_mention named mention).names
 names-more before named mention tracks =
     let name = mention.word.text in
     fold-append (λ names m. with_name names m.word.text) [] before (mention ∷ [])
     ∙ ap (λ names. with_name names name) tracks.names
-    ∙ names-by named name mention.drives (list_any (bytes_eq name) named.names) (place_of named.names name) (any-position (bytes_eq name) 0 named.names)
+    ∙ names-by named mention (list_any (bytes_eq name) named.names) (place_of named.names name) (any-position (bytes_eq name) 0 named.names)
 
 -- the text that has a place is there
 place_of-at : (i n : ℕ) (names : List (List ℕ)) (name : List ℕ) → position_from (λ other. bytes_eq name other) i names ≡ Some n → (i ≤ n) × (get_or names (n - i) [] ≡ name)
@@ -96,13 +96,15 @@ mentioned-new true found n (Some k) = refl
 mentioned-new false found n None = refl
 mentioned-new false found n (Some k) = refl
 
-mentioned-by : (named : Named) (name word : List ℕ) (drives : Bool) (place : Option ℕ) → place_of named.names name ≡ place
-    → (not (is_none (place_of named.names word)) || bytes_eq word name) ≡ not (is_none (place_of (with_place named name drives place).names word))
-mentioned-by named name word drives None is =
+mentioned-by : (named : Named) (mention : Mention) (word : List ℕ) (place : Option ℕ) → place_of named.names mention.word.text ≡ place
+    → (not (is_none (place_of named.names word)) || bytes_eq word mention.word.text) ≡ not (is_none (place_of (with_place named mention place).names word))
+mentioned-by named mention word None is =
+    let name = mention.word.text in
     rw (bytes_eq-sym word name)
     (mentioned-new (bytes_eq name word) true (length named.names) (place_of named.names word)
     ∙ ap (λ o. not (is_none o)) (place_of-push named.names name word (length named.names) refl (ap is_none is)))
-mentioned-by named name word drives (Some number) is =
+mentioned-by named mention word (Some number) is =
+    let name = mention.word.text in
     elim (cases_Bool (bytes_eq word name)) [
       | inl same ↦
           let here : place_of named.names word ≡ Some number = ap (place_of named.names) ((bytes_eq-Decides word name).0 same) ∙ is in
@@ -125,91 +127,94 @@ by-both false true = refl
 by-both false false = refl
 
 -- and whether some word is driven
-driven-new : (named : Named) (name word : List ℕ) (drives same : Bool) (o : Option ℕ) → length named.driven ≡ length named.names → same ≡ bytes_eq name word
-    → place_of named.names word ≡ o → place_of named.names name ≡ None
-    → (driven_at named o || (drives && same)) ≡ driven_at (with_place named name drives None) (cond same (Some (length named.names)) o)
-driven-new named name word drives true o sized is at none =
-    let none_here : o ≡ None = sym at ∙ ap (place_of named.names) (sym ((bytes_eq-Decides name word).0 (sym is))) ∙ none in
-    rw none_here (by-drives drives ∙ sym (get_or_push named.driven drives false (length named.names) sized))
-driven-new named name word drives false None sized is at none = elim drives as (λ b. (false || (b && false)) ≡ false) [ true ↦ refl | false ↦ refl ]
-driven-new named name word drives false (Some k) sized is at none =
+driven-new : (named : Named) (mention : Mention) (word : List ℕ) (same : Bool) (o : Option ℕ) → length named.driven ≡ length named.names → same ≡ bytes_eq mention.word.text word
+    → place_of named.names word ≡ o → place_of named.names mention.word.text ≡ None
+    → (driven_at named o || (mention.drives && same)) ≡ driven_at (with_place named mention None) (cond same (Some (length named.names)) o)
+driven-new named mention word true o sized is at none =
+    let none_here : o ≡ None = sym at ∙ ap (place_of named.names) (sym ((bytes_eq-Decides mention.word.text word).0 (sym is))) ∙ none in
+    rw none_here (by-drives mention.drives ∙ sym (get_or_push named.driven mention.drives false (length named.names) sized))
+driven-new named mention word false None sized is at none = elim mention.drives as (λ b. (false || (b && false)) ≡ false) [ true ↦ refl | false ↦ refl ]
+driven-new named mention word false (Some k) sized is at none =
     let inside : k < length named.driven = omega (arith, place_of-within named.names word k at) in
-    by-not (get_or named.driven k false) drives ∙ sym (get_or_append_left named.driven (drives ∷ []) false k inside)
+    by-not (get_or named.driven k false) mention.drives ∙ sym (get_or_append_left named.driven (mention.drives ∷ []) false k inside)
 
-driven-old : (named : Named) (name word : List ℕ) (drives same : Bool) (number : ℕ) (o : Option ℕ) → length named.driven ≡ length named.names → same ≡ bytes_eq word name
-    → place_of named.names word ≡ o → place_of named.names name ≡ Some number
-    → (driven_at named o || (drives && same)) ≡ driven_at (with_place named name drives (Some number)) o
-driven-old named name word drives true number o sized is at found =
+driven-old : (named : Named) (mention : Mention) (word : List ℕ) (same : Bool) (number : ℕ) (o : Option ℕ) → length named.driven ≡ length named.names → same ≡ bytes_eq word mention.word.text
+    → place_of named.names word ≡ o → place_of named.names mention.word.text ≡ Some number
+    → (driven_at named o || (mention.drives && same)) ≡ driven_at (with_place named mention (Some number)) o
+driven-old named mention word true number o sized is at found =
+    let name = mention.word.text in
     let here : o ≡ Some number = sym at ∙ ap (place_of named.names) ((bytes_eq-Decides word name).0 (sym is)) ∙ found in
     let inside : number < length named.driven = omega (arith, place_of-within named.names name number found) in
-    rw here (by-both (get_or named.driven number false) drives ∙ sym (get_or-set_same named.driven number (get_or named.driven number false || drives) false inside))
-driven-old named name word drives false number None sized is at found = elim drives as (λ b. (false || (b && false)) ≡ false) [ true ↦ refl | false ↦ refl ]
-driven-old named name word drives false number (Some k) sized is at found =
+    rw here (by-both (get_or named.driven number false) mention.drives ∙ sym (get_or-set_same named.driven number (get_or named.driven number false || mention.drives) false inside))
+driven-old named mention word false number None sized is at found = elim mention.drives as (λ b. (false || (b && false)) ≡ false) [ true ↦ refl | false ↦ refl ]
+driven-old named mention word false number (Some k) sized is at found =
+    let name = mention.word.text in
     let apart : k ≢ number = λ same.
     let one : word ≡ name = one-place named.names word name number (at ∙ ap Some same) found in
     let equal : bytes_eq word name ≡ true = (bytes_eq-Decides word name).1 one in
     absurd (false≢true (is ∙ equal)) in
-    by-not (get_or named.driven k false) drives ∙ sym (get_or-set_other named.driven number k (get_or named.driven number false || drives) false apart)
+    by-not (get_or named.driven k false) mention.drives ∙ sym (get_or-set_other named.driven number k (get_or named.driven number false || mention.drives) false apart)
 
-driven-by : (named : Named) (name word : List ℕ) (drives : Bool) (place : Option ℕ) → length named.driven ≡ length named.names → place_of named.names name ≡ place
-    → (driven_at named (place_of named.names word) || (drives && bytes_eq word name)) ≡ driven_at (with_place named name drives place) (place_of (with_place named name drives place).names word)
-driven-by named name word drives None sized is =
+driven-by : (named : Named) (mention : Mention) (word : List ℕ) (place : Option ℕ) → length named.driven ≡ length named.names → place_of named.names mention.word.text ≡ place
+    → (driven_at named (place_of named.names word) || (mention.drives && bytes_eq word mention.word.text)) ≡ driven_at (with_place named mention place) (place_of (with_place named mention place).names word)
+driven-by named mention word None sized is =
+    let name = mention.word.text in
     rw (bytes_eq-sym word name)
-    (driven-new named name word drives (bytes_eq name word) (place_of named.names word) sized refl refl is
-    ∙ ap (driven_at (with_place named name drives None)) (place_of-push named.names name word (length named.names) refl (ap is_none is)))
-driven-by named name word drives (Some number) sized is =
-    driven-old named name word drives (bytes_eq word name) number (place_of named.names word) sized refl refl is
+    (driven-new named mention word (bytes_eq name word) (place_of named.names word) sized refl refl is
+    ∙ ap (driven_at (with_place named mention None)) (place_of-push named.names name word (length named.names) refl (ap is_none is)))
+driven-by named mention word (Some number) sized is =
+    driven-old named mention word (bytes_eq word mention.word.text) number (place_of named.names word) sized refl refl is
 
-sized-by : (named : Named) (name : List ℕ) (drives : Bool) (place : Option ℕ) → length named.driven ≡ length named.names
-    → length (with_place named name drives place).driven ≡ length (with_place named name drives place).names
-sized-by named name drives None sized = omega (arith, length-append named.driven (drives ∷ []), length-append named.names (name ∷ []))
-sized-by named name drives (Some number) sized = length-set named.driven number (get_or named.driven number false || drives) ∙ sized
+sized-by : (named : Named) (mention : Mention) (place : Option ℕ) → length named.driven ≡ length named.names
+    → length (with_place named mention place).driven ≡ length (with_place named mention place).names
+sized-by named mention None sized = omega (arith, length-append named.driven (mention.drives ∷ []), length-append named.names (mention.word.text ∷ []))
+sized-by named mention (Some number) sized = length-set named.driven number (get_or named.driven number false || mention.drives) ∙ sized
 
-tracks-more : (before : List Mention) (named : Named) (mention : Mention) → Tracks before named → Tracks (before ++ mention ∷ []) (with_mention named mention.word.text mention.drives)
+tracks-more : (before : List Mention) (named : Named) (mention : Mention) → Tracks before named → Tracks (before ++ mention ∷ []) (with_mention named mention)
 tracks-more before named mention tracks =
     let name = mention.word.text in
     record {
       names = names-more before named mention tracks;
-      sized = sized-by named name mention.drives (place_of named.names name) tracks.sized;
+      sized = sized-by named mention (place_of named.names name) tracks.sized;
       mentioned = λ word.
           any-push (is_of word) before mention
           ∙ ap (λ b. b || is_of word mention) (tracks.mentioned word)
-          ∙ mentioned-by named name word.text mention.drives (place_of named.names name) refl;
+          ∙ mentioned-by named mention word.text (place_of named.names name) refl;
       driven = λ word.
           any-push (λ other. other.drives && is_of word other) before mention
           ∙ ap (λ b. b || (mention.drives && is_of word mention)) (tracks.driven word)
-          ∙ driven-by named name word.text mention.drives (place_of named.names name) tracks.sized refl;
+          ∙ driven-by named mention word.text (place_of named.names name) tracks.sized refl;
     }
 
-tracks-none : Tracks [] nothing_named
-tracks-none = record { names = refl; sized = refl; mentioned = λ word. refl; driven = λ word. refl }
+tracks-none : (whole : List ℕ) → Tracks [] (nothing_named whole)
+tracks-none whole = record { names = refl; sized = refl; mentioned = λ word. refl; driven = λ word. refl }
 
-abbrev step : Named → Mention → Named
-step named mention = with_mention named mention.word.text mention.drives
-
-tracks-by : (before mentions : List Mention) (named : Named) → Tracks before named → Tracks (before ++ mentions) (fold step named mentions)
+tracks-by : (before mentions : List Mention) (named : Named) → Tracks before named → Tracks (before ++ mentions) (fold with_mention named mentions)
 tracks-by before [] named tracks = subst (λ (list : List Mention). Tracks list named) (sym (append-nil before)) tracks
 tracks-by before (mention ∷ mentions) named tracks =
-    subst (λ (list : List Mention). Tracks list (fold step (step named mention) mentions)) (append_assoc before (mention ∷ []) mentions)
-    (tracks-by (before ++ mention ∷ []) mentions (step named mention) (tracks-more before named mention tracks))
+    subst (λ (list : List Mention). Tracks list (fold with_mention (with_mention named mention) mentions)) (append_assoc before (mention ∷ []) mentions)
+    (tracks-by (before ++ mention ∷ []) mentions (with_mention named mention) (tracks-more before named mention tracks))
 
-pub naming-names : (mentions : List Mention) → names_of mentions ≡ (named_by mentions).names
-naming-names mentions = (tracks-by [] mentions nothing_named tracks-none).names
+pub tracks-named : (whole : List ℕ) (mentions : List Mention) → Tracks mentions (named_by whole mentions)
+tracks-named whole mentions = tracks-by [] mentions (nothing_named whole) (tracks-none whole)
 
-pub naming-rule : (before : List Mention) (mention : Mention) → name_rule before mention ≡ rule_of (named_by before) mention.word.text mention.drives
-naming-rule before mention = rule-same before (named_by before) mention (tracks-by [] before nothing_named tracks-none)
+pub naming-names : (whole : List ℕ) (mentions : List Mention) → names_of mentions ≡ (named_by whole mentions).names
+naming-names whole mentions = (tracks-named whole mentions).names
 
-pub naming-fault : (before mentions : List Mention) → names_fault before mentions ≡ names_fault_in (named_by before) mentions
-naming-fault before [] = refl
-naming-fault before (mention ∷ mentions) =
-    let here = naming-rule before mention in
-    let next : named_by (before ++ mention ∷ []) ≡ step (named_by before) mention = fold-append step nothing_named before (mention ∷ []) in
-    let later = naming-fault (before ++ mention ∷ []) mentions ∙ ap (λ named. names_fault_in named mentions) next in
+pub naming-rule : (whole : List ℕ) (before : List Mention) (mention : Mention) → name_rule before mention ≡ rule_of (named_by whole before) mention
+naming-rule whole before mention = rule-same before (named_by whole before) mention (tracks-named whole before)
+
+pub naming-fault : (whole : List ℕ) (before mentions : List Mention) → names_fault before mentions ≡ names_fault_in (named_by whole before) mentions
+naming-fault whole before [] = refl
+naming-fault whole before (mention ∷ mentions) =
+    let here = naming-rule whole before mention in
+    let next : named_by whole (before ++ mention ∷ []) ≡ with_mention (named_by whole before) mention = fold-append with_mention (nothing_named whole) before (mention ∷ []) in
+    let later = naming-fault whole (before ++ mention ∷ []) mentions ∙ ap (λ named. names_fault_in named mentions) next in
     rw (here, later) refl
 
-pub naming-more : (before mentions : List Mention) → named_by (before ++ mentions) ≡ with_mentions (named_by before) mentions
-naming-more before [] = ap named_by (append-nil before)
-naming-more before (mention ∷ mentions) =
-    ap named_by (sym (append_assoc before (mention ∷ []) mentions))
-    ∙ naming-more (before ++ mention ∷ []) mentions
-    ∙ ap (λ named. with_mentions named mentions) (fold-append step nothing_named before (mention ∷ []))
+pub naming-more : (whole : List ℕ) (before mentions : List Mention) → named_by whole (before ++ mentions) ≡ with_mentions (named_by whole before) mentions
+naming-more whole before [] = ap (named_by whole) (append-nil before)
+naming-more whole before (mention ∷ mentions) =
+    ap (named_by whole) (sym (append_assoc before (mention ∷ []) mentions))
+    ∙ naming-more whole (before ++ mention ∷ []) mentions
+    ∙ ap (λ named. with_mentions named mentions) (fold-append with_mention (nothing_named whole) before (mention ∷ []))

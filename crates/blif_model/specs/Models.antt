@@ -11,11 +11,14 @@ pub record Mention : Type 0 where
   pub word : PlacedToken
   pub drives : Bool
 
+abbrev pub mention_as : Bool → PlacedToken → Mention
+mention_as drives word = record { word = word; drives = drives }
+
 abbrev pub driven : PlacedToken → Mention
-driven word = record { word = word; drives = true }
+driven word = mention_as true word
 
 abbrev pub used : PlacedToken → Mention
-used word = record { word = word; drives = false }
+used word = mention_as false word
 
 -- whether a word is that of a mention
 abbrev pub is_of : PlacedToken → Mention → Bool

@@ -1,6 +1,6 @@
 -- A model with numbers in place of its names: each name is its place among the names in the order of their first
 -- mention.
-use Rattle.std.specs.Prelude.{◌≡◌, ℕ, List, [], ◌∷◌, ◌++◌, map, length, Option, None, Some, Ok}
+use Rattle.std.specs.Prelude.{◌≡◌, ℕ, List, [], ◌∷◌, ◌++◌, map, length, Ok}
 use Rattle.psl_base.specs.Tokens.{PlacedToken}
 use Rattle.flattening.specs.declared.model.Item.{Item}
 use Rattle.flattening.specs.declared.model.Item.TheVariants.{Own}
@@ -9,16 +9,8 @@ use Rattle.blif_model.specs.declared.line.LineKind.TheVariants as kinds
 use Rattle.blif_model.specs.declared.line.ModelLine.{ModelLine}
 use Rattle.blif_model.specs.declared.text.ModelText.{ModelText}
 use Rattle.blif_model.specs.Meaning.{model_of}
-use Rattle.blif_model.specs.Models.{Gate, Model, Statement, IsInputs, IsOutputs, IsLatch, IsTable, names_of}
-use Rattle.blif_model.specs.Names.{place_of}
-
--- the number of a word's name; 0 where it is none of the names
-abbrev pub number_at : Option ℕ → ℕ
-number_at None = 0
-number_at (Some number) = number
-
-abbrev pub number_of : List (List ℕ) → PlacedToken → ℕ
-number_of names word = number_at (place_of names word.text)
+use Rattle.blif_model.specs.Models.{Model, Statement, IsInputs, IsOutputs, IsLatch, IsTable, names_of}
+use Rattle.blif_model.specs.Names.{number_of}
 
 -- the words that a statement mentions, in order
 abbrev pub words_in : Statement → List PlacedToken

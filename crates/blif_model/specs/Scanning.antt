@@ -31,7 +31,7 @@ IsWithin whole span = span.at + span.len ≤ length whole
 abbrev pub IsFoundWithin : List ℕ → Found → Type 0
 IsFoundWithin whole (founds.Word span) = IsWithin whole span
 IsFoundWithin whole founds.LineEnd = Unit {0}
-IsFoundWithin whole (founds.Backslash at) = Unit {0}
+IsFoundWithin whole (founds.Backslash at) = at ≤ length whole
 IsFoundWithin whole founds.Nothing = Unit {0}
 
 -- the first piece was taken, or there is none
@@ -54,3 +54,7 @@ IsTaken takens.Line whole words old new = lines_from [] old ≡ record { words =
 IsTaken (takens.Stray at) whole words old new =
     (lines_from [] old ≡ record { words = map (word_of whole) words; stray = Some (place_at whole at) } ∷ []) × (new ≡ [])
 IsTaken takens.Nothing whole words old new = (lines_from [] old ≡ []) × (new ≡ [])
+
+abbrev pub IsTakenWithin : List ℕ → Taken → Type 0
+IsTakenWithin whole (takens.Stray at) = at ≤ length whole
+IsTakenWithin whole taken = Unit {0}

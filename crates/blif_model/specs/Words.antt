@@ -1,14 +1,15 @@
 -- What the spans of words stand for.
-use Rattle.std.specs.Prelude.{ℕ, Bool, ◌||◌, cond, List, Option, None, Some}
+use Rattle.std.specs.Prelude.{ℕ, Bool, true, false, ◌||◌, cond, List, [], ◌∷◌, ◌++◌, map, Option, None, Some, IfSome}
 use Rattle.std.specs.Option.{option_map}
 use Rattle.netlist.specs.declared.latch.Init.{Init}
+use Rattle.netlist.specs.declared.rows.Mark.{Mark}
 use Rattle.blif_model.specs.declared.pieces.Span.{Span}
 use Rattle.blif_model.specs.declared.shapes.Clocking.{Clocking}
 use Rattle.blif_model.specs.declared.shapes.LatchWords.{LatchWords}
-use Rattle.blif_model.specs.Models.{Mention}
-use Rattle.blif_model.specs.Scanning.{word_of}
+use Rattle.blif_model.specs.Models.{Mention, mention_as}
+use Rattle.blif_model.specs.Scanning.{IsWithin, word_of}
 use Rattle.blif_model.specs.Shapes as shapes
-use Rattle.blif_model.specs.Shapes.{LatchParts, is_edge, is_level}
+use Rattle.blif_model.specs.Shapes.{LatchParts, Row, is_edge, is_level}
 
 abbrev pub clocking_in : List ℕ → Clocking → shapes.Clocking
 clocking_in whole clocking = record { kind = word_of whole clocking.kind; control = word_of whole clocking.control }
@@ -34,6 +35,22 @@ with_clocking kind control (Some latch) = Some (record latch { clocking = Some (
 abbrev pub timed_latch : List ℕ → Span → Span → Option LatchWords → Option LatchWords
 timed_latch text kind control latch = cond (is_edge text || is_level text) (with_clocking kind control latch) None
 
--- the mentions of words that a line drives, or uses
+-- the mention of a word that a line drives, or uses
 abbrev pub mention_in : List ℕ → Bool → Span → Mention
-mention_in whole drives word = record { word = word_of whole word; drives = drives }
+mention_in whole drives word = mention_as drives (word_of whole word)
+
+-- the mentions of a table: its inputs, and behind them its output
+abbrev pub table_mentions : List ℕ → List Span → Span → List Mention
+table_mentions whole inputs output = map (mention_as false) (map (word_of whole) inputs) ++ mention_in whole true output ∷ []
+
+-- a row by its marks and its output
+abbrev pub row_with : List ℕ → List Mark → Span → Row
+row_with whole marks output = record { marks = marks; output = word_of whole output }
+
+-- the spans of a latch are of the text
+abbrev pub IsClockingWithin : List ℕ → Clocking → Type 0
+IsClockingWithin whole clocking = IsWithin whole clocking.kind × IsWithin whole clocking.control
+
+abbrev pub IsLatchWithin : List ℕ → LatchWords → Type 0
+IsLatchWithin whole latch =
+    IsWithin whole latch.input × IsWithin whole latch.output × IfSome latch.clocking (IsClockingWithin whole)

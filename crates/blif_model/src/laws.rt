@@ -1,6 +1,11 @@
-ghost use Rattle.std.specs.Prelude.{◌≡◌, List, ◌++◌};
+ghost use Rattle.std.specs.Prelude.{◌≡◌, ℕ, List, ◌++◌, Ok, Err};
+ghost use Rattle.blif_model.specs.declared.fault.BlifFault.{BlifFault};
+ghost use Rattle.blif_model.specs.Known.{Known, nothing_known, running, text_of};
+ghost use Rattle.blif_model.specs.Lines.{lines};
+ghost use Rattle.blif_model.specs.Meaning.{model_of};
 ghost use Rattle.blif_model.specs.Models.{Mention, names_of};
 ghost use Rattle.blif_model.specs.Names.{named_by, names_fault_in, rule_of, with_mentions};
+ghost use Rattle.blif_model.specs.Numbered.{Says};
 ghost use Rattle.blif_model.specs.Rules.{name_rule, names_fault};
 ghost use Rattle.blif_model.specs.Examples.{LinesAreJoined, BackslashIsPart, NamesInOrder, UnknownWord, ModelBehindInputs};
 ghost use Rattle.blif_model.specs.Examples.{RowWithoutTable, RowOfAnotherOutput, LatchOfOneWord, LatchOfALevel};
@@ -29,11 +34,19 @@ pub fn worked_examples()
 
 /// A law of the definitions: the names that are kept say of mentions what the mentions before them say.
 pub fn naming_law()
-    ensures names { (mentions : List Mention) → names_of mentions ≡ (named_by mentions).names }
-    ensures rule { (before : List Mention) (mention : Mention) → name_rule before mention
-        ≡ rule_of (named_by before) mention.word.text mention.drives }
-    ensures fault { (before mentions : List Mention) → names_fault before mentions
-        ≡ names_fault_in (named_by before) mentions }
-    ensures more { (before mentions : List Mention) → named_by (before ++ mentions)
-        ≡ with_mentions (named_by before) mentions }
+    ensures names { (whole : List ℕ) (mentions : List Mention) → names_of mentions ≡ (named_by whole mentions).names }
+    ensures rule { (whole : List ℕ) (before : List Mention) (mention : Mention) → name_rule before mention
+        ≡ rule_of (named_by whole before) mention }
+    ensures fault { (whole : List ℕ) (before mentions : List Mention) → names_fault before mentions
+        ≡ names_fault_in (named_by whole before) mentions }
+    ensures more { (whole : List ℕ) (before mentions : List Mention) → named_by whole (before ++ mentions)
+        ≡ with_mentions (named_by whole before) mentions }
+{}
+
+/// A law of the definitions: what is known when the lines of a text are over is what the text says.
+pub fn reading_law()
+    ensures says { (whole : List ℕ) (known : Known) → running (nothing_known whole) (lines whole) ≡ Ok known
+        → Says whole (text_of known) }
+    ensures refuses { (whole : List ℕ) (fault : BlifFault) → running (nothing_known whole) (lines whole) ≡ Err fault
+        → model_of whole ≡ Err fault }
 {}

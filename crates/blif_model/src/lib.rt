@@ -11,15 +11,17 @@ mod laws;
 mod line;
 mod names;
 mod pieces;
+mod reader;
 mod reading;
 mod shapes;
 mod signals;
+mod table;
 mod tail;
 mod text;
 
 pub use command::Command;
 pub use fault::BlifFault;
-pub use laws::{naming_law, worked_examples};
+pub use laws::{naming_law, reading_law, worked_examples};
 pub use line::{LineKind, ModelLine, TableRows};
 pub use names::NameTable;
 pub use reading::read_model;

@@ -2,7 +2,7 @@ ghost use Rattle.std.specs.Prelude.{◌≡◌, ◌+◌, ◌<◌, ◌≤◌, ◌�
 ghost use Rattle.psl_base.specs.Places.{file_limit};
 ghost use Rattle.psl_base.specs.Tokens.{token_at};
 ghost use Rattle.blif_model.specs.Pieces.{class_of, is_part as part, pieces, pieces_from, Word};
-ghost use Rattle.blif_model.specs.Scanning.{IsFoundWithin, IsNext, IsPieceStart, IsTaken, IsWithin};
+ghost use Rattle.blif_model.specs.Scanning.{IsFoundWithin, IsNext, IsPieceStart, IsTaken, IsTakenWithin, IsWithin};
 ghost use Rattle.blif_model.specs.declared.class.Class.{Class};
 
 use crate::class::{Class, class_at};
@@ -110,6 +110,7 @@ impl<'a> Pieces<'a> {
         ensures whole { self.new.whole ≡ self.old.whole }
         ensures taken { IfOk result (λ taken. IsTaken taken self.old.whole words.new.items self.old.pieces self.new.pieces) }
         ensures within { IfOk result (λ _. All (IsWithin self.old.whole) words.new.items) }
+        ensures stray { IfOk result (IsTakenWithin self.old.whole) }
         ensures fewer { length self.new.pieces ≤ length self.old.pieces }
     {
         words.clear();

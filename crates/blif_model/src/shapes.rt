@@ -1,9 +1,9 @@
-ghost use Rattle.std.specs.Prelude.{◌≡◌, ◌+◌, ◌≤◌, ◌<◌, length, map, All, is_none, not};
+ghost use Rattle.std.specs.Prelude.{◌≡◌, ◌+◌, ◌≤◌, ◌<◌, length, map, All, is_none, not, IfSome};
 ghost use Rattle.std.specs.List.{list_all};
 ghost use Rattle.std.specs.Option.{option_map};
 ghost use Rattle.blif_model.specs.Scanning.{IsWithin, word_of};
 ghost use Rattle.blif_model.specs.Shapes.{are_marks, init_of, is_bit, is_edge, is_level, is_mark, latch_of, row_of};
-ghost use Rattle.blif_model.specs.Words.{latch_in, plain_latch, timed_latch};
+ghost use Rattle.blif_model.specs.Words.{IsLatchWithin, latch_in, plain_latch, timed_latch};
 
 use crate::pieces::Span;
 use netlist::Init;
@@ -33,14 +33,14 @@ pub fn is_row(whole: &[u8], words: &[Span], width: usize) -> bool
 }
 
 /// `0` or `1`.
-fn is_bit(text: &[u8]) -> bool
+pub fn is_bit(text: &[u8]) -> bool
     ensures { result ≡ is_bit text.now }
 {
     text == "0".as_bytes() || text == "1".as_bytes()
 }
 
 /// So many bytes, each `0`, `1` or `-`.
-fn are_marks(text: &[u8], width: usize) -> bool
+pub fn are_marks(text: &[u8], width: usize) -> bool
     ensures { result ≡ are_marks width text.now }
 {
     text.len() == width && has_marks_only(text)
@@ -77,7 +77,8 @@ pub struct LatchWords {
 /// The latch that words are.
 pub fn latch_of(whole: &[u8], words: &[Span]) -> Option<LatchWords>
     requires { All (IsWithin whole.now) words.now }
-    ensures { option_map (latch_in whole.now) result ≡ latch_of (map (word_of whole.now) words.now) }
+    ensures latch { option_map (latch_in whole.now) result ≡ latch_of (map (word_of whole.now) words.now) }
+    ensures within { IfSome result (IsLatchWithin whole.now) }
 {
     match words {
         [input, output] => plain(*input, *output, Some(Init::Free)),
