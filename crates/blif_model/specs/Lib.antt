@@ -1,5 +1,6 @@
 pub mod Commands
 pub mod Examples
+pub mod Faults
 pub mod Known
 pub mod Lines
 pub mod Meaning

@@ -1,6 +1,6 @@
 ghost use Rattle.std.specs.Prelude.{◌≡◌};
 
-use psl_base::{NoMemory, Place};
+use psl_base::{NoMemory, Place, ReadAllFault};
 use thiserror::Error;
 
 /// Why a netlist was not read. A fault of the text has the place of its word. Of several in one line the first in it is
@@ -81,5 +81,20 @@ impl From<NoMemory> for BlifFault {
 
     fn from(_refused: NoMemory) -> BlifFault {
         BlifFault::NoMemory
+    }
+}
+
+impl From<ReadAllFault> for BlifFault {
+    ghost use Rattle.std.specs.Prelude.{◌≡◌};
+    ghost use Rattle.blif_model.specs.Faults.{fault_of};
+
+    ghost from_gives = { λ fault new. new ≡ fault_of fault };
+
+    fn from(fault: ReadAllFault) -> BlifFault {
+        match fault {
+            ReadAllFault::ReadFault => BlifFault::ReadFault,
+            ReadAllFault::TooLong => BlifFault::TooLong,
+            ReadAllFault::NoMemory => BlifFault::NoMemory,
+        }
     }
 }
