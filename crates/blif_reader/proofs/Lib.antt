@@ -1,0 +1,12 @@
+pub mod Texts
+pub mod Mentioned
+pub mod Holding
+pub mod Numbers
+pub mod Counting
+pub mod Counts
+pub mod Few
+pub mod Lines
+pub mod Sound
+pub mod Faulting
+pub mod Readings
+pub mod Building

@@ -1,0 +1,4 @@
+pub mod Design
+pub mod Building
+pub mod Meaning
+pub mod Told
