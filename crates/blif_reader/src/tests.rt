@@ -21,10 +21,14 @@ fn reads_a_netlist_and_finds_a_cycle(rt: HostRuntime) -> Result<(), Fail> {
     let text = ".inputs a\n.latch b c 0\n.names a c b\n11 1\n0- 1\n.outputs b\n.end\n";
     let netlist = read(alloc, text)?.ok().ok_or("a fault")?;
     assert_eq!(rt; netlist.signals(), 3);
-    assert_eq!(rt; netlist.inputs().as_slice(), [0]);
-    assert_eq!(rt; netlist.latches().at(0).output, 2);
-    assert_eq!(rt; netlist.tables().at(0).inputs.as_slice(), [0, 2]);
-    assert_eq!(rt; netlist.names().at(1).text.as_slice(), b"b");
+    assert!(rt; matches!(netlist.inputs().as_slice(), [0]));
+    let latch = netlist.latches().as_slice().first().ok_or("no latch")?;
+    assert_eq!(rt; (latch.input, latch.output), (1, 2));
+    let table = netlist.tables().as_slice().first().ok_or("no table")?;
+    assert!(rt; matches!(table.inputs.as_slice(), [0, 2]));
+    assert_eq!(rt; (table.output, table.rows.len(), table.value), (1, 2, true));
+    let name = netlist.names().as_slice().first().ok_or("no name")?;
+    assert!(rt; matches!(name.text.as_slice(), b"a"));
 
     let cycle = ".model k\n.names b a\n1 1\n.names a b\n1 1\n.end\n";
     let fault = read(alloc, cycle)?.err().ok_or("no fault")?;

@@ -21,7 +21,7 @@ fn orders_a_chain_and_finds_a_cycle(rt: HostRuntime) -> Result<(), Fail> {
     tables.push(table(alloc, 1, 0)?)?;
     tables.push(table(alloc, 2, 1)?)?;
     let order = order_tables(alloc, 4, &tables)?.ok().ok_or("a cycle")?;
-    assert_eq!(rt; (*order.at(0), *order.at(1)), (1, 0));
+    assert!(rt; matches!(order.as_slice(), [1, 0]));
     tables.push(table(alloc, 3, 2)?)?;
     tables.push(table(alloc, 2, 3)?)?;
     let first = order_tables(alloc, 4, &tables)?.err().ok_or("no cycle")?;
