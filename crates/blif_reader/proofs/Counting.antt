@@ -15,7 +15,7 @@ use Rattle.blif_model.specs.declared.fault.BlifFault.{BlifFault}
 use Rattle.blif_model.specs.declared.fault.BlifFault.TheVariants.{DrivenTwice, TooLarge}
 use Rattle.blif_model.specs.Meaning.{is_undriven}
 use Rattle.blif_model.specs.Models.{Mention, is_driven, is_mentioned, names_of}
-use Rattle.blif_model.specs.Numbered.{number_of}
+use Rattle.blif_model.specs.Names.{number_of}
 use Rattle.blif_model.specs.Rules.{name_rule, names_fault, signal_limit}
 use Rattle.blif_reader.proofs.Counts.{one_if}
 use Rattle.blif_reader.proofs.Holding.{or_none, map_none}

@@ -10,7 +10,8 @@ use Rattle.netlist.specs.declared.rows.Mark.{Mark}
 use Rattle.netlist.specs.declared.table.Table.{Table}
 use Rattle.netlist.specs.Design.{marks_of}
 use Rattle.blif_model.specs.Models.{Mention, Gate, Statement, IsInputs, IsOutputs, IsLatch, IsTable, driven, used}
-use Rattle.blif_model.specs.Numbered.{number_of, items_of}
+use Rattle.blif_model.specs.Names.{number_of}
+use Rattle.blif_model.specs.Numbered.{items_of}
 use Rattle.blif_reader.specs.Design.{all_but_last, last_of, inputs_by, latches_by, tables_by, lines_in, inputs_in, latches_in, tables_in, outputs_in}
 use Rattle.blif_reader.proofs.Counting.{by_number, by_number-append}
 use Rattle.blif_reader.proofs.Counts.{one_if, count, count-append}

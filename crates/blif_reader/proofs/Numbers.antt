@@ -10,8 +10,7 @@ use Rattle.psl_base.specs.Tokens.{PlacedToken}
 use Rattle.flattening.specs.Members.{Among, Apart}
 use Rattle.flattening.proofs.Members.{Among-left, Among-right, from_append, Among-at}
 use Rattle.blif_model.specs.Models.{Mention, with_name, names_of}
-use Rattle.blif_model.specs.Names.{place_of}
-use Rattle.blif_model.specs.Numbered.{number_at, number_of}
+use Rattle.blif_model.specs.Names.{place_of, number_at, number_of}
 use Rattle.blif_reader.proofs.Texts.{IsWord}
 use Rattle.blif_reader.proofs.Holding.{AreNamed}
 

@@ -14,7 +14,8 @@ use Rattle.netlist.specs.Sound.{AreApart, IsSound, NamesBit}
 use Rattle.blif_model.specs.declared.text.ModelText.{ModelText}
 use Rattle.blif_model.specs.Meaning.{model_of}
 use Rattle.blif_model.specs.Models.{Mention, Model, names_of}
-use Rattle.blif_model.specs.Numbered.{number_of, numbered, Says}
+use Rattle.blif_model.specs.Names.{number_of}
+use Rattle.blif_model.specs.Numbered.{numbered, Says}
 use Rattle.blif_model.specs.Rules.{signal_limit}
 use Rattle.blif_reader.specs.Design.{design_of, names_from, IsPlain, lines_in, outputs_in}
 use Rattle.blif_reader.proofs.Counting.{AreDriven, mentions-driven, by_number}
