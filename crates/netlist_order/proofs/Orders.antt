@@ -1,5 +1,5 @@
 -- A topological order of the dependency graph is an order in which the tables can be computed.
-use Rattle.std.proofs.Common.{◌≡◌, ◌≢◌, ℕ, ◌+◌, ◌<◌, ◌≤◌, List, [], ◌∷◌, length, map, get_or, take, All, Contains, Bor, Option, None, Some, refl, sym, ap, ◌∙◌, subst, inl, inr, ⊎_elim, arith}
+use Rattle.std.proofs.Common.{◌≡◌, ℕ, ◌+◌, ◌<◌, List, [], ◌∷◌, length, map, get_or, take, Contains, Bor, Option, None, Some, refl, sym, ap, ◌∙◌, subst, ⊎_elim, arith}
 use Rattle.std.proofs.Math.Path.{fun_ext}
 use Rattle.std.proofs.lemmas.Bool.{cases_lt}
 use Rattle.std.proofs.lemmas.List.{length-map, get_or-map, get_or_default, get_or-take, length-take-le}
@@ -7,7 +7,7 @@ use Rattle.std.proofs.lemmas.List.Elements.{All-from_get_or}
 use Rattle.table_order.specs.Graph as graphs
 use Rattle.table_order.specs.Graph.{Graph, driver_of, Reads, Depends, directly, onwards, Occurs, OccursBefore}
 use Rattle.table_order.specs.Wires.{drivers_of, graph_of}
-use Rattle.table_order.proofs.Chains.{Depends-within, Depends-keeps, Reads-within}
+use Rattle.table_order.proofs.Chains.{Depends-within, Depends-keeps}
 use Rattle.netlist.specs.declared.table.Table.{Table}
 use Rattle.netlist.specs.Sound.{AreApart, IsOrder, no_table, table_at}
 use Rattle.netlist_order.specs.TableGraph.{driver_in, table_graph, IsAcyclic}

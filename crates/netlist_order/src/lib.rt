@@ -3,8 +3,6 @@
 
 mod laws;
 mod order;
-#[cfg(test)]
-mod tests;
 
 pub use laws::cycle_law;
 pub use order::order_tables;

@@ -1,4 +1,4 @@
-use Rattle.std.proofs.Common.{◌≡◌, subst, sym, ◌∙◌}
+use Rattle.std.proofs.Common.{subst}
 use Rattle.table_order.specs.Graph as graphs
 use Rattle.netlist_order.proofs.Orders.{IsOrder-from, IsAcyclic-order, wiring-graph}
 use Rattle.netlist_order.proofs.order.order_tables.Goals as goal
