@@ -9,7 +9,6 @@ use Rattle.flattening.specs.declared.model.Item.{Item}
 use Rattle.flattening.specs.declared.model.Item.TheVariants.{Own, Place}
 use Rattle.netlist.specs.declared.latch.Latch.{Latch}
 use Rattle.netlist.specs.declared.table.Table.{Table}
-use Rattle.netlist.specs.Design.{Design}
 use Rattle.netlist.specs.Sound.{AreApart, IsSound}
 use Rattle.netlist_order.specs.TableGraph.{driver_in, table_graph}
 use Rattle.table_order.specs.Graph.{IsFirstOnCycle}
@@ -21,7 +20,7 @@ use Rattle.blif_model.specs.declared.text.ModelText.{ModelText}
 use Rattle.blif_model.specs.Numbered.{Says}
 use Rattle.blif_model.specs.Rules.{signal_limit}
 use Rattle.blif_reader.specs.declared.parts.Parts.{Parts}
-use Rattle.blif_reader.specs.Building.{built, no_parts, parts_of, with_line, with_item, with_items}
+use Rattle.blif_reader.specs.Building.{built, no_parts, parts_of, with_line, with_items}
 use Rattle.blif_reader.specs.Design.{all_but_last, last_of, inputs_by, latches_by, tables_by, outputs_by, lines_in, inputs_in, latches_in, tables_in, outputs_in, names_from, design_of, IsPlain}
 use Rattle.blif_reader.specs.Meaning.{IsCycleFault}
 use Rattle.blif_reader.proofs.Sound.{text-facts, outputs-below, outputs-once}

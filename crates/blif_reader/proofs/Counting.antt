@@ -1,22 +1,19 @@
 -- Each name of a model without a fault is driven by just one mention.
-use Rattle.std.proofs.Common.{◌≡◌, ℕ, zero, suc, ◌+◌, ◌<◌, ◌≤◌, ◌⊎◌, Bool, true, false, eqb, cond, not, ◌&&◌, ◌||◌, List, [], ◌∷◌, ◌++◌, length, get_or, Option, None, Some, refl, sym, ap, ◌∙◌, subst, inl, inr, ⊎_elim, arith}
-use Rattle.std.proofs.lemmas.Bool.{cases_Bool, false≢true, eqb-true}
+use Rattle.std.proofs.Common.{◌≡◌, ℕ, ◌+◌, ◌<◌, ◌≤◌, ◌⊎◌, Bool, true, false, eqb, cond, not, ◌&&◌, ◌||◌, List, [], ◌∷◌, ◌++◌, length, get_or, Option, None, Some, refl, sym, ap, ◌∙◌, subst, inl, inr, ⊎_elim, arith}
+use Rattle.std.proofs.lemmas.Bool.{cases_Bool, eqb-true}
 use Rattle.std.proofs.lemmas.List.{append-nil, append_assoc}
 use Rattle.std.proofs.lemmas.Slice.Eq.{bytes_eq-Decides}
 use Rattle.std.specs.List.{list_any, find}
-use Rattle.std.specs.Option.{option_map, option_or}
-use Rattle.std.specs.Prelude.{nat_le}
+use Rattle.std.specs.Option.{option_map}
 use Rattle.std.specs.Str.{bytes_eq}
 use Rattle.psl_base.specs.Tokens.{PlacedToken}
-use Rattle.psl_base.specs.declared.place.Place.{Place}
 use Rattle.flattening.specs.Members.{Among, Apart}
 use Rattle.flattening.proofs.Members.{Among-at}
-use Rattle.blif_model.specs.declared.fault.BlifFault.{BlifFault}
-use Rattle.blif_model.specs.declared.fault.BlifFault.TheVariants.{DrivenTwice, TooLarge}
+use Rattle.blif_model.specs.declared.fault.BlifFault.TheVariants.{DrivenTwice}
 use Rattle.blif_model.specs.Meaning.{is_undriven}
-use Rattle.blif_model.specs.Models.{Mention, is_driven, is_mentioned, names_of}
+use Rattle.blif_model.specs.Models.{Mention, is_driven, names_of}
 use Rattle.blif_model.specs.Names.{number_of}
-use Rattle.blif_model.specs.Rules.{name_rule, names_fault, signal_limit}
+use Rattle.blif_model.specs.Rules.{name_rule, names_fault}
 use Rattle.blif_reader.proofs.Counts.{one_if}
 use Rattle.blif_reader.proofs.Holding.{or_none, map_none}
 use Rattle.blif_reader.proofs.Numbers.{AreAmong, names-apart, names-among, names-from, number-within, number-is}

@@ -1,8 +1,8 @@
 -- What is wrong with a text is a fault of the text, and none of reading it or of memory.
-use Rattle.std.proofs.Common.{◌≡◌, ℕ, Bool, true, false, cond, not, ◌&&◌, List, [], ◌∷◌, ◌++◌, length, Option, None, Some, refl, sym, ap, ◌∙◌, subst, ◌⊎◌, inl, inr}
+use Rattle.std.proofs.Common.{◌≡◌, ℕ, Bool, true, false, cond, not, ◌&&◌, List, [], ◌∷◌, ◌++◌, length, Option, None, Some, sym, subst, ◌⊎◌, inl, inr}
 use Rattle.std.specs.List.{find}
 use Rattle.std.specs.Option.{option_map, option_or}
-use Rattle.std.specs.Prelude.{nat_le, Result, Ok, Err}
+use Rattle.std.specs.Prelude.{nat_le, Err}
 use Rattle.psl_base.specs.Tokens.{PlacedToken}
 use Rattle.psl_base.specs.declared.place.Place.{Place}
 use Rattle.blif_model.specs.declared.command.Command.{Command}
@@ -13,7 +13,7 @@ use Rattle.blif_model.specs.Commands.{command_of}
 use Rattle.blif_model.specs.Lines.{Line, lines}
 use Rattle.blif_model.specs.Meaning.{fault_at, first_fault, undriven, is_undriven, unless, model_of}
 use Rattle.blif_model.specs.Models.{Gate, Mention, Model, is_driven, is_mentioned, names_of}
-use Rattle.blif_model.specs.Rules.{is_unknown, is_bad_model, is_bad_row, is_bad_latch, is_second, head_rule_by, flags_of, signal_limit, name_rule, names_fault, first_output, differs, output_fault, row_fault_in, row_fault, differ, clocking_fault, latch_fault, head_rule, tail_fault, command_fault, words_fault, line_fault}
+use Rattle.blif_model.specs.Rules.{is_unknown, is_bad_model, is_bad_row, is_bad_latch, is_second, flags_of, signal_limit, name_rule, names_fault, first_output, differs, output_fault, row_fault_in, row_fault, differ, clocking_fault, latch_fault, head_rule, tail_fault, words_fault}
 use Rattle.blif_model.specs.Shapes.{Clocking, LatchParts, Row, row_of, latch_of, is_level, is_one}
 use Rattle.blif_reader.specs.Meaning.{IsReading}
 use Rattle.blif_reader.specs.Told.{IsReadFault}

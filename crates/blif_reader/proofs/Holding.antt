@@ -1,12 +1,11 @@
 -- What holds of what lines without a fault say.
-use Rattle.std.proofs.Common.{◌≡◌, ℕ, suc, ◌+◌, ◌<◌, ◌≤◌, Bool, true, false, cond, not, ◌&&◌, ◌||◌, List, [], ◌∷◌, ◌++◌, length, map, Option, None, Some, refl, sym, ap, ◌∙◌, subst, arith}
+use Rattle.std.proofs.Common.{◌≡◌, ℕ, ◌+◌, ◌≤◌, Bool, true, false, cond, ◌||◌, List, [], ◌∷◌, ◌++◌, length, map, Option, None, Some, refl, sym, ap, ◌∙◌, subst, arith}
 use Rattle.std.proofs.lemmas.List.{append-nil, append_assoc}
 use Rattle.std.proofs.lemmas.List.Sums.{fold-append}
-use Rattle.std.specs.List.{fold, find}
+use Rattle.std.specs.List.{find}
 use Rattle.std.specs.Option.{option_map, option_or}
-use Rattle.std.specs.Prelude.{Result, Ok, Err}
+use Rattle.std.specs.Prelude.{Ok}
 use Rattle.psl_base.specs.Tokens.{PlacedToken}
-use Rattle.psl_base.specs.declared.place.Place.{Place}
 use Rattle.netlist.specs.declared.latch.Init.{Init}
 use Rattle.netlist.specs.declared.latch.Init.TheVariants as inits
 use Rattle.blif_model.specs.declared.command.Command.{Command}
@@ -16,9 +15,9 @@ use Rattle.blif_model.specs.declared.fault.BlifFault.TheVariants.{MissingEnd, Un
 use Rattle.blif_model.specs.Commands.{command_of}
 use Rattle.blif_model.specs.Lines.{Line, lines}
 use Rattle.blif_model.specs.Meaning.{fault_at, first_fault, undriven, is_undriven, unless, model_of}
-use Rattle.blif_model.specs.Models.{Mention, Model, Statement, driven, used}
-use Rattle.blif_model.specs.Rules.{name_rule, names_fault, head_rule, tail_fault, command_fault, words_fault, line_fault, latch_fault}
-use Rattle.blif_model.specs.Shapes.{Clocking, LatchParts, with_init, with_clocking, latch_of, init_of, is_edge, is_level}
+use Rattle.blif_model.specs.Models.{Mention, Model, driven, used}
+use Rattle.blif_model.specs.Rules.{name_rule, names_fault, head_rule, tail_fault, words_fault, latch_fault}
+use Rattle.blif_model.specs.Shapes.{Clocking, LatchParts, with_init, latch_of, init_of, is_edge, is_level}
 use Rattle.blif_model.specs.Standing.{Standing, at_first, standing_after, standing_after_words, standing_by, standing_by_command, words_of, mentions_of, mentions_of_names, mentions_of_latch, statements_of, latch_by, last_of}
 use Rattle.blif_reader.proofs.Texts.{IsWord, AreWords, size_of, AreLines, lines_size, text-lined}
 use Rattle.blif_reader.proofs.Mentioned.{all_mentions, all_mentions-append, AllWide, AllWide-append, cost_of, cost-append, last_row, names_mentions, table_wide}

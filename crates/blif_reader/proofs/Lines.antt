@@ -1,9 +1,9 @@
 -- What the lines of a model say of its netlist, statement by statement.
-use Rattle.std.proofs.Common.{◌≡◌, ℕ, suc, ◌+◌, ◌<◌, ◌≤◌, Bool, true, false, eqb, cond, ◌&&◌, List, [], ◌∷◌, ◌++◌, length, map, All, refl, sym, ap, ◌∙◌, subst, arith}
-use Rattle.std.proofs.lemmas.List.{length-map, map-append}
-use Rattle.std.proofs.lemmas.List.Elements.{All-nil, All-cons, All-append, All-map}
-use Rattle.std.proofs.lemmas.List.Sums.{sum_by-cons, sum_by-append}
-use Rattle.std.specs.List.{flat_map, sum_by}
+use Rattle.std.proofs.Common.{◌≡◌, ℕ, suc, ◌+◌, ◌<◌, ◌≤◌, eqb, List, [], ◌∷◌, ◌++◌, length, map, All, refl, sym, ap, ◌∙◌, subst, arith}
+use Rattle.std.proofs.lemmas.List.{length-map}
+use Rattle.std.proofs.lemmas.List.Elements.{All-nil, All-cons}
+use Rattle.std.proofs.lemmas.List.Sums.{sum_by-cons}
+use Rattle.std.specs.List.{sum_by}
 use Rattle.psl_base.specs.Tokens.{PlacedToken}
 use Rattle.netlist.specs.declared.latch.Latch.{Latch}
 use Rattle.netlist.specs.declared.rows.Mark.{Mark}
@@ -12,11 +12,11 @@ use Rattle.netlist.specs.Design.{marks_of}
 use Rattle.blif_model.specs.Models.{Mention, Gate, Statement, IsInputs, IsOutputs, IsLatch, IsTable, driven, used}
 use Rattle.blif_model.specs.Names.{number_of}
 use Rattle.blif_model.specs.Numbered.{items_of}
-use Rattle.blif_reader.specs.Design.{all_but_last, last_of, inputs_by, latches_by, tables_by, lines_in, inputs_in, latches_in, tables_in, outputs_in}
+use Rattle.blif_reader.specs.Design.{all_but_last, last_of, lines_in, inputs_in, latches_in, tables_in, outputs_in}
 use Rattle.blif_reader.proofs.Counting.{by_number, by_number-append}
 use Rattle.blif_reader.proofs.Counts.{one_if, count, count-append}
 use Rattle.blif_reader.proofs.Holding.{AreNamed}
-use Rattle.blif_reader.proofs.Mentioned.{mentions_in, all_mentions, AreWide, AllWide, cost_of}
+use Rattle.blif_reader.proofs.Mentioned.{all_mentions, AreWide, AllWide, cost_of}
 
 -- the numbers of a table's names
 front_is : (number : PlacedToken → ℕ) (inputs : List PlacedToken) (output : PlacedToken) → all_but_last (map number (inputs ++ output ∷ [])) ≡ map number inputs

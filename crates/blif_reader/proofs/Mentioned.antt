@@ -1,15 +1,14 @@
 -- What the statements of a model mention, and what they cost.
-use Rattle.std.proofs.Common.{◌≡◌, ℕ, suc, ◌+◌, ◌<◌, ◌≤◌, Bool, true, false, eqb, ltb, cond, ◌&&◌, ◌||◌, List, [], ◌∷◌, ◌++◌, length, map, Option, None, Some, refl, sym, ap, ◌∙◌, subst, arith}
-use Rattle.std.proofs.lemmas.Bool.{cases_Bool, eqb-true}
+use Rattle.std.proofs.Common.{◌≡◌, ℕ, ◌+◌, ◌≤◌, Bool, true, false, eqb, ltb, cond, ◌&&◌, List, [], ◌∷◌, ◌++◌, length, map, Option, None, Some, refl, sym, ap, ◌∙◌, arith}
+use Rattle.std.proofs.lemmas.Bool.{eqb-true}
 use Rattle.std.proofs.lemmas.List.{append-nil, append_assoc, length-map}
 use Rattle.std.specs.List.{sum_by, list_all}
 use Rattle.std.proofs.lemmas.List.Sums.{sum_by_push}
 use Rattle.psl_base.specs.Tokens.{PlacedToken}
-use Rattle.netlist.specs.declared.latch.Init.{Init}
 use Rattle.netlist.specs.declared.rows.Mark.{Mark}
 use Rattle.blif_model.specs.Models.{Mention, Gate, Statement, IsInputs, IsOutputs, IsLatch, IsTable, driven, used}
-use Rattle.blif_model.specs.Shapes.{Row, row_of, are_marks, is_mark, is_bit, is_one, mark_of}
-use Rattle.blif_model.specs.Standing.{all_but_last, last_of, mentions_of_names, mentions_of_latch, with_row, with_row_in, with_last_row, table_by}
+use Rattle.blif_model.specs.Shapes.{Row, row_of, is_mark, is_bit, mark_of}
+use Rattle.blif_model.specs.Standing.{all_but_last, last_of, mentions_of_names, with_row, with_row_in, with_last_row, table_by}
 use Rattle.blif_reader.proofs.Texts.{size_of}
 
 -- what a statement mentions

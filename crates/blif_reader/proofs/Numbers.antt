@@ -1,7 +1,7 @@
 -- The numbers of names: their places in the order of first mention.
-use Rattle.std.proofs.Common.{◌≡◌, ℕ, zero, suc, ◌+◌, ◌<◌, ◌≤◌, ◌⊎◌, Bool, true, false, eqb, cond, ◌&&◌, ◌||◌, List, [], ◌∷◌, ◌++◌, length, get_or, Option, None, Some, is_none, refl, sym, ap, ◌∙◌, subst, inl, inr, ⊎_elim, arith, All}
+use Rattle.std.proofs.Common.{◌≡◌, ℕ, zero, suc, ◌+◌, ◌<◌, ◌≤◌, ◌⊎◌, true, false, eqb, cond, ◌||◌, List, [], ◌∷◌, ◌++◌, length, get_or, Option, Some, refl, sym, ap, ◌∙◌, subst, inl, inr, ⊎_elim, arith, All}
 use Rattle.std.proofs.lemmas.Bool.{cases_Bool, false≢true, eqb-true, eq-eqb}
-use Rattle.std.proofs.lemmas.List.{append-nil, length_push}
+use Rattle.std.proofs.lemmas.List.{length_push}
 use Rattle.std.proofs.lemmas.Slice.Eq.{bytes_eq-Decides}
 use Rattle.std.specs.List.{list_any, position_from, fold}
 use Rattle.std.specs.Str.{bytes_eq}
@@ -11,7 +11,6 @@ use Rattle.flattening.specs.Members.{Among, Apart}
 use Rattle.flattening.proofs.Members.{Among-left, Among-right, from_append, Among-at}
 use Rattle.blif_model.specs.Models.{Mention, with_name, names_of}
 use Rattle.blif_model.specs.Names.{place_of, number_at, number_of}
-use Rattle.blif_reader.proofs.Texts.{IsWord}
 use Rattle.blif_reader.proofs.Holding.{AreNamed}
 
 -- a text is one of some names, or it is not

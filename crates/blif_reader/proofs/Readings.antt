@@ -4,7 +4,7 @@ use Rattle.std.specs.Prelude.{Result, Ok, Err}
 use Rattle.psl_base.specs.Places.{place_at}
 use Rattle.table_order.specs.Graph.{IsFirstOnCycle}
 use Rattle.netlist.specs.Design.{Design}
-use Rattle.netlist_order.specs.TableGraph.{table_graph, IsAcyclic}
+use Rattle.netlist_order.specs.TableGraph.{table_graph}
 use Rattle.netlist_order.proofs.Cycles.{cycle-some, cycle-one}
 use Rattle.blif_model.specs.declared.fault.BlifFault.{BlifFault}
 use Rattle.blif_model.specs.declared.fault.BlifFault.TheVariants.{CombinationalCycle}

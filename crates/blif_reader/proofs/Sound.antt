@@ -1,18 +1,14 @@
 -- The netlist of a text's model is sound.
-use Rattle.std.proofs.Common.{◌≡◌, ℕ, zero, suc, ◌+◌, ◌<◌, ◌≤◌, ◌^◌, ◌⊎◌, inl, inr, ◌-◌, List, [], ◌∷◌, ◌++◌, length, map, All, Any, Contains, get_or, refl, sym, ap, ◌∙◌, subst, arith}
+use Rattle.std.proofs.Common.{◌≡◌, ℕ, zero, suc, ◌+◌, ◌<◌, ◌≤◌, ◌^◌, ◌⊎◌, inl, inr, List, [], ◌∷◌, ◌++◌, length, map, All, Any, refl, sym, ap, ◌∙◌, subst, arith}
 use Rattle.std.proofs.lemmas.Bool.{cases_lt}
-use Rattle.std.proofs.lemmas.List.{length-map, map-append}
 use Rattle.std.proofs.lemmas.List.Elements.{All-nil, All-cons, All-head, All-tail}
-use Rattle.std.specs.Prelude.{Result, Ok}
 use Rattle.psl_base.specs.Places.{file_limit}
-use Rattle.psl_base.specs.Tokens.{PlacedToken}
 use Rattle.psl_tree.specs.declared.name.Name.{Name}
 use Rattle.netlist.specs.declared.latch.Latch.{Latch}
 use Rattle.netlist.specs.declared.table.Table.{Table}
-use Rattle.netlist.specs.Design.{Design, driven_signals, free_of, marks_of}
+use Rattle.netlist.specs.Design.{Design, driven_signals, free_of}
 use Rattle.netlist.specs.Sound.{AreApart, IsSound, NamesBit}
 use Rattle.blif_model.specs.declared.text.ModelText.{ModelText}
-use Rattle.blif_model.specs.Meaning.{model_of}
 use Rattle.blif_model.specs.Models.{Mention, Model, names_of}
 use Rattle.blif_model.specs.Names.{number_of}
 use Rattle.blif_model.specs.Numbered.{numbered, Says}

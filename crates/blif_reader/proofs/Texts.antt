@@ -1,9 +1,7 @@
 -- The words of a text: each has bytes and none of white space, and together they are no longer than the text.
-use Rattle.std.proofs.Common.{◌≡◌, ℕ, suc, ◌+◌, ◌<◌, ◌≤◌, Bool, true, false, eqb, cond, List, [], ◌∷◌, ◌++◌, length, drop, All, Option, None, Some, refl, sym, ap, ◌∙◌, subst, inl, inr, arith}
-use Rattle.std.proofs.lemmas.Bool.{cases_Bool}
+use Rattle.std.proofs.Common.{◌≡◌, ℕ, suc, ◌+◌, ◌<◌, ◌≤◌, Bool, true, false, eqb, cond, List, [], ◌∷◌, ◌++◌, length, drop, All, refl, ap, subst, arith}
 use Rattle.std.proofs.lemmas.List.Elements.{All-nil, All-cons}
 use Rattle.psl_base.specs.Bytes.{is_white}
-use Rattle.psl_base.specs.Places.{place_at}
 use Rattle.psl_base.specs.Tokens.{PlacedToken, token_at}
 use Rattle.blif_model.specs.declared.class.Class.{Class}
 use Rattle.blif_model.specs.declared.class.Class.TheVariants.{LineFeed, White, Comment, Join, Stray, Part}

@@ -1,5 +1,4 @@
-use Rattle.std.proofs.Common.{◌≡◌, ℕ, ◌∙◌, sym, ap, arith}
-use Rattle.netlist.specs.declared.table.Table.{Table}
+use Rattle.std.proofs.Common.{◌≡◌, ◌∙◌, sym, ap, arith}
 use Rattle.blif_reader.proofs.Building.{front-popped, last-popped, popped-none}
 use Rattle.blif_reader.specs.Design.{all_but_last, last_of}
 use Rattle.blif_reader.proofs.parts.table_by.Goals as goal

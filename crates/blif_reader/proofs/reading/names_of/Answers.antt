@@ -1,5 +1,4 @@
-use Rattle.std.proofs.Common.{◌≡◌, ◌∙◌, sym, ap, take, add-one, arith}
-use Rattle.blif_reader.specs.Design.{names_from}
+use Rattle.std.proofs.Common.{◌∙◌, sym, add-one, arith}
 use Rattle.blif_reader.proofs.Building.{names-more}
 use Rattle.blif_reader.proofs.reading.names_of.Goals as goal
 
