@@ -1,6 +1,7 @@
 -- What is known of a text after some of its lines, and how each line adds to it: what the code is proved against. That
 -- this is what the definitions say is the law of the reading.
-use Rattle.std.specs.Prelude.{◌≡◌, ℕ, nat_le, Bool, true, false, cond, List, [], ◌∷◌, ◌++◌, map, length, Option, None, Some, Result, Ok, Err}
+use Rattle.std.specs.Prelude.{◌≡◌, ℕ, nat_le, Bool, true, false, cond, List, []}
+use Rattle.std.specs.Prelude.{◌∷◌, ◌++◌, map, length, Option, None, Some, Result, Ok, Err}
 use Rattle.std.specs.Option.{option_map, option_or}
 use Rattle.netlist.specs.declared.rows.Mark.{Mark}
 use Rattle.flattening.specs.declared.model.Item.{Item}
@@ -22,7 +23,8 @@ use Rattle.blif_model.specs.Models.{Mention, driven, used}
 use Rattle.blif_model.specs.Names.{Named, names_fault_in, nothing_named, numbers_in, undriven_in, with_mentions}
 use Rattle.blif_model.specs.Rules.{clocking_fault, head_rule_by, latch_fault, output_fault}
 use Rattle.blif_model.specs.Shapes.{Clocking, LatchParts, Row, is_one, latch_of, row_of}
-use Rattle.blif_model.specs.Standing.{first_clocking, is_ended, is_titled, last_of, mentions_of, mentions_of_names, words_of}
+use Rattle.blif_model.specs.Standing.{first_clocking, is_ended, is_titled}
+use Rattle.blif_model.specs.Standing.{last_of, mentions_of, mentions_of_names, words_of}
 
 -- the table whose rows may follow: the numbers of its names, how many inputs it has, its rows, their output, and where
 -- the name of its output stands
@@ -60,7 +62,8 @@ abbrev pub own : List ℕ → LineKind → Item ModelLine
 own mentions kind = Own (record { mentions = mentions; kind = kind })
 
 abbrev pub line_of_table : Opened → Item ModelLine
-line_of_table table = own table.mentions (kinds.Table (record { rows = table.rows; value = table.value; output_at = table.output_at }))
+line_of_table table =
+    own table.mentions (kinds.Table (record { rows = table.rows; value = table.value; output_at = table.output_at }))
 
 -- the lines, where no more rows follow
 abbrev pub closed : List (Item ModelLine) → Option Opened → List (Item ModelLine)
@@ -81,7 +84,8 @@ with_line known mentions kind = record known {
 -- a latch more
 abbrev pub with_latch : Known → LatchParts → Known
 with_latch known latch =
-    record (with_line known (used latch.input ∷ driven latch.output ∷ []) (kinds.Latch latch.init)) { clocking = first_clocking known.clocking latch.clocking }
+    let line = with_line known (used latch.input ∷ driven latch.output ∷ []) (kinds.Latch latch.init) in
+    record line { clocking = first_clocking known.clocking latch.clocking }
 
 abbrev pub with_latch_of : Known → Option LatchParts → Known
 with_latch_of known None = with_closed known
@@ -92,7 +96,13 @@ abbrev pub with_table : Known → List Mention → ℕ → PlacedToken → Known
 with_table known mentions width output = record known {
   named = with_mentions known.named mentions;
   lines = closed known.lines known.table;
-  table = Some (record { mentions = numbers_in known.named mentions; width = width; rows = []; value = true; output_at = output.at });
+  table = Some (record {
+    mentions = numbers_in known.named mentions;
+    width = width;
+    rows = [];
+    value = true;
+    output_at = output.at;
+  });
 }
 
 -- how many inputs a table has with these names
@@ -123,7 +133,11 @@ said_with known command words = with_closed known
 
 -- what is known after a command
 abbrev pub after_command : Known → Command → Known
-after_command known command = record known { begun = true; titled = is_titled known.titled command; ended = is_ended known.ended command }
+after_command known command = record known {
+  begun = true;
+  titled = is_titled known.titled command;
+  ended = is_ended known.ended command;
+}
 
 abbrev pub known_by_command : Known → Command → List PlacedToken → Known
 known_by_command known command words = after_command (said_with known command words) command
@@ -139,7 +153,12 @@ width_of_open None = None
 width_of_open (Some table) = Some table.width
 
 abbrev pub flags_in : Known → Flags
-flags_in known = record { width = width_of_open known.table; begun = known.begun; titled = known.titled; ended = known.ended }
+flags_in known = record {
+  width = width_of_open known.table;
+  begun = known.begun;
+  titled = known.titled;
+  ended = known.ended;
+}
 
 -- the output of the first row
 abbrev pub first_of : Opened → Option Bool
@@ -155,24 +174,29 @@ row_fault_on (Some table) words = row_fault_of table (row_of table.width words)
 
 abbrev pub latch_fault_of : Known → LatchParts → Option BlifFault
 latch_fault_of known latch =
-    option_or (names_fault_in known.named (used latch.input ∷ driven latch.output ∷ [])) (clocking_fault known.clocking latch.clocking)
+    option_or (names_fault_in known.named (used latch.input ∷ driven latch.output ∷ []))
+    (clocking_fault known.clocking latch.clocking)
 
 -- the first fault of a line behind its first word
 abbrev pub said_fault : Known → Command → List PlacedToken → Option BlifFault
 said_fault known commands.Row words = row_fault_on known.table words
 said_fault known commands.Latch words =
-    option_or (names_fault_in known.named (mentions_of commands.Latch words)) (latch_fault known.clocking (latch_of words))
+    option_or (names_fault_in known.named (mentions_of commands.Latch words))
+    (latch_fault known.clocking (latch_of words))
 said_fault known command words = names_fault_in known.named (mentions_of command words)
 
 abbrev pub head_fault_in : Known → Command → PlacedToken → List PlacedToken → Option BlifFault
-head_fault_in known command head words = option_map (λ fault. fault head.place) (head_rule_by (flags_in known) command words)
+head_fault_in known command head words =
+    option_map (λ fault. fault head.place) (head_rule_by (flags_in known) command words)
 
 abbrev pub command_fault_in : Known → Command → PlacedToken → List PlacedToken → Option BlifFault
-command_fault_in known command head words = option_or (head_fault_in known command head words) (said_fault known command words)
+command_fault_in known command head words =
+    option_or (head_fault_in known command head words) (said_fault known command words)
 
 abbrev pub words_fault_in : Known → List PlacedToken → Option BlifFault
 words_fault_in known [] = None
-words_fault_in known (head ∷ words) = command_fault_in known (command_of head.text) head (words_of (command_of head.text) head words)
+words_fault_in known (head ∷ words) =
+    command_fault_in known (command_of head.text) head (words_of (command_of head.text) head words)
 
 abbrev pub line_fault_in : Known → Line → Option BlifFault
 line_fault_in known line = option_or (words_fault_in known line.words) (option_map MissingEnd line.stray)

@@ -1,6 +1,7 @@
--- The names of a model, numbered from 0 in the order of their first mention, which of them are driven, and the word that
--- mentions each first.
-use Rattle.std.specs.Prelude.{ℕ, nat_le, Bool, true, false, ◌&&◌, ◌||◌, cond, List, [], ◌∷◌, ◌++◌, length, slice_index_or, slice_set, Option, None, Some, is_none}
+-- The names of a model, numbered from 0 in the order of their first mention, which of them are driven, and the word
+-- that mentions each first.
+use Rattle.std.specs.Prelude.{ℕ, nat_le, Bool, true, false, ◌&&◌, ◌||◌, cond, Option, None, Some, is_none}
+use Rattle.std.specs.Prelude.{List, [], ◌∷◌, ◌++◌, length, slice_index_or, slice_set}
 use Rattle.std.specs.List.{fold, position_from}
 use Rattle.std.specs.Option.{option_map, option_or}
 use Rattle.std.specs.Str.{bytes_eq}

@@ -6,7 +6,8 @@ use Rattle.blif_model.specs.declared.command.Command.{Command}
 use Rattle.blif_model.specs.declared.command.Command.TheVariants as commands
 use Rattle.blif_model.specs.Commands.{command_of}
 use Rattle.blif_model.specs.Lines.{Line}
-use Rattle.blif_model.specs.Models.{Gate, Mention, Model, Statement, IsInputs, IsOutputs, IsLatch, IsTable, driven, used, nothing_said}
+use Rattle.blif_model.specs.Models.{Gate, Mention, Model, Statement, IsInputs}
+use Rattle.blif_model.specs.Models.{IsOutputs, IsLatch, IsTable, driven, used, nothing_said}
 use Rattle.blif_model.specs.Shapes.{Clocking, Row, LatchParts, row_of, latch_of, is_one}
 
 -- The model that is being read; the type and control of the first latch that has them; whether the last command was a
@@ -78,7 +79,8 @@ with_last_row (statement ∷ other ∷ statements) words = statement ∷ with_la
 
 abbrev pub table_by : List PlacedToken → Option PlacedToken → List Statement
 table_by words None = []
-table_by words (Some output) = IsTable (record { inputs = all_but_last words; output = output; rows = []; value = true }) ∷ []
+table_by words (Some output) =
+    IsTable (record { inputs = all_but_last words; output = output; rows = []; value = true }) ∷ []
 
 abbrev pub latch_by : Option LatchParts → List Statement
 latch_by None = []
@@ -96,7 +98,10 @@ statements_of command words = []
 abbrev pub said_by : Model → Command → List PlacedToken → Model
 said_by model commands.Row words = record model { statements = with_last_row model.statements words }
 said_by model command words =
-    record { mentions = model.mentions ++ mentions_of command words; statements = model.statements ++ statements_of command words }
+    record {
+      mentions = model.mentions ++ mentions_of command words;
+      statements = model.statements ++ statements_of command words;
+    }
 
 abbrev pub clocking_in : Option LatchParts → Option Clocking
 clocking_in None = None

@@ -41,7 +41,8 @@ mention_in whole drives word = mention_as drives (word_of whole word)
 
 -- the mentions of a table: its inputs, and behind them its output
 abbrev pub table_mentions : List ℕ → List Span → Span → List Mention
-table_mentions whole inputs output = map (mention_as false) (map (word_of whole) inputs) ++ mention_in whole true output ∷ []
+table_mentions whole inputs output =
+    map (mention_as false) (map (word_of whole) inputs) ++ mention_in whole true output ∷ []
 
 -- a row by its marks and its output
 abbrev pub row_with : List ℕ → List Mark → Span → Row

@@ -1,5 +1,5 @@
-//! What a text in the Berkeley Logic Interchange Format says: its lines word by word, with their places, its first fault,
-//! and its model, in which names have become numbers.
+//! What a text in the Berkeley Logic Interchange Format says: its lines word by word, with their places, its first
+//! fault, and its model, in which names have become numbers.
 #![tactic(auto)]
 
 mod class;
@@ -17,6 +17,8 @@ mod shapes;
 mod signals;
 mod table;
 mod tail;
+#[cfg(test)]
+mod tests;
 mod text;
 
 pub use command::Command;
@@ -24,5 +26,6 @@ pub use fault::BlifFault;
 pub use laws::{naming_law, reading_law, worked_examples};
 pub use line::{LineKind, ModelLine, TableRows};
 pub use names::NameTable;
+pub use psl_base::NoMemory;
 pub use reading::read_model;
 pub use text::ModelText;

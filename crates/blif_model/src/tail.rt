@@ -113,8 +113,8 @@ pub fn mention_all(
     Ok(())
 }
 
-/// The names of a table are mentioned, its inputs and then its output, up to the first fault, and their numbers come into
-/// a list.
+/// The names of a table are mentioned, its inputs and then its output, up to the first fault, and their numbers come
+/// into a list.
 pub fn mention_table(
     signals: &mut Signals,
     inputs: &[Span],

@@ -2,7 +2,8 @@ use crate::line::ModelLine;
 use crate::names::NameTable;
 use flattening::Model;
 
-/// What a text says: its names in the order of their first mention, and its model, in which names are their places there.
+/// What a text says: its names in the order of their first mention, and its model, in which names are their places
+/// there.
 #[derive(Drop)]
 pub struct ModelText<'a> {
     /// The names.
