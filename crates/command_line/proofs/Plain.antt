@@ -8,9 +8,9 @@ use Rattle.std.proofs.lemmas.Fmt.{decimal_is_IsNumeral}
 use Rattle.std.proofs.lemmas.Str.Parse.{digit_from_value}
 use Rattle.clap.specs.Lexer.{strip_byte}
 use Rattle.clap.proofs.OnLiterals.{clap_on_literals}
-use Rattle.command_line.specs.Clap.{Takes, given, two_words}
-use Rattle.command_line.specs.Commands.{IsCommand, Reads, most_seed}
-use Rattle.command_line.specs.Commands.Meaning.{wave, gen, show}
+use Rattle.command_line.specs.Clap.{Takes, given, two_words, two_words_and_flag}
+use Rattle.command_line.specs.Commands.{IsCommand, ReadsWords, has_netlist, most_seed, show_app}
+use Rattle.command_line.specs.Commands.Meaning.{wave, gen, show, show_netlist}
 use Rattle.command_line.specs.Plain.{IsPlain}
 
 no_hyphen : (word : List ℕ) → IsPlain word → strip_byte 45 word ≡ None
@@ -54,7 +54,7 @@ two_given name first second a b names plain_a plain_b =
     simp (no_hyphen a plain_a, no_dashes a plain_a, no_hyphen b plain_b, no_dashes b plain_b, names.one, names.two, names.apart, names.back)
 
 -- words that begin with no hyphen are read as they stand
-plain_reads : (name first second a b : List ℕ) → Names first second → IsPlain a → IsPlain b → Reads name first second (name ∷ a ∷ b ∷ []) a b
+plain_reads : (name first second a b : List ℕ) → Names first second → IsPlain a → IsPlain b → ReadsWords name first second (name ∷ a ∷ b ∷ []) a b
 plain_reads name first second a b names plain_a plain_b = record {
   named = refl;
   taken = taken name first second a b names plain_a plain_b;
@@ -75,7 +75,7 @@ unfolding clap_on_literals given two_words
 two_behind name first second a b names = simp (names.one, names.two, names.apart, names.back)
 
 -- behind `--` all words are read as they stand
-reads_behind : (name first second a b : List ℕ) → Names first second → Reads name first second (name ∷ codes "--" ∷ a ∷ b ∷ []) a b
+reads_behind : (name first second a b : List ℕ) → Names first second → ReadsWords name first second (name ∷ codes "--" ∷ a ∷ b ∷ []) a b
 reads_behind name first second a b names = record {
   named = refl;
   taken = taken_behind name first second a b names;
@@ -89,8 +89,55 @@ wave_names = record { one = refl; two = refl; apart = refl; back = refl }
 gen_names : Names (codes "seed") (codes "samples")
 gen_names = record { one = refl; two = refl; apart = refl; back = refl }
 
-show_names : Names (codes "unit") (codes "names")
-show_names = record { one = refl; two = refl; apart = refl; back = refl }
+-- ---- `show`, with the flag and without it
+
+shown_taken : (a b : List ℕ) → IsPlain a → IsPlain b → Takes show_app (codes "show" ∷ a ∷ b ∷ [])
+unfolding clap_on_literals Takes two_words two_words_and_flag
+shown_taken a b plain_a plain_b = simp (no_hyphen a plain_a, no_dashes a plain_a, no_hyphen b plain_b, no_dashes b plain_b)
+
+shown_unit : (a b : List ℕ) → IsPlain a → IsPlain b → given show_app (codes "show" ∷ a ∷ b ∷ []) (codes "unit") ≡ Some a
+unfolding clap_on_literals given two_words two_words_and_flag
+shown_unit a b plain_a plain_b = simp (no_hyphen a plain_a, no_dashes a plain_a, no_hyphen b plain_b, no_dashes b plain_b)
+
+shown_names : (a b : List ℕ) → IsPlain a → IsPlain b → given show_app (codes "show" ∷ a ∷ b ∷ []) (codes "names") ≡ Some b
+unfolding clap_on_literals given two_words two_words_and_flag
+shown_names a b plain_a plain_b = simp (no_hyphen a plain_a, no_dashes a plain_a, no_hyphen b plain_b, no_dashes b plain_b)
+
+shown_unset : (a b : List ℕ) → IsPlain a → IsPlain b → has_netlist (codes "show" ∷ a ∷ b ∷ []) ≡ false
+unfolding clap_on_literals given two_words two_words_and_flag
+shown_unset a b plain_a plain_b = simp (no_hyphen a plain_a, no_dashes a plain_a, no_hyphen b plain_b, no_dashes b plain_b)
+
+flagged_taken : (a b : List ℕ) → IsPlain a → IsPlain b → Takes show_app (codes "show" ∷ a ∷ b ∷ codes "--netlist" ∷ [])
+unfolding clap_on_literals Takes two_words two_words_and_flag
+flagged_taken a b plain_a plain_b = simp (no_hyphen a plain_a, no_dashes a plain_a, no_hyphen b plain_b, no_dashes b plain_b)
+
+flagged_unit : (a b : List ℕ) → IsPlain a → IsPlain b → given show_app (codes "show" ∷ a ∷ b ∷ codes "--netlist" ∷ []) (codes "unit") ≡ Some a
+unfolding clap_on_literals given two_words two_words_and_flag
+flagged_unit a b plain_a plain_b = simp (no_hyphen a plain_a, no_dashes a plain_a, no_hyphen b plain_b, no_dashes b plain_b)
+
+flagged_names : (a b : List ℕ) → IsPlain a → IsPlain b → given show_app (codes "show" ∷ a ∷ b ∷ codes "--netlist" ∷ []) (codes "names") ≡ Some b
+unfolding clap_on_literals given two_words two_words_and_flag
+flagged_names a b plain_a plain_b = simp (no_hyphen a plain_a, no_dashes a plain_a, no_hyphen b plain_b, no_dashes b plain_b)
+
+flagged_set : (a b : List ℕ) → IsPlain a → IsPlain b → has_netlist (codes "show" ∷ a ∷ b ∷ codes "--netlist" ∷ []) ≡ true
+unfolding clap_on_literals given two_words two_words_and_flag
+flagged_set a b plain_a plain_b = simp (no_hyphen a plain_a, no_dashes a plain_a, no_hyphen b plain_b, no_dashes b plain_b)
+
+behind_taken : (a b : List ℕ) → Takes show_app (codes "show" ∷ codes "--" ∷ a ∷ b ∷ [])
+unfolding clap_on_literals Takes two_words two_words_and_flag
+behind_taken a b = refl
+
+behind_unit : (a b : List ℕ) → given show_app (codes "show" ∷ codes "--" ∷ a ∷ b ∷ []) (codes "unit") ≡ Some a
+unfolding clap_on_literals given two_words two_words_and_flag
+behind_unit a b = refl
+
+behind_names : (a b : List ℕ) → given show_app (codes "show" ∷ codes "--" ∷ a ∷ b ∷ []) (codes "names") ≡ Some b
+unfolding clap_on_literals given two_words two_words_and_flag
+behind_names a b = refl
+
+behind_unset : (a b : List ℕ) → has_netlist (codes "show" ∷ codes "--" ∷ a ∷ b ∷ []) ≡ false
+unfolding clap_on_literals given two_words two_words_and_flag
+behind_unset a b = refl
 
 pub plain_wave : (most : ℕ) (unit recording : List ℕ) → IsPlain unit → IsPlain recording
     → IsCommand most (codes "wave" ∷ unit ∷ recording ∷ []) (wave unit recording)
@@ -98,13 +145,41 @@ plain_wave most unit recording one two = plain_reads (codes "wave") (codes "unit
 
 pub plain_show : (most : ℕ) (unit names : List ℕ) → IsPlain unit → IsPlain names
     → IsCommand most (codes "show" ∷ unit ∷ names ∷ []) (show unit names)
-plain_show most unit names one two = plain_reads (codes "show") (codes "unit") (codes "names") unit names show_names one two
+plain_show most unit names one two = (
+  record {
+    named = refl;
+    taken = shown_taken unit names one two;
+    one_given = shown_unit unit names one two;
+    two_given = shown_names unit names one two;
+  },
+  shown_unset unit names one two,
+)
+
+pub plain_netlist : (most : ℕ) (unit netlist : List ℕ) → IsPlain unit → IsPlain netlist
+    → IsCommand most (codes "show" ∷ unit ∷ netlist ∷ codes "--netlist" ∷ []) (show_netlist unit netlist)
+plain_netlist most unit netlist one two = (
+  record {
+    named = refl;
+    taken = flagged_taken unit netlist one two;
+    one_given = flagged_unit unit netlist one two;
+    two_given = flagged_names unit netlist one two;
+  },
+  flagged_set unit netlist one two,
+)
 
 pub wave_behind : (most : ℕ) (unit recording : List ℕ) → IsCommand most (codes "wave" ∷ codes "--" ∷ unit ∷ recording ∷ []) (wave unit recording)
 wave_behind most unit recording = reads_behind (codes "wave") (codes "unit") (codes "recording") unit recording wave_names
 
 pub show_behind : (most : ℕ) (unit names : List ℕ) → IsCommand most (codes "show" ∷ codes "--" ∷ unit ∷ names ∷ []) (show unit names)
-show_behind most unit names = reads_behind (codes "show") (codes "unit") (codes "names") unit names show_names
+show_behind most unit names = (
+  record {
+    named = refl;
+    taken = behind_taken unit names;
+    one_given = behind_unit unit names;
+    two_given = behind_names unit names;
+  },
+  behind_unset unit names,
+)
 
 pub plain_gen : (most seed samples : ℕ) → most < 2 ^ 32 → seed ≤ most_seed → 1 ≤ samples → samples ≤ most
     → IsCommand most (codes "gen" ∷ decimal seed ∷ decimal samples ∷ []) (gen seed samples)

@@ -3,10 +3,11 @@
 
 ghost use Rattle.std.specs.Prelude.{◌≡◌, ◌⊎◌, ℕ, List, map, codes, IfOk, IfErr, Some, slice_get, string_bytes};
 ghost use Rattle.command_line.specs.Numbers.{IsNumber};
-ghost use Rattle.command_line.specs.Commands.{IsCommand, IsGen, IsUnnumbered, IsUntaken, meaning_of, most_seed};
+ghost use Rattle.command_line.specs.Commands.{AreUntakenWords, IsCommand, IsGen, IsUnnumbered, IsUntaken};
+ghost use Rattle.command_line.specs.Commands.{meaning_of, most_seed, show_app};
 
 use crate::number::number;
-use crate::parsing::two_words;
+use crate::parsing::{show_words, two_words};
 use crate::{Command, WordsFault};
 use std::alloc::Global;
 
@@ -17,19 +18,25 @@ const MOST_SEED: u32 = 0x7fff_ffff;
 pub fn read_wave<'a>(alloc: Global, words: &'a [String]) -> Result<Command<'a>, WordsFault>
     requires { slice_get (map string_bytes words.now) 0 ≡ Some (codes "wave") }
     ensures command { IfOk result (λ command. (most : ℕ) → IsCommand most (map string_bytes words.entry.now) (meaning_of command)) }
-    ensures usage { IfErr result (λ fault. fault ≡ WordsFault.Usage → IsUntaken (codes "wave") (codes "unit") (codes "recording") (map string_bytes words.entry.now)) }
+    ensures usage { IfErr result (λ fault. fault ≡ WordsFault.Usage → AreUntakenWords (codes "wave") (codes "unit") (codes "recording") (map string_bytes words.entry.now)) }
 {
     let (unit, recording) = two_words(alloc, words, "wave", "unit", "recording")?;
     Ok(Command::Wave { unit, recording })
 }
 
-/// `show UNIT NAMES`
+/// `show UNIT NAMES`, with `--netlist` or without it
 pub fn read_show<'a>(alloc: Global, words: &'a [String]) -> Result<Command<'a>, WordsFault>
     requires { slice_get (map string_bytes words.now) 0 ≡ Some (codes "show") }
     ensures command { IfOk result (λ command. (most : ℕ) → IsCommand most (map string_bytes words.entry.now) (meaning_of command)) }
-    ensures usage { IfErr result (λ fault. fault ≡ WordsFault.Usage → IsUntaken (codes "show") (codes "unit") (codes "names") (map string_bytes words.entry.now)) }
+    ensures usage { IfErr result (λ fault. fault ≡ WordsFault.Usage → IsUntaken (codes "show") show_app (map string_bytes words.entry.now)) }
 {
-    let (unit, names) = two_words(alloc, words, "show", "unit", "names")?;
+    let (unit, names, is_netlist) = show_words(alloc, words)?;
+    if is_netlist {
+        return Ok(Command::ShowNetlist {
+            unit,
+            netlist: names,
+        });
+    }
     Ok(Command::Show { unit, names })
 }
 
@@ -41,7 +48,7 @@ pub fn read_gen<'a>(
 ) -> Result<Command<'a>, WordsFault>
     requires { slice_get (map string_bytes words.now) 0 ≡ Some (codes "gen") }
     ensures command { IfOk result (λ command. IsCommand most_samples (map string_bytes words.entry.now) (meaning_of command)) }
-    ensures usage { IfErr result (λ fault. fault ≡ WordsFault.Usage → IsUntaken (codes "gen") (codes "seed") (codes "samples") (map string_bytes words.entry.now) ⊎ IsUnnumbered most_samples (map string_bytes words.entry.now)) }
+    ensures usage { IfErr result (λ fault. fault ≡ WordsFault.Usage → AreUntakenWords (codes "gen") (codes "seed") (codes "samples") (map string_bytes words.entry.now) ⊎ IsUnnumbered most_samples (map string_bytes words.entry.now)) }
 {
     let (seed, samples) = two_words(alloc, words, "gen", "seed", "samples")?;
     gen_of(seed, samples, most_samples)

@@ -1,8 +1,8 @@
 //! What `clap` reads.
 
-ghost use Rattle.std.specs.Prelude.{◌≡◌, ◌≢◌, ℕ, List, map, Some, IfOk, IfErr, is_some, true, slice_get, string_bytes};
+ghost use Rattle.std.specs.Prelude.{◌≡◌, ◌≢◌, ℕ, List, map, Some, IfOk, IfErr, is_some, true, slice_get, string_bytes, codes};
 ghost use Rattle.clap.specs.Words.{IsParsedFrom, app_of, found_of, first_value, rule_of};
-ghost use Rattle.command_line.specs.Commands.{Reads};
+ghost use Rattle.command_line.specs.Commands.{ReadsShow, ReadsWords, has_netlist, show_app};
 ghost use Rattle.command_line.specs.Clap as spec;
 
 use crate::WordsFault;
@@ -21,12 +21,39 @@ pub fn two_words<'a>(
 ) -> Result<(&'a str, &'a str), WordsFault>
     requires named { slice_get (map string_bytes words.now) 0 ≡ Some name.now }
     requires names { spec.AreNames first.now second.now }
-    ensures taken { IfOk result (λ found. Reads name.entry.now first.entry.now second.entry.now (map string_bytes words.entry.now) found.0.now found.1.now) }
+    ensures taken { IfOk result (λ found. ReadsWords name.entry.now first.entry.now second.entry.now (map string_bytes words.entry.now) found.0.now found.1.now) }
     ensures usage { IfErr result (λ fault. fault ≡ WordsFault.Usage → spec.Takes (spec.two_words name.entry.now first.entry.now second.entry.now) (map string_bytes words.entry.now) → ⊥) }
 {
     let command = two_word_command(alloc, name, first, second)?;
     let matches = parse(command, words)?;
     Ok((word(&matches, first), word(&matches, second)))
+}
+
+/// The words of `show`, and whether `--netlist` stands among them.
+pub fn show_words<'a>(
+    alloc: Global,
+    words: &'a [String],
+) -> Result<(&'a str, &'a str, bool), WordsFault>
+    requires { slice_get (map string_bytes words.now) 0 ≡ Some (codes "show") }
+    ensures taken { IfOk result (λ found. ReadsShow (map string_bytes words.entry.now) found.0.now found.1.now) }
+    ensures netlist { IfOk result (λ found. found.2 ≡ has_netlist (map string_bytes words.entry.now)) }
+    ensures usage { IfErr result (λ fault. fault ≡ WordsFault.Usage → spec.Takes show_app (map string_bytes words.entry.now) → ⊥) }
+{
+    let matches = parse(show_command(alloc)?, words)?;
+    Ok((
+        word(&matches, "unit"),
+        word(&matches, "names"),
+        is_set(&matches, "netlist"),
+    ))
+}
+
+/// The command `show UNIT NAMES [--netlist]`, as `clap` is told of it.
+fn show_command<'a>(alloc: Global) -> Result<clap::Command<'a>, AllocError>
+    ensures app { IfOk result (λ command. app_of command ≡ show_app) }
+    ensures made { IfOk result (spec.IsMadeWithFlag (codes "unit") (codes "names") (codes "netlist")) }
+{
+    let command = two_word_command(alloc, "show", "unit", "names")?;
+    command.arg(flag(alloc, "netlist"))
 }
 
 /// The command `NAME FIRST SECOND`, as `clap` is told of it.
@@ -37,7 +64,7 @@ fn two_word_command<'a>(
     second: &'a str,
 ) -> Result<clap::Command<'a>, AllocError>
     ensures app { IfOk result (λ command. app_of command ≡ spec.two_words name.entry.now first.entry.now second.entry.now) }
-    ensures made { IfOk result (spec.IsMadeOf first.entry.now second.entry.now) }
+    ensures made { IfOk result (spec.IsMadeOfWords first.entry.now second.entry.now) }
 {
     let command = clap::Command::new(alloc, name)
         .disable_help_flag(true)
@@ -52,6 +79,14 @@ fn required<'a>(alloc: Global, id: &'a str) -> Arg<'a>
     ensures wanted { spec.IsWanted id.entry.now result }
 {
     Arg::new(alloc, id).required(true).action(ArgAction::Set)
+}
+
+/// A flag `--NAME`.
+fn flag<'a>(alloc: Global, id: &'a str) -> Arg<'a>
+    ensures rule { rule_of result ≡ spec.flag id.entry.now }
+    ensures flag { spec.IsFlag id.entry.now result }
+{
+    Arg::new(alloc, id).long(id).action(ArgAction::SetTrue)
 }
 
 /// What `clap` finds in the words for a command.
@@ -84,5 +119,15 @@ fn fault_of_kind(kind: ErrorKind) -> WordsFault
     match kind {
         ErrorKind::OutOfMemory => WordsFault::NoMemory,
         _ => WordsFault::Usage,
+    }
+}
+
+/// Whether a flag was found.
+fn is_set(matches: &ArgMatches, id: &str) -> bool
+    ensures { result ≡ spec.is_true (first_value (found_of matches.now) id.now) }
+{
+    match matches.get_str(id) {
+        Some(value) => value == "true",
+        None => false,
     }
 }

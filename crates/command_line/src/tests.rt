@@ -34,6 +34,13 @@ fn show<'a>(words: &'a [&'a str], unit: &'a str, names: &'a str) -> Row<'a> {
     }
 }
 
+fn netlist<'a>(words: &'a [&'a str], unit: &'a str, netlist: &'a str) -> Row<'a> {
+    Row {
+        words,
+        wanted: Some(Command::ShowNetlist { unit, netlist }),
+    }
+}
+
 fn gen_of<'a>(words: &'a [&'a str], seed: u32, samples: u32) -> Row<'a> {
     Row {
         words,
@@ -85,6 +92,11 @@ fn names_of_files(rt: HostRuntime) -> Result<(), Fail> {
         wave(&["wave", "--", "--", "r"], "--", "r"),
         show(&["show", "u.psl", "r.vcd"], "u.psl", "r.vcd"),
         show(&["show", "--", "-1", "r"], "-1", "r"),
+        show(&["show", "--", "u", "--netlist"], "u", "--netlist"),
+        netlist(&["show", "u.psl", "n.blif", "--netlist"], "u.psl", "n.blif"),
+        netlist(&["show", "u.psl", "--netlist", "n.blif"], "u.psl", "n.blif"),
+        netlist(&["show", "--netlist", "u.psl", "n.blif"], "u.psl", "n.blif"),
+        netlist(&["show", "--netlist", "--", "-u", "-n"], "-u", "-n"),
     ];
     assert_eq!(rt; first_wrong(rt.alloc(), rows.as_slice())?, None);
     Ok(())
@@ -142,7 +154,11 @@ fn words_that_are_no_command(rt: HostRuntime) -> Result<(), Fail> {
         usage(&["wave", "u", "r", "--version"]),
         usage(&["wave", "u", "r", "-V"]),
         usage(&["show", "u"]),
-        usage(&["show", "u", "n", "--netlist"]),
+        usage(&["show", "u", "--netlist"]),
+        usage(&["show", "u", "n", "--netlist", "--netlist"]),
+        usage(&["show", "u", "n", "--netlist=true"]),
+        usage(&["show", "u", "n", "--net"]),
+        usage(&["wave", "u", "r", "--netlist"]),
         usage(&["gen", "1"]),
         usage(&["gen", "1", "2", "3"]),
     ];

@@ -3,6 +3,7 @@ pub mod Filled
 pub mod Following
 pub mod Held
 pub mod InOrder
+pub mod Named
 pub mod RowLists
 pub mod Uniqueness
 pub mod Walking

@@ -1,4 +1,5 @@
 ghost use Rattle.std.specs.Prelude.{◌≡◌, ℕ, ◌+◌, ◌<◌, ◌^◌, List, length, All, Any, Contains};
+ghost use Rattle.psl_tree.specs.Names.{AreAlike};
 ghost use Rattle.netlist.specs.Design.{driven_signals, marks_of};
 ghost use Rattle.netlist.specs.Sound.{AreApart, IsOrder, IsSound, NamesBit};
 
@@ -96,8 +97,11 @@ impl Netlist {
 
     /// The names of the signals: each has at least one, with 0 as its left and its right index.
     pub fn names(&self) -> &Names
-        ensures { result.now ≡ self.now.names }
+        ensures names { result.now ≡ self.now.names }
+        // names of one signal have as many indices
+        ensures alike { AreAlike self.now.names }
     {
+        self.facts();
         &self.names
     }
 
