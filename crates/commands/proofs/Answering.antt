@@ -2,7 +2,7 @@
 use Rattle.std.proofs.Common.{◌≡◌, refl, sym, ◌∙◌, ap, subst, ℕ, List, [], ◌∷◌, Some, inl, inr}
 use Rattle.std.specs.Prelude.{◌≢◌, Result, Ok, Err, IfOk, IfErr}
 use Rattle.command_line.specs.Commands.{Meaning}
-use Rattle.command_line.specs.Commands.Meaning.{wave, show, gen}
+use Rattle.command_line.specs.Commands.Meaning.{wave, show, show_netlist, gen}
 use Rattle.psl_base.specs.Shelf.{Contents, ShelfState}
 use Rattle.commands.proofs.Staging.{cause-moved, same_state, none-unread}
 use Rattle.commands.specs.Commands.{CommandStage, FirstRefusal, IsCommand, IsNoCommand, IsNamed, IsOfCommand, IsOutcomeOf, MeaningStage, MeaningOutcome, files_of}
@@ -12,7 +12,7 @@ use Rattle.commands.specs.Generated.{GeneratedStage}
 use Rattle.commands.specs.Planning.{IsAnswer}
 use Rattle.commands.specs.Rows.{OfWords, OfReading, OfWriting, OfMemory, cause_of}
 use Rattle.commands.specs.Stages.{Then, OfTold, Gives, IsOfFiles, IsOfFilesOrMemory, IsStage, SpeaksOfFile}
-use Rattle.commands.specs.Waves.{WaveStage, ShowStage}
+use Rattle.commands.specs.Waves.{WaveStage, ShowStage, ShowNetlistStage}
 use Rattle.commands.specs.declared.finish.Planned.{Planned}
 use Rattle.commands.specs.declared.outcome.Fault.{Fault}
 use Rattle.commands.specs.declared.outcome.Line.{Line}
@@ -149,6 +149,16 @@ pub show-refuses : (words : List (List ℕ)) (unit names : List ℕ) (old new : 
     → IsStage (unit ∷ names ∷ []) (ShowStage unit names) old new (Err fault) → IsAnswer itself words old new (Err fault)
 show-refuses words unit names old new fault is s =
     stage-refuses words (show unit names) is old new (ShowStage unit names) Shown (λ files result h. h) fault s
+
+pub netlist-answers : (words : List (List ℕ)) (unit netlist : List ℕ) (old new : ShelfState) (lines : List Line) → IsCommand words (show_netlist unit netlist)
+    → IsStage (unit ∷ netlist ∷ []) (ShowNetlistStage unit netlist) old new (Ok lines) → IsAnswer itself words old new (Ok (Shown lines))
+netlist-answers words unit netlist old new lines is s =
+    stage-answers words (show_netlist unit netlist) is old new (ShowNetlistStage unit netlist) Shown (λ files result h. h) lines (lines, refl) (λ e. cc) s
+
+pub netlist-refuses : (words : List (List ℕ)) (unit netlist : List ℕ) (old new : ShelfState) (fault : Fault) → IsCommand words (show_netlist unit netlist)
+    → IsStage (unit ∷ netlist ∷ []) (ShowNetlistStage unit netlist) old new (Err fault) → IsAnswer itself words old new (Err fault)
+netlist-refuses words unit netlist old new fault is s =
+    stage-refuses words (show_netlist unit netlist) is old new (ShowNetlistStage unit netlist) Shown (λ files result h. h) fault s
 
 made-some : (seed samples : ℕ) (outcome : Outcome) → GeneratedStage seed samples (Ok outcome) → outcome ≢ Nothing
 made-some seed samples outcome (verdicts, are, e) is =

@@ -86,6 +86,26 @@ stage-value names First value old new a s = record {
   kept = s.kept;
 }
 
+-- a file, and then a second one, whose values are put together
+
+module _ {A B C : Type 0} (one two : List ℕ) (First : Contents → Result A Fault → Type 0) (Second : Contents → Result B Fault → Type 0) (both : A → B → C) where
+  abbrev After : A → Contents → Result C Fault → Type 0
+  After a = Then Second (λ b files result. result ≡ Ok (both a b))
+
+  pub both-first : (old new : ShelfState) (fault : Fault) → IsStage (one ∷ []) First old new (Err fault) → IsStage (one ∷ two ∷ []) (Then First After) old new (Err fault)
+  both-first old new fault s = stage-first (one ∷ []) (two ∷ []) First After old new fault s
+
+  pub both-second : (old mid new : ShelfState) (a : A) (fault : Fault) → IsStage (one ∷ []) First old mid (Ok a) → IsStage (two ∷ []) Second mid new (Err fault)
+      → IsStage (one ∷ two ∷ []) (Then First After) old new (Err fault)
+  both-second old mid new a fault s t =
+      stage-then (one ∷ []) (two ∷ []) First After old mid new a (Err fault) s
+      (stage-first (two ∷ []) [] Second (λ b files result. result ≡ Ok (both a b)) mid new fault t)
+
+  pub both-loaded : (old mid new : ShelfState) (a : A) (b : B) → IsStage (one ∷ []) First old mid (Ok a) → IsStage (two ∷ []) Second mid new (Ok b)
+      → IsStage (one ∷ two ∷ []) (Then First After) old new (Ok (both a b))
+  both-loaded old mid new a b s t =
+      stage-then (one ∷ []) (two ∷ []) First After old mid new a (Ok (both a b)) s (stage-value (two ∷ []) Second (both a) mid new b t)
+
 -- a reading behind a stage, of its first file
 
 module _ {A B : Type 0} (name : List ℕ) (names : List (List ℕ)) (First : Contents → Result A Fault → Type 0) (Reading : A → Result B Fault → Type 0) where

@@ -4,8 +4,10 @@ pub mod Completing
 pub mod Composing
 pub mod Ending
 pub mod Generating
+pub mod Netlists
 pub mod OneAnswer
 pub mod Reasons
 pub mod Recordings
 pub mod SameUnits
+pub mod Sources
 pub mod Staging

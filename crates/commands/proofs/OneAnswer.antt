@@ -1,11 +1,15 @@
 -- Words over contents have one first refusal, or none.
 use Rattle.std.proofs.Common.{◌≡◌, refl, sym, ◌∙◌, ap, subst, ℕ, ◌<◌, ◌^◌, List, [], map, Option, None, Some, Ok, Err, arith, inl, inr}
 use Rattle.std.specs.Prelude.{◌≢◌, Result}
+use Rattle.blif_model.specs.declared.fault.BlifFault.{BlifFault}
+use Rattle.blif_reader.proofs.Readings.{reading-one}
+use Rattle.blif_reader.specs.Meaning.{IsReading}
+use Rattle.netlist.specs.Design.{Design}
 use Rattle.psl_base.specs.Shelf.{Contents}
 use Rattle.psl_base.specs.declared.place.Place.{Place}
 use Rattle.command_line.proofs.Meanings.{one_meaning}
 use Rattle.command_line.specs.Commands.{Meaning}
-use Rattle.command_line.specs.Commands.Meaning.{wave, show, gen}
+use Rattle.command_line.specs.Commands.Meaning.{wave, show, show_netlist, gen}
 use Rattle.psl_grammar.specs.declared.tree.UnitTree.{UnitTree}
 use Rattle.psl_grammar.specs.Surface.{tree_node}
 use Rattle.psl_layer_laws.proofs.TreeLaws.{same-tree}
@@ -31,12 +35,16 @@ use Rattle.psl_tree.specs.declared.directive.Directive.{Directive}
 use Rattle.psl_tree.specs.declared.name.Name.{Name}
 use Rattle.commands.proofs.Alike.{Agree, alike-err, alike-ok, agree-faults, agree-told, agree-then, agree-content}
 use Rattle.commands.proofs.SameUnits.{SameUnit, all-judgeable, same-first, same-said}
-use Rattle.commands.specs.Diagnostics.{lex_diagnostic, parse_diagnostic, layer_diagnostic, judge_diagnostic, vcd_diagnostic}
+use Rattle.commands.specs.Diagnostics.{lex_diagnostic, parse_diagnostic, layer_diagnostic, judge_diagnostic, vcd_diagnostic, blif_diagnostic}
 use Rattle.commands.specs.Commands.{CommandStage, FirstRefusal, MeaningStage}
 use Rattle.commands.specs.Faults.{of_none}
 use Rattle.commands.specs.Generated.{GeneratedStage}
-use Rattle.commands.specs.Stages.{AndThen, Then}
-use Rattle.commands.specs.Waves.{TokensReading, TreeReading, UnitReading, RecordingReading, DirectivesReading, AreJudged, JudgeReading, VerdictsReading, LinesReading, UnitStage, RecordingStage, InputsStage, WaveStage, ShowStage, line_of}
+use Rattle.commands.specs.Stages.{AndThen, OfFile, Then}
+use Rattle.commands.specs.Waves.{TokensReading, TreeReading, UnitReading, UnitStage, TextAnd, DirectivesReading}
+use Rattle.commands.specs.Waves.{RecordingReading, InputsStage, with_recording, NetlistReading, CircuitStage, with_netlist}
+use Rattle.commands.specs.Waves.{AreJudged, JudgeReading, VerdictsReading, WaveStage}
+use Rattle.commands.specs.Waves.{LinesReading, ShowStage, ShowNetlistStage, line_of}
+use Rattle.commands.specs.declared.inputs.Circuit.{Circuit}
 use Rattle.commands.specs.declared.inputs.Inputs.{Inputs}
 use Rattle.commands.specs.declared.outcome.Fault.{Fault}
 use Rattle.commands.specs.declared.outcome.Line.{Line}
@@ -110,25 +118,57 @@ one-recording name bytes =
     (λ c d _ _ h k. ap vcd_diagnostic (err-err c d (reading bytes) h k))
     (λ r d _ h k. ok-no-err r d (reading bytes) h k) (λ c r _ h k. ok-no-err r c (reading bytes) k h)
 
--- what is read
+-- netlists
+
+same-ok : (d e : Design) (r s : Result Design BlifFault) → r ≡ Ok d → s ≡ Ok e → r ≡ s → d ≡ e
+same-ok d e r s p q same = cc
+
+same-err : (c d : BlifFault) (r s : Result Design BlifFault) → r ≡ Err c → s ≡ Err d → r ≡ s → c ≡ d
+same-err c d r s p q same = cc
+
+ok-no-fault : (d : Design) (c : BlifFault) (r s : Result Design BlifFault) → r ≡ Ok d → s ≡ Err c → r ≡ s → ⊥
+ok-no-fault d c r s p q same = cc
+
+one-netlist : (name bytes : List ℕ) → Agree (λ (d e : Design). d ≡ e) (NetlistReading name bytes) (NetlistReading name bytes)
+one-netlist name bytes =
+    agree-told name blif_diagnostic blif_diagnostic (λ design. IsReading bytes (Ok design)) (λ design. IsReading bytes (Ok design))
+    (λ fault. IsReading bytes (Err fault)) (λ fault. IsReading bytes (Err fault)) (λ (d e : Design). d ≡ e)
+    (λ d e h k. same-ok d e (Ok d) (Ok e) refl refl (reading-one bytes (Ok d) (Ok e) h k))
+    (λ c d _ _ h k. ap blif_diagnostic (same-err c d (Err c) (Err d) refl refl (reading-one bytes (Err c) (Err d) h k)))
+    (λ d c _ h k. ok-no-fault d c (Ok d) (Err c) refl refl (reading-one bytes (Ok d) (Err c) h k)) (λ c d _ h k. ok-no-fault d c (Ok d) (Err c) refl refl (reading-one bytes (Ok d) (Err c) k h))
+
+-- a text and a second file
+
+module _ {A B : Type 0} (unit second : List ℕ) (Reading : List ℕ → Result A Fault → Type 0) (both : UnitTree → A → B) (files : Contents) (Same : B → B → Type 0)
+    (same-both : (t u : UnitTree) (r s : A) → SameTree t u → r ≡ s → Same (both t r) (both u s)) where
+  one-both : ((bytes : List ℕ) → Agree (λ (r s : A). r ≡ s) (Reading bytes) (Reading bytes))
+      → Agree Same (TextAnd unit (OfFile Reading second) both files) (TextAnd unit (OfFile Reading second) both files)
+  one-both one =
+      agree-then SameTree Same (UnitStage unit files) (UnitStage unit files) (λ t. after t) (λ t. after t)
+      (agree-content SameTree (UnitReading unit) (UnitReading unit) unit (files unit) (one-unit unit))
+      (λ t u e. agree-then (λ (r s : A). r ≡ s) Same (OfFile Reading second files) (OfFile Reading second files)
+      (λ r result. result ≡ Ok (both t r)) (λ r result. result ≡ Ok (both u r))
+      (agree-content (λ (r s : A). r ≡ s) Reading Reading second (files second) one)
+      (λ r s same a b h k. alike-ok Same (both t r) (both u s) a b h k (same-both t u r s e same)))
+    where
+      after : UnitTree → Result B Fault → Type 0
+      after t = Then (OfFile Reading second) (λ value files result. result ≡ Ok (both t value)) files
+
 pub record SameInputs (i j : Inputs) : Type 0 where
   pub trees : tree_node i.tree ≡ tree_node j.tree
   pub recordings : i.recording ≡ j.recording
 
-abbrev both : UnitTree → Sampled → Inputs
-both t r = record { tree = t; recording = r }
-
 one-inputs : (unit recording : List ℕ) (files : Contents) → Agree SameInputs (InputsStage unit recording files) (InputsStage unit recording files)
 one-inputs unit recording files =
-    agree-then SameTree SameInputs (UnitStage unit files) (UnitStage unit files) (λ t. after t files) (λ t. after t files)
-    (agree-content SameTree (UnitReading unit) (UnitReading unit) unit (files unit) (one-unit unit))
-    (λ t u e. agree-then (λ (r s : Sampled). r ≡ s) SameInputs (RecordingStage recording files) (RecordingStage recording files)
-    (λ r result. result ≡ Ok (both t r)) (λ r result. result ≡ Ok (both u r))
-    (agree-content (λ (r s : Sampled). r ≡ s) (RecordingReading recording) (RecordingReading recording) recording (files recording) (one-recording recording))
-    (λ r s same a b h k. alike-ok SameInputs (both t r) (both u s) a b h k (record { trees = e; recordings = same })))
-  where
-    after : UnitTree → Contents → Result Inputs Fault → Type 0
-    after t = Then (RecordingStage recording) (λ sampled files result. result ≡ Ok (record { tree = t; recording = sampled }))
+    one-both unit recording (RecordingReading recording) with_recording files SameInputs (λ t u r s e same. record { trees = e; recordings = same }) (one-recording recording)
+
+pub record SameCircuit (i j : Circuit) : Type 0 where
+  pub trees : tree_node i.tree ≡ tree_node j.tree
+  pub netlists : i.netlist ≡ j.netlist
+
+one-circuit : (unit netlist : List ℕ) (files : Contents) → Agree SameCircuit (CircuitStage unit netlist files) (CircuitStage unit netlist files)
+one-circuit unit netlist files =
+    one-both unit netlist (NetlistReading netlist) with_netlist files SameCircuit (λ t u d e same netlists. record { trees = same; netlists = netlists }) (one-netlist netlist)
 
 -- kinds and names
 
@@ -204,13 +244,14 @@ one-verdicts name i j same =
     (JudgeReading name i.recording) (JudgeReading name i.recording)
     (one-directives name i.recording.names i.tree j.tree same.trees) (one-judged name i.recording))
 
-one-lines : (name : List ℕ) (i j : Inputs) → SameInputs i j → Agree (Any-two {A = List Line}) (LinesReading name i.tree i.recording.names) (LinesReading name j.tree j.recording.names)
-one-lines name i j same =
-    subst (λ (r : Sampled). Agree (Any-two {A = List Line}) (LinesReading name i.tree i.recording.names) (LinesReading name j.tree r.names)) same.recordings
-    (agree-then SameUnit (Any-two {A = List Line}) (DirectivesReading name i.tree i.recording.names) (DirectivesReading name j.tree i.recording.names)
-    (λ directives result. result ≡ Ok (map (line_of i.recording.names) directives)) (λ directives result. result ≡ Ok (map (line_of i.recording.names) directives))
-    (one-directives name i.recording.names i.tree j.tree same.trees)
-    (λ u v s a b h k. alike-ok (Any-two {A = List Line}) (map (line_of i.recording.names) u) (map (line_of i.recording.names) v) a b h k tt))
+one-lines : (name : List ℕ) (t u : UnitTree) (names names' : List Name) → SameTree t u → names ≡ names'
+    → Agree (Any-two {A = List Line}) (LinesReading name t names) (LinesReading name u names')
+one-lines name t u names names' same e =
+    subst (λ (other : List Name). Agree (Any-two {A = List Line}) (LinesReading name t names) (LinesReading name u other)) e
+    (agree-then SameUnit (Any-two {A = List Line}) (DirectivesReading name t names) (DirectivesReading name u names)
+    (λ directives result. result ≡ Ok (map (line_of names) directives)) (λ directives result. result ≡ Ok (map (line_of names) directives))
+    (one-directives name names t u same)
+    (λ v w s a b h k. alike-ok (Any-two {A = List Line}) (map (line_of names) v) (map (line_of names) w) a b h k tt))
 
 -- commands: the stage of one gives one fault, or outcomes
 
@@ -221,21 +262,26 @@ one-outcome Same Stage outcome files one =
     (λ v w _ a b h k. alike-ok (Any-two {A = Outcome}) (outcome v) (outcome w) a b h k tt)
 
 -- of a reading over what is loaded
-one-loaded : {B : Type 0} (unit recording : List ℕ) (Reading : Inputs → Result B Fault → Type 0) (files : Contents)
-    → ((i j : Inputs) → SameInputs i j → Agree (Any-two {A = B}) (Reading i) (Reading j))
-    → Agree (Any-two {A = B}) (Then (InputsStage unit recording) (λ inputs _. Reading inputs) files) (Then (InputsStage unit recording) (λ inputs _. Reading inputs) files)
-one-loaded {B} unit recording Reading files one =
-    agree-then SameInputs (Any-two {A = B}) (InputsStage unit recording files) (InputsStage unit recording files) Reading Reading (one-inputs unit recording files) one
+one-loaded : {A B : Type 0} (Same : A → A → Type 0) (Loaded : Contents → Result A Fault → Type 0) (Reading : A → Result B Fault → Type 0) (files : Contents)
+    → Agree Same (Loaded files) (Loaded files) → ((i j : A) → Same i j → Agree (Any-two {A = B}) (Reading i) (Reading j))
+    → Agree (Any-two {A = B}) (Then Loaded (λ loaded _. Reading loaded) files) (Then Loaded (λ loaded _. Reading loaded) files)
+one-loaded {B = B} Same Loaded Reading files loaded one = agree-then Same (Any-two {A = B}) (Loaded files) (Loaded files) Reading Reading loaded one
 
 one-made : (seed samples : ℕ) → Agree (Any-two {A = Outcome}) (GeneratedStage seed samples) (GeneratedStage seed samples)
 one-made seed samples a b (v, _, e) (w, _, f) = alike-ok (Any-two {A = Outcome}) _ _ a b e f tt
 
 one-meaning : (meaning : Meaning) (files : Contents) → Agree (Any-two {A = Outcome}) (MeaningStage meaning files) (MeaningStage meaning files)
 one-meaning (wave unit recording) files =
-    one-outcome (Any-two {A = List Verdict}) (WaveStage unit recording) Wave files (one-loaded unit recording (VerdictsReading unit) files (one-verdicts unit))
+    one-outcome (Any-two {A = List Verdict}) (WaveStage unit recording) Wave files
+    (one-loaded SameInputs (InputsStage unit recording) (VerdictsReading unit) files (one-inputs unit recording files) (one-verdicts unit))
 one-meaning (show unit names) files =
     one-outcome (Any-two {A = List Line}) (ShowStage unit names) Shown files
-    (one-loaded unit names (λ inputs. LinesReading unit inputs.tree inputs.recording.names) files (one-lines unit))
+    (one-loaded SameInputs (InputsStage unit names) (λ inputs. LinesReading unit inputs.tree inputs.recording.names) files (one-inputs unit names files)
+    (λ i j same. one-lines unit i.tree j.tree i.recording.names j.recording.names same.trees (ap (λ (r : Sampled). r.names) same.recordings)))
+one-meaning (show_netlist unit netlist) files =
+    one-outcome (Any-two {A = List Line}) (ShowNetlistStage unit netlist) Shown files
+    (one-loaded SameCircuit (CircuitStage unit netlist) (λ circuit. LinesReading unit circuit.tree circuit.netlist.names) files (one-circuit unit netlist files)
+    (λ i j same. one-lines unit i.tree j.tree i.netlist.names j.netlist.names same.trees (ap (λ (d : Design). d.names) same.netlists)))
 one-meaning (gen seed samples) files = one-made seed samples
 
 -- words are one command at most

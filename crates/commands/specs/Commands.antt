@@ -2,13 +2,13 @@
 use Rattle.std.specs.Prelude.{◌≡◌, ℕ, ◌⊎◌, List, [], ◌∷◌, Option, Some, Result, Ok, Err}
 use Rattle.command_line.specs.Commands as words_of
 use Rattle.command_line.specs.Commands.{Meaning}
-use Rattle.command_line.specs.Commands.Meaning.{wave, show, gen}
+use Rattle.command_line.specs.Commands.Meaning.{wave, show, show_netlist, gen}
 use Rattle.psl_base.specs.Shelf.{Contents, ShelfState}
 use Rattle.commands.specs.Endings.{Explained}
 use Rattle.commands.specs.Faults.{of_none, fault_of}
 use Rattle.commands.specs.Generated.{GeneratedStage}
 use Rattle.commands.specs.Stages.{Then, IsOfFiles}
-use Rattle.commands.specs.Waves.{WaveStage, ShowStage}
+use Rattle.commands.specs.Waves.{WaveStage, ShowStage, ShowNetlistStage}
 use Rattle.commands.specs.declared.outcome.Fault.{Fault}
 use Rattle.commands.specs.declared.outcome.Line.{Line}
 use Rattle.commands.specs.declared.outcome.Outcome.{Outcome}
@@ -17,8 +17,8 @@ use Rattle.commands.specs.declared.reason.Reason.TheVariants.{Usage, WriteFault,
 use Rattle.vcd_reader.specs.Rules.{sample_limit}
 use Rattle.wave_judge.specs.declared.verdict.Verdict.{Verdict}
 
--- The words are this command: `wave UNIT RECORDING`, `show UNIT NAMES`, or `gen SEED SAMPLES` with a seed below 2^31 and
--- a number of samples from 1 to the limit on samples.
+-- The words are this command: `wave UNIT RECORDING`, `show UNIT NAMES`, `show UNIT NETLIST --netlist`, or
+-- `gen SEED SAMPLES` with a seed below 2^31 and a number of samples from 1 to the limit on samples.
 abbrev pub IsCommand : List (List ℕ) → Meaning → Type 0
 IsCommand words meaning = words_of.IsCommand sample_limit words meaning
 
@@ -30,6 +30,7 @@ IsNoCommand words = words_of.IsNoCommand sample_limit words
 abbrev pub files_of : Meaning → List (List ℕ)
 files_of (wave unit recording) = unit ∷ recording ∷ []
 files_of (show unit names) = unit ∷ names ∷ []
+files_of (show_netlist unit netlist) = unit ∷ netlist ∷ []
 files_of (gen seed samples) = []
 
 -- what a command gives over contents: an outcome, or the first refusal
@@ -37,12 +38,15 @@ abbrev pub MeaningStage : Meaning → Contents → Result Outcome Fault → Type
 MeaningStage (wave unit recording) files result =
     Then (WaveStage unit recording) (λ verdicts _ outcome. outcome ≡ Ok (Wave verdicts)) files result
 MeaningStage (show unit names) files result = Then (ShowStage unit names) (λ lines _ outcome. outcome ≡ Ok (Shown lines)) files result
+MeaningStage (show_netlist unit netlist) files result =
+    Then (ShowNetlistStage unit netlist) (λ lines _ outcome. outcome ≡ Ok (Shown lines)) files result
 MeaningStage (gen seed samples) files result = GeneratedStage seed samples result
 
 -- what is known of a command's outcome whatever the files tell: its kind, and that of `gen` is exact
 abbrev pub MeaningOutcome : Meaning → Outcome → Type 0
 MeaningOutcome (wave unit recording) outcome = (verdicts : List Verdict) × (outcome ≡ Wave verdicts)
 MeaningOutcome (show unit names) outcome = (lines : List Line) × (outcome ≡ Shown lines)
+MeaningOutcome (show_netlist unit netlist) outcome = (lines : List Line) × (outcome ≡ Shown lines)
 MeaningOutcome (gen seed samples) outcome = GeneratedStage seed samples (Ok outcome)
 
 -- what the words give over contents: an outcome, or the first refusal

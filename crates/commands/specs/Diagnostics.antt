@@ -1,7 +1,9 @@
--- What is said of the faults of texts, recordings and directives: the reason, and the place in the file.
+-- What is said of the faults of texts, recordings, netlists and directives: the reason, and the place in the file.
 use Rattle.std.specs.Prelude.{ℕ, ◌==◌, List, length, slice_get, Option, None, Some}
 use Rattle.std.specs.List.{find}
 use Rattle.std.specs.Option.{option_map}
+use Rattle.blif_model.specs.declared.fault.BlifFault.{BlifFault}
+use Rattle.blif_model.specs.declared.fault.BlifFault.TheVariants as blif
 use Rattle.psl_base.specs.Places.{place_at}
 use Rattle.psl_base.specs.declared.place.Place.{Place}
 use Rattle.psl_elaboration.specs.declared.fault.LayerFault.{LayerFault}
@@ -88,3 +90,23 @@ vcd_diagnostic (vcd.TooManySignals place) = at reasons.TooManySignals place
 vcd_diagnostic vcd.TooLong = whole reasons.TooLong
 vcd_diagnostic vcd.ReadFault = whole reasons.ReadFault
 vcd_diagnostic vcd.NoMemory = whole reasons.NoMemory
+
+-- netlists
+
+abbrev pub blif_diagnostic : BlifFault → Diagnostic
+blif_diagnostic (blif.UnknownCommand place) = at reasons.UnknownCommand place
+blif_diagnostic (blif.BadModel place) = at reasons.BadModel place
+blif_diagnostic (blif.BadRow place) = at reasons.BadRow place
+blif_diagnostic (blif.MixedRows place) = at reasons.MixedRows place
+blif_diagnostic (blif.BadLatch place) = at reasons.BadLatch place
+blif_diagnostic (blif.LatchType place) = at reasons.LatchType place
+blif_diagnostic (blif.TwoClocks place) = at reasons.TwoClocks place
+blif_diagnostic (blif.DrivenTwice place) = at reasons.DrivenTwice place
+blif_diagnostic (blif.Undriven place) = at reasons.Undriven place
+blif_diagnostic (blif.CombinationalCycle place) = at reasons.CombinationalCycle place
+blif_diagnostic (blif.MissingEnd place) = at reasons.NetlistMissingEnd place
+blif_diagnostic (blif.SecondModel place) = at reasons.SecondModel place
+blif_diagnostic (blif.TooLarge place) = at reasons.NetlistTooLarge place
+blif_diagnostic blif.TooLong = whole reasons.TooLong
+blif_diagnostic blif.ReadFault = whole reasons.ReadFault
+blif_diagnostic blif.NoMemory = whole reasons.NoMemory

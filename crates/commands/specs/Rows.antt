@@ -1,7 +1,18 @@
 -- One row for each reason of a fault: what is printed of it, the status of a run that ends with it, and what it speaks of.
 use Rattle.std.specs.Prelude.{ℕ, List, codes}
 use Rattle.commands.specs.declared.reason.Reason.{Reason}
-use Rattle.commands.specs.declared.reason.Reason.TheVariants.{Usage, ReadFault, WriteFault, TooLong, NoMemory, BadByte, Unended, NumberTooLarge, Syntax, Kind, UnknownName, Ambiguous, DeclaredTwice, EmptyRange, ConstantTooWide, TooLarge, SereTooLarge, AutomatonTooLarge, NestedTooDeep, StatementTooLong, UnknownKeyword, MissingEnd, BadVar, CodeSizeDiffers, ScopeNotOpen, BadTime, TimeFalls, CodeNotDeclared, BadValue, VectorTooLong, ChangeBeforeDefinitionsEnd, EndsInside, TooManySamples, TooManySignals}
+use Rattle.commands.specs.declared.reason.Reason.TheVariants.{Usage, ReadFault, WriteFault, TooLong, NoMemory, BadByte}
+use Rattle.commands.specs.declared.reason.Reason.TheVariants.{Unended, NumberTooLarge, Syntax, Kind, UnknownName}
+use Rattle.commands.specs.declared.reason.Reason.TheVariants.{Ambiguous, DeclaredTwice, EmptyRange, ConstantTooWide}
+use Rattle.commands.specs.declared.reason.Reason.TheVariants.{TooLarge, SereTooLarge, AutomatonTooLarge, NestedTooDeep}
+use Rattle.commands.specs.declared.reason.Reason.TheVariants.{StatementTooLong, UnknownKeyword, MissingEnd, BadVar}
+use Rattle.commands.specs.declared.reason.Reason.TheVariants.{CodeSizeDiffers, ScopeNotOpen, BadTime, TimeFalls}
+use Rattle.commands.specs.declared.reason.Reason.TheVariants.{CodeNotDeclared, BadValue, VectorTooLong}
+use Rattle.commands.specs.declared.reason.Reason.TheVariants.{ChangeBeforeDefinitionsEnd, EndsInside, TooManySamples}
+use Rattle.commands.specs.declared.reason.Reason.TheVariants.{TooManySignals, UnknownCommand, BadModel, BadRow}
+use Rattle.commands.specs.declared.reason.Reason.TheVariants.{MixedRows, BadLatch, LatchType, TwoClocks, DrivenTwice}
+use Rattle.commands.specs.declared.reason.Reason.TheVariants.{Undriven, CombinationalCycle, NetlistMissingEnd}
+use Rattle.commands.specs.declared.reason.Reason.TheVariants.{SecondModel, NetlistTooLarge}
 
 -- what a reason speaks of
 pub data Cause : Type 0 where
@@ -56,6 +67,19 @@ row_of ChangeBeforeDefinitionsEnd = row (codes "V11 ChangeBeforeDefinitionsEnd")
 row_of EndsInside = row (codes "V12 EndsInside") 5 OfText
 row_of TooManySamples = row (codes "V13 TooManySamples") 7 OfText
 row_of TooManySignals = row (codes "V14 TooManySignals") 7 OfText
+row_of UnknownCommand = row (codes "B1 UnknownCommand") 5 OfText
+row_of BadModel = row (codes "B2 BadModel") 5 OfText
+row_of BadRow = row (codes "B3 BadRow") 5 OfText
+row_of MixedRows = row (codes "B4 MixedRows") 5 OfText
+row_of BadLatch = row (codes "B5 BadLatch") 5 OfText
+row_of LatchType = row (codes "B6 LatchType") 5 OfText
+row_of TwoClocks = row (codes "B7 TwoClocks") 5 OfText
+row_of DrivenTwice = row (codes "B8 DrivenTwice") 5 OfText
+row_of Undriven = row (codes "B9 Undriven") 5 OfText
+row_of CombinationalCycle = row (codes "B10 CombinationalCycle") 5 OfText
+row_of NetlistMissingEnd = row (codes "B11 MissingEnd") 5 OfText
+row_of SecondModel = row (codes "B12 SecondModel") 5 OfText
+row_of NetlistTooLarge = row (codes "B13 TooLarge") 7 OfText
 
 -- what is printed of a reason
 abbrev pub fault_words : Reason → List ℕ

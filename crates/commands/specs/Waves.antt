@@ -1,6 +1,8 @@
--- What the commands over a text and a recording give: the verdicts of the text's directives on the recording, and
--- what the directives mean over its names.
+-- What the commands over a text and a second file give: the verdicts of the text's directives on a recording, and what
+-- the directives mean over the names of a recording or a netlist.
 use Rattle.std.specs.Prelude.{◌≡◌, ℕ, List, All, map, None, Result, Ok, Err}
+use Rattle.blif_reader.specs.Meaning.{IsReading}
+use Rattle.netlist.specs.Design.{Design}
 use Rattle.psl_base.specs.Shelf.{Contents}
 use Rattle.psl_grammar.specs.declared.tree.UnitTree.{UnitTree}
 use Rattle.psl_elaboration.specs.Answers.{IsUnit, IsLayerFault}
@@ -14,8 +16,9 @@ use Rattle.psl_tree.specs.Counts.{obligations_of, shown}
 use Rattle.psl_tree.specs.declared.directive.Directive.{Directive}
 use Rattle.psl_tree.specs.declared.name.Name.{Name}
 use Rattle.psl_tree.specs.Trees.{formula_of}
-use Rattle.commands.specs.Diagnostics.{lex_diagnostic, parse_diagnostic, layer_diagnostic, judge_diagnostic, vcd_diagnostic}
+use Rattle.commands.specs.Diagnostics.{lex_diagnostic, parse_diagnostic, layer_diagnostic, judge_diagnostic, vcd_diagnostic, blif_diagnostic}
 use Rattle.commands.specs.Stages.{AndThen, Then, OfFile, ToldBy}
+use Rattle.commands.specs.declared.inputs.Circuit.{Circuit}
 use Rattle.commands.specs.declared.inputs.Inputs.{Inputs}
 use Rattle.commands.specs.declared.outcome.Fault.{Fault}
 use Rattle.commands.specs.declared.outcome.Line.{Line}
@@ -40,6 +43,10 @@ UnitReading name content = AndThen (TokensReading name content) (TreeReading nam
 abbrev pub UnitStage : List ℕ → Contents → Result UnitTree Fault → Type 0
 UnitStage name = OfFile (UnitReading name) name
 
+-- a text, and what is read of a second file
+abbrev pub TextAnd : {A B : Type 0} → List ℕ → (Contents → Result A Fault → Type 0) → (UnitTree → A → B) → Contents → Result B Fault → Type 0
+TextAnd unit Stage both = Then (UnitStage unit) (λ tree. Then Stage (λ value files result. result ≡ Ok (both tree value)))
+
 -- the values of a recording, or its first fault
 abbrev pub RecordingReading : List ℕ → List ℕ → Result Sampled Fault → Type 0
 RecordingReading name content = ToldBy name vcd_diagnostic (λ sampled. reading content ≡ Ok sampled) (λ fault. reading content ≡ Err fault)
@@ -47,10 +54,24 @@ RecordingReading name content = ToldBy name vcd_diagnostic (λ sampled. reading 
 abbrev pub RecordingStage : List ℕ → Contents → Result Sampled Fault → Type 0
 RecordingStage name = OfFile (RecordingReading name) name
 
--- both
+abbrev pub with_recording : UnitTree → Sampled → Inputs
+with_recording tree sampled = record { tree = tree; recording = sampled }
+
 abbrev pub InputsStage : List ℕ → List ℕ → Contents → Result Inputs Fault → Type 0
-InputsStage unit recording =
-    Then (UnitStage unit) (λ tree. Then (RecordingStage recording) (λ sampled files result. result ≡ Ok (record { tree = tree; recording = sampled })))
+InputsStage unit recording = TextAnd unit (RecordingStage recording) with_recording
+
+-- a netlist, or its first fault
+abbrev pub NetlistReading : List ℕ → List ℕ → Result Design Fault → Type 0
+NetlistReading name content = ToldBy name blif_diagnostic (λ design. IsReading content (Ok design)) (λ fault. IsReading content (Err fault))
+
+abbrev pub NetlistStage : List ℕ → Contents → Result Design Fault → Type 0
+NetlistStage name = OfFile (NetlistReading name) name
+
+abbrev pub with_netlist : UnitTree → Design → Circuit
+with_netlist tree design = record { tree = tree; netlist = design }
+
+abbrev pub CircuitStage : List ℕ → List ℕ → Contents → Result Circuit Fault → Type 0
+CircuitStage unit netlist = TextAnd unit (NetlistStage netlist) with_netlist
 
 -- the directives of a text over names, or the first fault of kinds and names
 abbrev pub DirectivesReading : List ℕ → UnitTree → List Name → Result (List Directive) Fault → Type 0
@@ -88,6 +109,10 @@ LinesReading name tree names =
 abbrev pub WaveStage : List ℕ → List ℕ → Contents → Result (List Verdict) Fault → Type 0
 WaveStage unit recording = Then (InputsStage unit recording) (λ inputs files. VerdictsReading unit inputs)
 
--- `show UNIT NAMES`
+-- `show UNIT NAMES`, over the names of a recording
 abbrev pub ShowStage : List ℕ → List ℕ → Contents → Result (List Line) Fault → Type 0
 ShowStage unit names = Then (InputsStage unit names) (λ inputs files. LinesReading unit inputs.tree inputs.recording.names)
+
+-- `show UNIT NETLIST --netlist`, over those of a netlist
+abbrev pub ShowNetlistStage : List ℕ → List ℕ → Contents → Result (List Line) Fault → Type 0
+ShowNetlistStage unit netlist = Then (CircuitStage unit netlist) (λ circuit files. LinesReading unit circuit.tree circuit.netlist.names)

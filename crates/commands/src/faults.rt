@@ -1,4 +1,4 @@
-// What the faults of texts, recordings and directives are called in a run, and where they stand.
+// What the faults of texts, recordings, netlists and directives are called in a run, and where they stand.
 ghost use Rattle.std.specs.Prelude.{◌≡◌, ◌≢◌, ◌⊎◌, ◌≤◌, length};
 ghost use Rattle.psl_base.specs.Places.{file_limit};
 ghost use Rattle.commands.specs.Diagnostics as spec;
@@ -6,6 +6,7 @@ ghost use Rattle.commands.specs.Faults.{at, whole, fault_in, of_none};
 
 use crate::outcome::Fault;
 use crate::reason::{Diagnostic, Reason};
+use blif_reader::BlifFault;
 use psl_base::{NoMemory, Place, Text, place_of};
 use psl_elaboration::LayerFault;
 use psl_lexer::{LexFault, Tokens};
@@ -188,5 +189,29 @@ pub fn vcd_diagnostic(fault: VcdFault) -> Diagnostic
         VcdFault::TooLong => whole(Reason::TooLong),
         VcdFault::ReadFault => whole(Reason::ReadFault),
         VcdFault::NoMemory => whole(Reason::NoMemory),
+    }
+}
+
+/// What is said of a fault of a netlist.
+pub fn blif_diagnostic(fault: BlifFault) -> Diagnostic
+    ensures { result ≡ spec.blif_diagnostic fault }
+{
+    match fault {
+        BlifFault::UnknownCommand(place) => at(Reason::UnknownCommand, place),
+        BlifFault::BadModel(place) => at(Reason::BadModel, place),
+        BlifFault::BadRow(place) => at(Reason::BadRow, place),
+        BlifFault::MixedRows(place) => at(Reason::MixedRows, place),
+        BlifFault::BadLatch(place) => at(Reason::BadLatch, place),
+        BlifFault::LatchType(place) => at(Reason::LatchType, place),
+        BlifFault::TwoClocks(place) => at(Reason::TwoClocks, place),
+        BlifFault::DrivenTwice(place) => at(Reason::DrivenTwice, place),
+        BlifFault::Undriven(place) => at(Reason::Undriven, place),
+        BlifFault::CombinationalCycle(place) => at(Reason::CombinationalCycle, place),
+        BlifFault::MissingEnd(place) => at(Reason::NetlistMissingEnd, place),
+        BlifFault::SecondModel(place) => at(Reason::SecondModel, place),
+        BlifFault::TooLarge(place) => at(Reason::NetlistTooLarge, place),
+        BlifFault::TooLong => whole(Reason::TooLong),
+        BlifFault::ReadFault => whole(Reason::ReadFault),
+        BlifFault::NoMemory => whole(Reason::NoMemory),
     }
 }

@@ -3,10 +3,15 @@ ghost use Rattle.psl_base.specs.Places.{file_limit};
 ghost use Rattle.psl_base.specs.Shelf.{OnlyReads, IsContent};
 ghost use Rattle.commands.specs.Stages.{IsStage, IsReading, IsCounted, LoadFails};
 ghost use Rattle.commands.specs.Waves.{TokensReading, TreeReading, UnitReading, UnitStage, RecordingStage, InputsStage};
+ghost use Rattle.commands.specs.Waves.{NetlistStage, CircuitStage};
 
-use crate::faults::{fault_in, lex_diagnostic, of_none, parse_diagnostic, vcd_diagnostic, whole};
+use crate::faults::{
+    blif_diagnostic, fault_in, lex_diagnostic, of_none, parse_diagnostic, vcd_diagnostic, whole,
+};
 use crate::outcome::Fault;
 use crate::reason::Reason;
+use blif_reader::read_blif;
+use netlist::Netlist;
 use psl_base::{Bytes, FILE_LIMIT, ReadAllFault, Shelf, read_all};
 use psl_grammar::UnitTree;
 use psl_lexer::{Tokens, lex};
@@ -21,6 +26,13 @@ pub struct Inputs {
     pub recording: Recording,
 }
 
+/// What a command over a netlist reads: the tree of a text, and the netlist.
+#[derive(Drop)]
+pub struct Circuit {
+    pub tree: UnitTree,
+    pub netlist: Netlist,
+}
+
 /// The text and the recording in two files, read in this order.
 pub fn load_inputs<F: Shelf>(
     alloc: Global,
@@ -33,6 +45,30 @@ pub fn load_inputs<F: Shelf>(
     let tree = load_unit(alloc, files, unit)?;
     let recording = load_recording(alloc, files, recording)?;
     Ok(Inputs { tree, recording })
+}
+
+/// The text and the netlist in two files, read in this order.
+pub fn load_circuit<F: Shelf>(
+    alloc: Global,
+    files: &mut F,
+    unit: &str,
+    netlist: &str,
+) -> Result<Circuit, Fault>
+    ensures { IsStage (unit.now ∷ netlist.now ∷ []) (CircuitStage unit.now netlist.now) (F.state files.old) (F.state files.new) result }
+{
+    let tree = load_unit(alloc, files, unit)?;
+    let netlist = load_netlist(alloc, files, netlist)?;
+    Ok(Circuit { tree, netlist })
+}
+
+/// The netlist in a file.
+fn load_netlist<F: Shelf>(alloc: Global, files: &mut F, name: &str) -> Result<Netlist, Fault>
+    ensures { IsStage (name.now ∷ []) (NetlistStage name.now) (F.state files.old) (F.state files.new) result }
+{
+    match read_blif(alloc, files, name) {
+        Ok(netlist) => Ok(netlist),
+        Err(fault) => Err(fault_in(alloc, name, blif_diagnostic(fault))),
+    }
 }
 
 /// The recording in a file.

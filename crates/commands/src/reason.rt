@@ -73,6 +73,33 @@ pub enum Reason {
     TooManySamples,
     /// A signal past the limit on bits.
     TooManySignals,
+
+    /// The first word of a line begins with a dot and is no command of a netlist.
+    UnknownCommand,
+    /// A `.model` without just one name, or a first one behind another command.
+    BadModel,
+    /// A line that is no command and no row of the table above it, or a `.names` without a name.
+    BadRow,
+    /// The output of a row differs from that of the table's first row.
+    MixedRows,
+    /// A `.latch` whose words are out of form.
+    BadLatch,
+    /// A latch that is level sensitive or asynchronous.
+    LatchType,
+    /// The type and the control of a latch differ from those of an earlier one.
+    TwoClocks,
+    /// A signal that is driven already.
+    DrivenTwice,
+    /// The first use of a name that nothing drives.
+    Undriven,
+    /// The output of the first table that depends on itself through tables.
+    CombinationalCycle,
+    /// A backslash behind which a netlist ends.
+    NetlistMissingEnd,
+    /// A second `.model`, or a line behind `.end`.
+    SecondModel,
+    /// The name of a signal of a netlist past the limit on signals.
+    NetlistTooLarge,
 }
 
 /// What is said of a fault: why, and where in its file.

@@ -5,10 +5,10 @@ ghost use Rattle.psl_tree.specs.Counts.{obligations_of, shown};
 ghost use Rattle.psl_tree.specs.Names.{AtomInRange, AreAlike};
 ghost use Rattle.psl_tree.specs.Trees.{formula_of};
 ghost use Rattle.commands.specs.Stages.{IsStage, IsReading};
-ghost use Rattle.commands.specs.Waves.{LinesReading, ShowStage, line_of};
+ghost use Rattle.commands.specs.Waves.{LinesReading, ShowStage, ShowNetlistStage, line_of};
 
 use crate::directives::directives;
-use crate::inputs::load_inputs;
+use crate::inputs::{load_circuit, load_inputs};
 use crate::outcome::{Fault, Line, Lines};
 use clock_rewrite::unclock;
 use psl_base::{NoMemory, Shelf, Text};
@@ -22,6 +22,19 @@ pub fn show<F: Shelf>(alloc: Global, files: &mut F, unit: &str, names: &str) -> 
 {
     let inputs = load_inputs(alloc, files, unit, names)?;
     lines(alloc, &inputs.tree, inputs.recording.names(), unit)
+}
+
+/// What the directives of a text mean over the names of a netlist, both read from files: `show UNIT NETLIST --netlist`.
+pub fn show_netlist<F: Shelf>(
+    alloc: Global,
+    files: &mut F,
+    unit: &str,
+    netlist: &str,
+) -> Result<Lines, Fault>
+    ensures { IsStage (unit.now ∷ netlist.now ∷ []) (ShowNetlistStage unit.now netlist.now) (F.state files.old) (F.state files.new) result }
+{
+    let circuit = load_circuit(alloc, files, unit, netlist)?;
+    lines(alloc, &circuit.tree, circuit.netlist.names(), unit)
 }
 
 /// What the directives of a text mean over names.

@@ -14,7 +14,7 @@ use crate::generated::generate;
 use crate::outcome::{Fault, Outcome, Report};
 use crate::reason::Reason;
 use crate::report::report;
-use crate::show::show;
+use crate::show::{show, show_netlist};
 use crate::wave::wave;
 use command_line::{Command, WordsFault, read_words};
 use psl_base::{Shelf, Sink};
@@ -95,6 +95,9 @@ fn command<F: Shelf>(alloc: Global, words: &[String], files: &mut F) -> Result<O
             Ok(Outcome::Wave(wave(alloc, files, unit, recording)?))
         }
         Ok(Command::Show { unit, names }) => Ok(Outcome::Shown(show(alloc, files, unit, names)?)),
+        Ok(Command::ShowNetlist { unit, netlist }) => {
+            Ok(Outcome::Shown(show_netlist(alloc, files, unit, netlist)?))
+        }
         Ok(Command::Gen { seed, samples }) => generate(alloc, seed, samples),
         Err(WordsFault::Usage) => Err(of_none(Reason::Usage)),
         Err(WordsFault::NoMemory) => Err(of_none(Reason::NoMemory)),

@@ -1,6 +1,6 @@
 use Rattle.std.proofs.Common.{map, string_bytes}
 use Rattle.std.proofs.lemmas.Result.{err_from_is_err_and}
-use Rattle.commands.proofs.Answering.{wave-answers, wave-refuses, show-answers, show-refuses, words-answer}
+use Rattle.commands.proofs.Answering.{wave-answers, wave-refuses, show-answers, show-refuses, netlist-answers, netlist-refuses, words-answer}
 use Rattle.commands.proofs.top.command.Goals as goal
 
 pub returns-in_ok-wave-in-Ok-Wave : goal.returns-in_ok-wave-in-Ok-Wave
@@ -24,6 +24,17 @@ returns-in_err-show-in-Ok-Show g c =
     let p = err_from_is_err_and c.from_residual-in_err-show-in-Ok-Show.result c.from_residual-in_err-show-in-Ok-Show.ensures.1 in
     rw (p.1, p.2) (show-refuses (map string_bytes c.args.words.now) c.in-Ok-Show.unit.now c.in-Ok-Show.names.now (g.F.Shelf.state c.args.files.now)
     (g.F.Shelf.state c.show.new.files) _ (rw c.in-Ok-Show.field-0-is at c.in-Ok-Show.ensures.command) c.in_err-show-in-Ok-Show.ensures)
+
+pub returns-in_ok-show_netlist-in-Ok-ShowNetlist : goal.returns-in_ok-show_netlist-in-Ok-ShowNetlist
+returns-in_ok-show_netlist-in-Ok-ShowNetlist g c =
+    netlist-answers (map string_bytes c.args.words.now) c.in-Ok-ShowNetlist.unit.now c.in-Ok-ShowNetlist.netlist.now (g.F.Shelf.state c.args.files.now) (g.F.Shelf.state c.show_netlist.new.files)
+    _ (rw c.in-Ok-ShowNetlist.field-0-is at c.in-Ok-ShowNetlist.ensures.command) c.in_ok-show_netlist-in-Ok-ShowNetlist.ensures
+
+pub returns-in_err-show_netlist-in-Ok-ShowNetlist : goal.returns-in_err-show_netlist-in-Ok-ShowNetlist
+returns-in_err-show_netlist-in-Ok-ShowNetlist g c =
+    let p = err_from_is_err_and c.from_residual-in_err-show_netlist-in-Ok-ShowNetlist.result c.from_residual-in_err-show_netlist-in-Ok-ShowNetlist.ensures.1 in
+    rw (p.1, p.2) (netlist-refuses (map string_bytes c.args.words.now) c.in-Ok-ShowNetlist.unit.now c.in-Ok-ShowNetlist.netlist.now (g.F.Shelf.state c.args.files.now)
+    (g.F.Shelf.state c.show_netlist.new.files) _ (rw c.in-Ok-ShowNetlist.field-0-is at c.in-Ok-ShowNetlist.ensures.command) c.in_err-show_netlist-in-Ok-ShowNetlist.ensures)
 
 pub returns-in-Err-Usage : goal.returns-in-Err-Usage
 returns-in-Err-Usage g c =
