@@ -5,6 +5,7 @@ ghost use Rattle.conflict_analysis.specs.Views.{steps_of};
 ghost use Rattle.conflict_theory.specs.Lemmas.{IsLearned, IsRefuted};
 
 use crate::collect::Lemma;
+use crate::implied::Memory;
 use crate::search::search_and_clear;
 use crate::standing::Standing;
 use crate::trail::TrailView;
@@ -21,6 +22,7 @@ pub struct Analyzer {
     standings: Vec<Standing>,
     // The places of which something is known.
     reached: Vec<u32>,
+    memory: Memory,
 }
 
 impl Model for Analyzer {
@@ -43,6 +45,7 @@ impl Analyzer {
         Ok(Analyzer {
             standings: vec![in alloc; Standing::Untouched; places]?,
             reached: Vec::new(alloc),
+            memory: Memory::new(alloc, places)?,
         })
     }
 
@@ -83,6 +86,7 @@ impl Analyzer {
             clauses,
             self.standings.as_mut_slice(),
             &mut self.reached,
+            &mut self.memory,
             lemma,
         )
     }

@@ -4,6 +4,7 @@
 mod analyzer;
 mod collect;
 mod explain;
+mod implied;
 mod reach;
 mod search;
 mod settle;

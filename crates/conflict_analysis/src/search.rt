@@ -8,6 +8,7 @@ ghost use Rattle.conflict_analysis.specs.Standings.{IsClear};
 use crate::TrailView;
 use crate::collect::{Lemma, collect};
 use crate::explain::clause_at;
+use crate::implied::Memory;
 use crate::reach::reach_clause;
 use crate::settle::settle_lower;
 use crate::standing::Standing;
@@ -22,6 +23,7 @@ pub fn search_and_clear(
     clauses: &Store,
     standings: &mut [Standing],
     reached: &mut Vec<u32>,
+    memory: &mut Memory,
     lemma: &mut Lemma,
 ) -> Result<(), NoMemory>
     requires trail { IsTrail clauses.now (steps_of trail.now) }
@@ -35,7 +37,7 @@ pub fn search_and_clear(
         → IsRefuted clauses.now lemma.new.literals.items lemma.new.hints.items) }
     ensures clear { IsClear standings.new }
 {
-    let outcome = search(conflict, trail, clauses, standings, reached, lemma);
+    let outcome = search(conflict, trail, clauses, standings, reached, memory, lemma);
     if outcome.is_err() {
         clear(standings);
     }
@@ -50,6 +52,7 @@ fn search(
     clauses: &Store,
     standings: &mut [Standing],
     reached: &mut Vec<u32>,
+    memory: &mut Memory,
     lemma: &mut Lemma,
 ) -> Result<(), NoMemory>
     requires trail { IsTrail clauses.now (steps_of trail.now) }
@@ -67,7 +70,8 @@ fn search(
     let clause = clause_at(clauses, conflict);
     let waiting = reach_clause(clause, trail.literals.len(), trail, standings, reached)?;
     sweep(waiting, trail, clauses, standings, reached)?;
-    settle_lower(trail, clauses, standings, reached)?;
+    memory.clear();
+    settle_lower(trail, clauses, standings, reached, memory)?;
     collect(conflict, trail, standings, reached.as_mut_slice(), lemma)
 }
 

@@ -1,13 +1,13 @@
 // The lower levels: which literals the lemma needs.
 ghost use Rattle.std.specs.Prelude.{◌≡◌, ◌≢◌, ℕ, ◌<◌, ◌≤◌, length, IsTrue, IfOk};
-ghost use Rattle.std.specs.List.{All};
 ghost use Rattle.conflict_analysis.specs.declared.standing.Standing.TheVariants.{Waiting};
 ghost use Rattle.conflict_theory.specs.Trails.{size_of, reason_at, IsTrail, KnowsPlaces};
 ghost use Rattle.conflict_analysis.specs.Views.{steps_of};
-ghost use Rattle.conflict_analysis.specs.Standings.{IsListed, IsReadable, IsSettled, IsSettling, standing_at};
+ghost use Rattle.conflict_analysis.specs.Standings.{IsListed, IsSettled, IsSettling, standing_at};
 
 use crate::TrailView;
-use crate::explain::{clause_at, explain};
+use crate::explain::explain;
+use crate::implied::{Memory, is_implied};
 use crate::standing::Standing;
 use clause_store::Store;
 use psl_base::NoMemory;
@@ -18,6 +18,7 @@ pub fn settle_lower(
     clauses: &Store,
     standings: &mut [Standing],
     reached: &mut Vec<u32>,
+    memory: &mut Memory,
 ) -> Result<(), NoMemory>
     requires trail { IsTrail clauses.now (steps_of trail.now) }
     requires places { KnowsPlaces (steps_of trail.now) trail.now.places.now }
@@ -29,7 +30,14 @@ pub fn settle_lower(
 {
     let mut index = 0;
     while index < reached.len() {
-        settle(reached[index] as usize, trail, clauses, standings, reached)?;
+        settle(
+            reached[index] as usize,
+            trail,
+            clauses,
+            standings,
+            reached,
+            memory,
+        )?;
         index += 1;
     }
     Ok(())
@@ -42,6 +50,7 @@ fn settle(
     clauses: &Store,
     standings: &mut [Standing],
     reached: &mut Vec<u32>,
+    memory: &mut Memory,
 ) -> Result<(), NoMemory>
     requires trail { IsTrail clauses.now (steps_of trail.now) }
     requires places { KnowsPlaces (steps_of trail.now) trail.now.places.now }
@@ -54,7 +63,7 @@ fn settle(
     let Standing::Waiting = standings[place] else {
         return Ok(());
     };
-    if is_redundant(place, trail, clauses, standings) {
+    if is_redundant(place, trail, clauses, standings, memory) {
         explain(place, trail, clauses, standings, reached)?;
     } else {
         standings[place] = Standing::Kept;
@@ -62,13 +71,14 @@ fn settle(
     Ok(())
 }
 
-/// Whether the lemma can do without a literal: it is of level 0, or its reason names no literal but such as were
-/// reached or are of level 0. (Local minimization, as in Minimizing learned clauses, 2009.)
+/// Whether the lemma can do without a literal: it is of level 0, or it follows from literals that were reached and from
+/// level 0.
 fn is_redundant(
     place: usize,
     trail: &TrailView<'_>,
     clauses: &Store,
     standings: &[Standing],
+    memory: &mut Memory,
 ) -> bool
     requires trail { IsTrail clauses.now (steps_of trail.now) }
     requires places { KnowsPlaces (steps_of trail.now) trail.now.places.now }
@@ -77,25 +87,5 @@ fn is_redundant(
     ensures reasoned { IsTrue result → reason_at (steps_of trail.now) place ≢ 0 }
     ensures fixed { place < trail.now.fixed → IsTrue result }
 {
-    if place < trail.fixed {
-        return true;
-    }
-    let reason = trail.reasons[place];
-    reason != 0 && all_known(clause_at(clauses, reason), place, trail, standings)
-}
-
-/// Whether the literals of a reason but its own were all reached, or are of level 0.
-fn all_known(reason: &[u32], own: usize, trail: &TrailView<'_>, standings: &[Standing]) -> bool
-    requires places { KnowsPlaces (steps_of trail.now) trail.now.places.now }
-    requires own { own < size_of (steps_of trail.now) }
-    requires readable { All (IsReadable (steps_of trail.now) own) reason.now }
-    requires room { size_of (steps_of trail.now) ≤ length standings.now }
-{
-    for literal in reason {
-        let place = trail.places[(*literal / 2) as usize] as usize;
-        if place != own && place >= trail.fixed && matches!(standings[place], Standing::Untouched) {
-            return false;
-        }
-    }
-    true
+    place < trail.fixed || is_implied(place, trail, clauses, standings, memory)
 }
