@@ -1,16 +1,16 @@
 -- The clauses of a formula, as they are taken over.
-use Rattle.std.proofs.Common.{◌≡◌, ℕ, zero, suc, ◌+◌, ◌-◌, ◌*◌, ◌^◌, ◌<◌, ◌≤◌, ℤ, Bool, true, List, [], ◌∷◌, ◌++◌, length, map, take, get_or, slice_get, Option, Some, None, refl, sym, ap, ◌∙◌, subst, arith}
+use Rattle.std.proofs.Common.{◌≡◌, ℕ, zero, suc, ◌+◌, ◌*◌, ◌<◌, ◌≤◌, ℤ, List, [], ◌∷◌, ◌++◌, length, map, take, get_or, slice_get, Option, Some, refl, sym, ap, ◌∙◌, subst, arith}
 use Rattle.std.specs.Bool.{IsTrue}
 use Rattle.std.specs.Option.{option_map}
-use Rattle.std.specs.List.{All, Contains, list_all}
+use Rattle.std.specs.List.{All}
 use Rattle.std.proofs.lemmas.Bool.{and_parts}
-use Rattle.std.proofs.lemmas.List.{map_push, map_more, length_push, length-map, take_more, take_all}
+use Rattle.std.proofs.lemmas.List.{map_push, map_more, length_push, length-map}
 use Rattle.std.proofs.lemmas.List.Sums.{sum_by-append, sum_by-cons, sum_by_more, sum_by_more_le}
 use Rattle.clauses.specs.declared.cnf.Cnf.{Cnf}
 use Rattle.clauses.specs.Literals.{clause_within, clauses_within, clause_words}
 use Rattle.clauses.specs.Live.{Numbered, all_live}
 use Rattle.clause_store.specs.Stored.{place_words, stored_words}
-use Rattle.trail.specs.Literals.{opposite, signed}
+use Rattle.trail.specs.Literals.{signed}
 use Rattle.propagation.specs.State.{State}
 use Rattle.cdcl.specs.Solving.{signed_clauses}
 use Rattle.cdcl.specs.Loading.{nothing_yet, IsLoading, IsFalseAt, IsFalseOn, CanAdd, IsAdded}

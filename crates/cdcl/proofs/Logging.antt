@@ -1,28 +1,23 @@
 -- A log with one lemma more.
-use Rattle.std.proofs.Common.{◌≡◌, ◌≢◌, ℕ, zero, suc, ◌+◌, ◌*◌, ◌/◌, ◌%◌, ◌<◌, ◌≤◌, ℤ, pos, negsuc, neg_ℤ, Bool, true, false, cond, ltb, leb, List, [], ◌∷◌, ◌++◌, length, map, take, drop, get_or, Option, Some, None, is_some, ◌⊎◌, inl, inr, refl, sym, ap, ◌∙◌, subst, arith}
+use Rattle.std.proofs.Common.{◌≡◌, ◌≢◌, ℕ, zero, suc, ◌*◌, ◌/◌, ◌%◌, ◌<◌, ◌≤◌, ℤ, neg_ℤ, true, false, ltb, leb, List, [], ◌∷◌, ◌++◌, length, map, get_or, Some, None, inl, inr, refl, sym, ap, ◌∙◌, subst, arith}
 use Rattle.std.specs.Bool.{IsTrue}
 use Rattle.std.specs.Option.{option_map}
-use Rattle.std.specs.List.{All, AllPairs, Contains, list_all}
-use Rattle.std.proofs.lemmas.Bool.{cases_lt, cases_eq, and_from, le-leb, lt-ltb}
-use Rattle.std.proofs.lemmas.List.{length-map, length_push, map_push, take-append-le, take_all, append-nil}
-use Rattle.std.proofs.lemmas.List.Sums.{sum_by-append, sum_by-cons}
-use Rattle.std.proofs.lemmas.List.Elements.{All-push, All-nil, All-cons, All-head, All-tail, All-contains, All-weaker}
-use Rattle.clauses.specs.Literals.{variable_of, is_within, clause_within, clause_words}
-use Rattle.clauses.specs.Live.{Numbered, clause_of, all_live}
+use Rattle.std.specs.List.{All, Contains}
+use Rattle.std.proofs.lemmas.Bool.{cases_eq, and_from, le-leb, lt-ltb}
+use Rattle.std.proofs.lemmas.List.Elements.{All-nil, All-cons, All-head, All-tail, All-contains}
+use Rattle.clauses.specs.Literals.{variable_of, is_within, clause_within}
+use Rattle.clauses.specs.Live.{Numbered, clause_of}
 use Rattle.clauses.specs.Passing.{Passes}
-use Rattle.clauses.specs.Logs.{LogEntry, is_lemma, is_empty_lemma, entry_words, log_words, lemmas, clauses_after, EachLemma, LemmaPasses}
+use Rattle.clauses.specs.Logs.{LogEntry, is_empty_lemma, clauses_after, EachLemma, LemmaPasses}
 use Rattle.clauses.specs.Logs.LogEntry.{Lemma, Forget}
-use Rattle.clauses.proofs.Lives.{after_all-push, each_lemma-push}
-use Rattle.clause_store.specs.Stored.{place_words, stored_words}
 use Rattle.trail.specs.Literals.{opposite, signed}
 use Rattle.trail.specs.Renaming.{Renames}
 use Rattle.trail.proofs.Renaming.{passes-map, adds-map, signed-opposite, signed-apart}
 use Rattle.conflict_theory.specs.Trails.{Steps}
-use Rattle.conflict_theory.specs.Lemmas.{IsLearned, IsRefuted}
+use Rattle.conflict_theory.specs.Lemmas.{IsLearned}
 use Rattle.conflict_theory.proofs.Members.{contains-map, from_map, pairs-map, all_members}
-use Rattle.cdcl.specs.Evidence.{IsGoodLemma, DropsLive, IsLiveLemma, IsHalfLive, live_lemmas}
+use Rattle.cdcl.specs.Evidence.{IsGoodLemma}
 use Rattle.cdcl.specs.Solving.{signed_clauses, IsLogged}
-use Rattle.cdcl.proofs.Members.{few_members, few_below, all_literals, length_all, stands_in, number_within}
 
 -- the clauses are the same but for the names of literals
 renames_at : (clauses : Numbered ℕ) (place : ℕ) → get_or (signed_clauses clauses) place None ≡ option_map (map signed) (get_or clauses place None)

@@ -1,17 +1,16 @@
 -- The values along a trail on which each variable has one are a model.
-use Rattle.std.proofs.Common.{◌≡◌, ◌≢◌, ℕ, zero, suc, ◌+◌, ◌-◌, ◌*◌, ◌/◌, ◌%◌, ◌<◌, ◌≤◌, ℤ, pos, negsuc, Bool, true, false, not, cond, leb, ◌&&◌, List, [], ◌∷◌, ◌++◌, length, map, take, set, get_or, slice_get, Option, Some, None, ◌⊎◌, ◌↔◌, inl, inr, refl, sym, ap, ◌∙◌, subst, arith, below_more}
-use Rattle.std.specs.Bool.{IsTrue}
+use Rattle.std.proofs.Common.{◌≡◌, ◌≢◌, ℕ, zero, suc, ◌+◌, ◌-◌, ◌*◌, ◌/◌, ◌%◌, ◌<◌, ℤ, Bool, true, false, not, cond, leb, List, [], ◌∷◌, ◌++◌, length, map, set, get_or, slice_get, Option, Some, None, ◌⊎◌, ◌↔◌, inl, inr, refl, sym, ap, ◌∙◌, arith, below_more}
 use Rattle.std.specs.Option.{option_map}
-use Rattle.std.specs.List.{All, Contains, list_all, list_any}
-use Rattle.std.proofs.lemmas.Bool.{cases_Bool, cases_eq, leb-false, and_from, true≢false}
-use Rattle.std.proofs.lemmas.List.{get_or_append_left, get_or_push, get_or-set_other, get_or_default}
+use Rattle.std.specs.List.{All, Contains, list_all}
+use Rattle.std.proofs.lemmas.Bool.{cases_eq, leb-false, and_from}
+use Rattle.std.proofs.lemmas.List.{get_or_append_left, get_or_push, get_or-set_other}
 use Rattle.std.proofs.lemmas.List.Elements.{All-contains}
 use Rattle.std.proofs.lemmas.List.Folds.{list_any_at}
 use Rattle.clauses.specs.declared.cnf.Cnf.{Cnf}
 use Rattle.clauses.specs.Live.{Numbered, clause_of, all_live, without}
-use Rattle.clauses.specs.Models.{Assignment, is_true, meets, IsModel}
+use Rattle.clauses.specs.Models.{Assignment, is_true, meets}
 use Rattle.clauses.specs.Passing.{IsOpen}
-use Rattle.clauses.specs.Logs.{LogEntry, after, after_all, clauses_after}
+use Rattle.clauses.specs.Logs.{LogEntry, after_all, clauses_after}
 use Rattle.clauses.specs.Logs.LogEntry.{Lemma, Forget}
 use Rattle.trail.specs.Literals.{opposite, signed}
 use Rattle.trail.specs.Path.{Path, IsPath}
@@ -20,7 +19,7 @@ use Rattle.conflict_theory.proofs.Members.{contains-map}
 use Rattle.cdcl.specs.Answers.{values_of, IsModelOf}
 use Rattle.cdcl.specs.Solving.{signed_clauses}
 use Rattle.cdcl.specs.Turns.{IsComplete, IsSolved, AreValues}
-use Rattle.cdcl.proofs.Logging.{renames, AreWithin}
+use Rattle.cdcl.proofs.Logging.{renames}
 
 -- a value more
 pub values_push : (P : ℕ → Type 0) (values : List Bool) (value : Bool) (end : ℕ) → length values ≡ end → ((variable : ℕ) → variable < end → (get_or values variable false ≡ true) ↔ P variable)

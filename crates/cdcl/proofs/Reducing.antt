@@ -1,19 +1,18 @@
 -- A log with one drop more.
-use Rattle.std.proofs.Common.{◌≡◌, ◌≢◌, ℕ, zero, suc, ◌+◌, ◌-◌, ◌*◌, ◌<◌, ◌≤◌, ℤ, Bool, true, false, cond, leb, List, [], ◌∷◌, ◌++◌, length, map, take, drop, set, get_or, slice_get, ltb, Option, Some, None, is_some, IsSome, IsSomeAnd, ◌⊎◌, inl, inr, refl, sym, ap, ◌∙◌, subst, arith, append_assoc}
+use Rattle.std.proofs.Common.{◌≡◌, ◌≢◌, ℕ, zero, suc, ◌+◌, ◌-◌, ◌*◌, ◌<◌, ◌≤◌, ℤ, Bool, true, false, cond, leb, List, [], ◌∷◌, ◌++◌, length, map, take, drop, set, get_or, slice_get, ltb, Option, Some, None, is_some, IsSome, IsSomeAnd, inl, inr, refl, sym, ap, ◌∙◌, subst, arith, append_assoc}
 use Rattle.std.specs.Option.{option_map}
 use Rattle.std.specs.List.{All, Contains, count_by}
 use Rattle.std.proofs.lemmas.Bool.{cases_lt, leb-true, and_from, lt-ltb, le-leb}
 use Rattle.std.proofs.lemmas.List.{length-set, length_push, map-set, take-append-le, take_all, get_or_default, append-nil}
-use Rattle.std.proofs.lemmas.List.Sums.{sum_by-append, sum_by-cons, sum_by-set, sum_by-take-drop}
+use Rattle.std.proofs.lemmas.List.Sums.{sum_by-cons, sum_by-set, sum_by-take-drop}
 use Rattle.std.proofs.lemmas.List.Elements.{All-contains}
 use Rattle.clauses.specs.Live.{Numbered, clause_of, all_live, without}
 use Rattle.clauses.specs.Logs.{LogEntry, is_number, log_words, lemmas, clauses_after}
 use Rattle.clauses.specs.Logs.LogEntry.{Lemma, Forget}
 use Rattle.clauses.proofs.Lives.{after_all-push, each_lemma-push_drop}
-use Rattle.clause_store.specs.Stored.{place_words, stored_words, live_clauses}
-use Rattle.trail.specs.Literals.{opposite, signed}
-use Rattle.trail.specs.Path.{Path}
-use Rattle.propagation.specs.State.{State, IsSettled, HasReason}
+use Rattle.clause_store.specs.Stored.{place_words, live_clauses}
+use Rattle.trail.specs.Literals.{signed}
+use Rattle.propagation.specs.State.{State, IsSettled}
 use Rattle.cdcl.specs.Evidence.{IsGoodLemma, DropsLive, IsLiveLemma, IsHalfLive, live_lemmas}
 use Rattle.cdcl.specs.Solving.{signed_clauses, IsLogged, IsReady}
 use Rattle.cdcl.specs.Reducing.{IsNoReason, CanDrop, IsReduced}

@@ -1,5 +1,5 @@
 -- A clause that is false by the clauses of one literal before it refutes the formula.
-use Rattle.std.proofs.Common.{◌≡◌, ◌≢◌, ℕ, zero, suc, ◌+◌, ◌*◌, ◌<◌, ◌≤◌, ℤ, neg_ℤ, false, List, [], ◌∷◌, ◌++◌, length, map, take, get_or, Option, Some, None, ◌⊎◌, inl, inr, refl, sym, ap, ◌∙◌, subst, arith}
+use Rattle.std.proofs.Common.{◌≡◌, ℕ, zero, suc, ◌+◌, ◌<◌, ◌≤◌, ℤ, neg_ℤ, false, List, [], ◌∷◌, ◌++◌, length, map, take, get_or, Option, Some, None, ◌⊎◌, inl, inr, refl, sym, ap, ◌∙◌, subst, arith}
 use Rattle.std.specs.List.{All, AllPairs, Contains}
 use Rattle.std.proofs.lemmas.Bool.{cases_lt}
 use Rattle.std.proofs.lemmas.List.{map_push, length_push, take_more, take_all, get_or_push, length-map}
@@ -9,18 +9,18 @@ use Rattle.clauses.specs.declared.cnf.Cnf.{Cnf}
 use Rattle.clauses.specs.Literals.{clause_words}
 use Rattle.clauses.specs.Live.{Numbered, clause_of, all_live}
 use Rattle.clauses.specs.Passing.{Passes}
-use Rattle.clauses.specs.Logs.{LogEntry, lemmas, log_words, is_lemma, is_empty_lemma, LemmaPasses, Refutes}
-use Rattle.clauses.specs.Logs.LogEntry.{Lemma, Forget}
+use Rattle.clauses.specs.Logs.{is_lemma, is_empty_lemma, LemmaPasses}
+use Rattle.clauses.specs.Logs.LogEntry.{Lemma}
 use Rattle.trail.specs.Literals.{opposite, signed}
 use Rattle.trail.proofs.Renaming.{passes-map, signed-opposite, signed-apart}
-use Rattle.propagation.specs.State.{State, IsSettled, IsConflict}
+use Rattle.propagation.specs.State.{State, IsSettled}
 use Rattle.propagation.proofs.Joining.{live-more}
 use Rattle.conflict_theory.specs.Trails.{Steps, IsTrail, HasReason, IsFalseBelow, size_of, reason_at, literal_at}
-use Rattle.conflict_theory.specs.Closing.{IsCovered, IsNamed, IsStep, IsClosed, hints_of}
+use Rattle.conflict_theory.specs.Closing.{IsCovered, IsNamed, IsStep, IsClosed}
 use Rattle.conflict_theory.specs.Lemmas.{IsRefuted}
 use Rattle.conflict_theory.proofs.Learning.{refuted}
 use Rattle.conflict_theory.proofs.Members.{all_members}
-use Rattle.cdcl.specs.Evidence.{IsHalfLive, IsTidy}
+use Rattle.cdcl.specs.Evidence.{IsHalfLive}
 use Rattle.cdcl.specs.Answers.{IsRefutation}
 use Rattle.cdcl.specs.Solving.{signed_clauses}
 use Rattle.cdcl.specs.Turns.{steps_at}

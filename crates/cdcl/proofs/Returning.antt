@@ -1,17 +1,15 @@
 -- Going back to the level where a lemma asserts its first literal.
-use Rattle.std.proofs.Common.{◌≡◌, ◌≢◌, ℕ, zero, suc, ◌-◌, ◌*◌, ◌<◌, ◌≤◌, List, [], ◌∷◌, length, map, take, get_or, ◌⊎◌, inl, inr, refl, sym, ap, ◌∙◌, subst, arith}
+use Rattle.std.proofs.Common.{◌≡◌, ◌≢◌, ℕ, ◌-◌, ◌<◌, ◌≤◌, List, [], ◌∷◌, length, map, take, get_or, refl, sym, ap, ◌∙◌, subst, arith}
 use Rattle.std.specs.List.{All, AllPairs, Contains}
-use Rattle.std.proofs.lemmas.Bool.{cases_lt, cases_order}
-use Rattle.std.proofs.lemmas.List.{get_or-take, length-take, take-take, length-map}
+use Rattle.std.proofs.lemmas.List.{get_or-take, length-take, take-take}
 use Rattle.std.proofs.lemmas.List.Elements.{All-cons, All-weaker, All-head}
-use Rattle.trail.specs.Literals.{opposite, variable}
+use Rattle.trail.specs.Literals.{opposite}
 use Rattle.trail.specs.Path.{Path, IsPath, start_of, undone, literals_to}
 use Rattle.propagation.specs.State.{State, IsSettled, CanLearn, CanWatch}
-use Rattle.conflict_theory.specs.Trails.{IsTrail, size_of, literal_at}
 use Rattle.conflict_theory.specs.Closing.{negation_at}
-use Rattle.conflict_theory.specs.Lemmas.{IsAsserting, IsUnit}
-use Rattle.conflict_theory.proofs.Literals.{opposite-opposite, opposite-injective, variable-opposite, one_place}
-use Rattle.conflict_theory.proofs.Members.{pairs-head, contains-tail, contains-head, no_member}
+use Rattle.conflict_theory.specs.Lemmas.{IsAsserting}
+use Rattle.conflict_theory.proofs.Literals.{opposite-injective, one_place}
+use Rattle.conflict_theory.proofs.Members.{pairs-head, contains-tail, contains-head}
 use Rattle.conflict_theory.proofs.Returning.{not_false_before, unit_after}
 use Rattle.cdcl.specs.Turns.{steps_at, begin_of, CanAttach, IsLower, IsLevelOf}
 use Rattle.cdcl.proofs.Trails.{trail_of, begin_inside, begin_rising}

@@ -1,16 +1,16 @@
 -- What a step makes of the log.
-use Rattle.std.proofs.Common.{◌≡◌, ◌≢◌, ℕ, zero, suc, ◌+◌, ◌-◌, ◌*◌, ◌<◌, ◌≤◌, ℤ, neg_ℤ, Bool, true, false, cond, ltb, leb, ◌&&◌, List, [], ◌∷◌, ◌++◌, length, map, take, drop, get_or, Option, Some, None, is_some, ◌⊎◌, inl, inr, refl, sym, ap, ◌∙◌, subst, arith, append_assoc}
+use Rattle.std.proofs.Common.{◌≡◌, ◌≢◌, ℕ, ◌+◌, ◌-◌, ◌*◌, ◌<◌, ◌≤◌, ℤ, Bool, true, false, cond, ltb, leb, List, [], ◌∷◌, ◌++◌, length, map, take, drop, Option, Some, is_some, ◌⊎◌, inl, inr, refl, sym, ap, ◌∙◌, subst, arith}
 use Rattle.std.specs.Bool.{IsTrue}
 use Rattle.std.specs.Option.{option_map}
 use Rattle.std.specs.List.{All, AllPairs, Contains, list_all, count_by}
 use Rattle.std.proofs.lemmas.Bool.{cases_lt, and_from, le-leb, lt-ltb}
-use Rattle.std.proofs.lemmas.List.{length-map, length_push, map_push, take-append-le, drop-append-le, take_all, append-nil}
+use Rattle.std.proofs.lemmas.List.{length-map, length_push, map_push, take-append-le, drop-append-le, take_all}
 use Rattle.std.proofs.lemmas.List.Sums.{sum_by-append, sum_by-cons}
 use Rattle.std.proofs.lemmas.List.Elements.{All-nil, All-cons, All-head, All-tail, All-take, All-weaker}
 use Rattle.clauses.specs.Literals.{clause_within, clause_words}
 use Rattle.clauses.specs.Live.{Numbered, clause_of}
 use Rattle.clauses.specs.Passing.{Passes}
-use Rattle.clauses.specs.Logs.{LogEntry, is_entry, is_number, is_lemma, is_empty_lemma, entry_words, log_words, lemmas, clauses_after, EachLemma, LemmaPasses, AllPass, Refutes}
+use Rattle.clauses.specs.Logs.{LogEntry, is_entry, is_number, is_lemma, is_empty_lemma, entry_words, log_words, lemmas, clauses_after, EachLemma, LemmaPasses, Refutes}
 use Rattle.clauses.specs.Logs.LogEntry.{Lemma, Forget}
 use Rattle.clauses.proofs.Lives.{after_all-push, each_lemma-push}
 use Rattle.clause_store.specs.Stored.{place_words, stored_words}
@@ -19,11 +19,11 @@ use Rattle.propagation.specs.State.{State, IsSettled}
 use Rattle.conflict_theory.specs.Trails.{Steps}
 use Rattle.conflict_theory.specs.Lemmas.{IsLearned, IsRefuted}
 use Rattle.conflict_theory.proofs.Members.{all_members}
-use Rattle.cdcl.specs.Evidence.{IsGoodLemma, DropsLive, IsLiveLemma, IsHalfLive, IsEmptyLast, IsTidy, live_lemmas}
+use Rattle.cdcl.specs.Evidence.{IsGoodLemma, DropsLive, IsHalfLive, IsTidy, live_lemmas}
 use Rattle.clauses.specs.declared.cnf.Cnf.{Cnf}
 use Rattle.cdcl.specs.declared.solver.Solver.{Solver}
 use Rattle.cdcl.specs.Answers.{IsSpent, IsFull, IsRefutation}
-use Rattle.cdcl.specs.Solving.{signed_clauses, IsLogged, IsReady, KeepsLog}
+use Rattle.cdcl.specs.Solving.{IsLogged, IsReady, KeepsLog}
 use Rattle.cdcl.specs.Stepping.{IsEnding}
 use Rattle.cdcl.specs.Turns.{steps_at, CanAttach}
 use Rattle.cdcl.proofs.Members.{few_members, few_below, all_literals, length_all, stands_in, number_within}

@@ -1,14 +1,14 @@
 -- The trail of the propagator is one that the analysis of a conflict can read.
-use Rattle.std.proofs.Common.{◌≡◌, ◌≢◌, ℕ, zero, suc, ◌-◌, ◌<◌, ◌≤◌, List, [], length, take, get_or, Option, Some, None, ◌⊎◌, inl, inr, refl, sym, ap, ◌∙◌, subst, arith}
-use Rattle.std.specs.List.{All, Contains}
-use Rattle.std.proofs.lemmas.Bool.{cases_lt, cases_order, cases_eq}
+use Rattle.std.proofs.Common.{◌≡◌, ◌≢◌, ℕ, zero, suc, ◌-◌, ◌<◌, ◌≤◌, List, length, take, get_or, Some, ◌⊎◌, inl, inr, refl, sym, ap, ◌∙◌, arith}
+use Rattle.std.specs.List.{Contains}
+use Rattle.std.proofs.lemmas.Bool.{cases_lt, cases_order}
 use Rattle.std.proofs.lemmas.List.{get_or_default, get_or_past}
 use Rattle.std.proofs.lemmas.List.Elements.{All-weaker}
 use Rattle.clauses.specs.Live.{Numbered, clause_of}
 use Rattle.trail.specs.Literals.{opposite, variable}
 use Rattle.trail.specs.Path.{Path, IsPath, start_of}
 use Rattle.propagation.specs.State.{State, IsSettled, HasReason as HasReasonIn, IsConflict as IsConflictIn}
-use Rattle.conflict_theory.specs.Trails.{Steps, IsTrail, IsConflict, HasReason, HasEnded, KnowsPlaces, IsFalseBelow, size_of, literal_at, reason_at}
+use Rattle.conflict_theory.specs.Trails.{IsTrail, IsConflict, HasReason, HasEnded, KnowsPlaces, IsFalseBelow}
 use Rattle.conflict_theory.proofs.Literals.{opposite-opposite}
 use Rattle.conflict_theory.proofs.Lower.{front_at}
 use Rattle.cdcl.specs.Turns.{steps_at, begin_of}

@@ -1,5 +1,5 @@
 -- What each answer of the solver says, and by which evidence.
-use Rattle.std.specs.Prelude.{◌≡◌, ℕ, ◌+◌, ◌-◌, ◌<◌, ◌≤◌, ℤ, Bool, false, List, [], length, take, slice_index_or}
+use Rattle.std.specs.Prelude.{◌≡◌, ℕ, ◌+◌, ◌-◌, ◌<◌, ◌≤◌, Bool, false, List, [], length, take, slice_index_or}
 use Rattle.clauses.specs.declared.cnf.Cnf.{Cnf}
 use Rattle.clauses.specs.declared.log.TheConstants.{MOST_LOG_WORDS}
 use Rattle.clauses.specs.Literals.{clause_words}

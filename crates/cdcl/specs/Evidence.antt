@@ -1,7 +1,7 @@
 -- What the log of a solver shows of each of its lemmas and drops.
 use Rattle.std.specs.Prelude.{◌≡◌, ◌≢◌, ℕ, ◌-◌, ◌*◌, ◌<◌, ◌≤◌, ℤ, neg_ℤ, List, [], ◌∷◌, ◌++◌, length, take, drop, count_by, Option, Some, is_some, IsSome, false}
 use Rattle.std.specs.List.{All, AllPairs, Contains}
-use Rattle.clauses.specs.Live.{Numbered, clause_of}
+use Rattle.clauses.specs.Live.{clause_of}
 use Rattle.clauses.specs.Logs.{LogEntry, lemmas, is_empty_lemma, clauses_after, LemmaPasses}
 use Rattle.clauses.specs.Logs.LogEntry.{Lemma, Forget}
 use Rattle.clauses.specs.Passing.{AddsPropagation}

@@ -1,5 +1,5 @@
 -- Lemmas that are dropped.
-use Rattle.std.specs.Prelude.{◌≡◌, ◌≢◌, ℕ, ◌+◌, ◌*◌, ◌<◌, ◌≤◌, List, length, slice_index, IsSomeAnd}
+use Rattle.std.specs.Prelude.{◌≡◌, ◌≢◌, ℕ, ◌+◌, ◌*◌, ◌<◌, ◌≤◌, length, slice_index, IsSomeAnd}
 use Rattle.std.specs.List.{All}
 use Rattle.clauses.specs.Live.{clause_of}
 use Rattle.clauses.specs.Logs.{lemmas, log_words}

@@ -2,7 +2,7 @@
 use Rattle.std.specs.Prelude.{◌≡◌, ℕ, ◌+◌, ◌≤◌, ℤ, List, [], ◌∷◌, ◌++◌, Bool, true, false}
 use Rattle.clauses.specs.declared.log.TheConstants.{MOST_LOG_WORDS}
 use Rattle.clauses.specs.Literals.{clause_words}
-use Rattle.clauses.specs.Logs.{LogEntry, log_words, Refutes}
+use Rattle.clauses.specs.Logs.{log_words, Refutes}
 use Rattle.clauses.specs.Logs.LogEntry.{Lemma}
 use Rattle.cdcl.specs.declared.solver.Solver.{Solver}
 use Rattle.cdcl.specs.Evidence.{IsTidy}

@@ -1,6 +1,4 @@
-use Rattle.std.proofs.Common.{◌≡◌, [], ap, ◌∙◌}
-use Rattle.std.proofs.lemmas.Result.{on_ok_weaker}
-use Rattle.propagation.specs.State.{State}
+use Rattle.std.proofs.Common.{[]}
 use Rattle.cdcl.proofs.Returning.{first_not_false}
 use Rattle.cdcl.proofs.attach.attach_one.Goals as goal
 

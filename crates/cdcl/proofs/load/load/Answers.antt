@@ -1,8 +1,5 @@
-use Rattle.std.proofs.Common.{◌≡◌, ◌<◌, ◌≤◌, length, map, take, refl, sym, ap, ◌∙◌, subst, arith}
+use Rattle.std.proofs.Common.{◌≡◌, ◌<◌, ◌≤◌, length, arith}
 use Rattle.clauses.specs.Literals.{clause_words}
-use Rattle.trail.specs.Literals.{signed}
-use Rattle.propagation.specs.State.{State}
-use Rattle.cdcl.specs.Loading.{IsLoading, IsFalseAt}
 use Rattle.cdcl.proofs.Loading.{formula_within, can_add, loading_more, false_at}
 use Rattle.cdcl.proofs.load.load.Goals as goal
 

@@ -1,6 +1,6 @@
-use Rattle.std.proofs.Common.{◌≡◌, ◌<◌, ◌≤◌, ◌++◌, ◌∷◌, [], length, sym, ap, ◌∙◌, subst, arith}
+use Rattle.std.proofs.Common.{◌≡◌, ◌<◌, ◌++◌, ◌∷◌, [], ap, ◌∙◌, subst, arith}
 use Rattle.clauses.specs.declared.cnf.Cnf.{Cnf}
-use Rattle.clauses.specs.Logs.{lemmas, log_words}
+use Rattle.clauses.specs.Logs.{log_words}
 use Rattle.clauses.specs.Logs.LogEntry.{Lemma}
 use Rattle.cdcl.specs.Answers.{IsFull, IsSpent}
 use Rattle.cdcl.proofs.Stepping.{spent_of, full_of}

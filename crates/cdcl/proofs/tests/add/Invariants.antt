@@ -1,4 +1,4 @@
-use Rattle.std.proofs.Common.{◌≡◌, take, IsTrue}
+use Rattle.std.proofs.Common.{take, IsTrue}
 use Rattle.clauses.specs.Literals.{clause_within}
 use Rattle.cdcl.proofs.tests.add.Given as goal
 

@@ -1,9 +1,7 @@
-use Rattle.std.proofs.Common.{◌≡◌, ◌+◌, ◌*◌, ◌<◌, ◌≤◌, ℕ, Bool, true, false, not, length, sym, ap, ◌∙◌, arith}
+use Rattle.std.proofs.Common.{◌≡◌, ◌+◌, ◌*◌, ◌<◌, ◌≤◌, Bool, true, false, not, length, ap, ◌∙◌, arith}
 use Rattle.std.specs.Bool.{OnTrue, OnFalse}
-use Rattle.std.specs.List.{All}
 use Rattle.clauses.specs.Logs.{lemmas}
 use Rattle.clause_store.specs.Stored.{live_clauses}
-use Rattle.cdcl.specs.Reducing.{CanDrop, IsNoReason}
 use Rattle.cdcl.proofs.Loading.{size_few}
 use Rattle.cdcl.proofs.Reducing.{can_drop_of}
 use Rattle.cdcl.proofs.solver.Solver.can_drop.Goals as goal

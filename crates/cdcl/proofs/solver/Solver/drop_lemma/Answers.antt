@@ -1,5 +1,5 @@
 use Rattle.std.proofs.Common.{refl, arith}
-use Rattle.cdcl.proofs.Reducing.{number_fits, reduced_by, reduced_none}
+use Rattle.cdcl.proofs.Reducing.{number_fits, reduced_by}
 use Rattle.cdcl.proofs.solver.Solver.drop_lemma.Goals as goal
 
 pub push-requires-clause-entry : goal.push-requires-clause-entry

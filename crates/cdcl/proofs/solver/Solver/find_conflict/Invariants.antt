@@ -1,4 +1,4 @@
-use Rattle.std.proofs.Common.{◌≡◌, suc, ◌-◌, length}
+use Rattle.std.proofs.Common.{suc, ◌-◌, length}
 use Rattle.cdcl.specs.Solving.{KeepsLog}
 use Rattle.cdcl.proofs.solver.Solver.find_conflict.Given as goal
 

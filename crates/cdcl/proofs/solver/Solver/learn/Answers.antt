@@ -7,7 +7,7 @@ use Rattle.clauses.specs.Logs.LogEntry.{Lemma}
 use Rattle.trail.specs.Literals.{signed}
 use Rattle.conflict_theory.specs.Lemmas.{IsLearned, IsRefuted}
 use Rattle.cdcl.specs.Turns.{steps_at}
-use Rattle.cdcl.proofs.Logging.{AreWithin, lemma_within}
+use Rattle.cdcl.proofs.Logging.{AreWithin}
 use Rattle.cdcl.proofs.Stepping.{IsOutcome, outcome, literals_fit, hints_fit, words_fit, attach_fits, logged_push, refutes_end, tidy_end, end_fits}
 use Rattle.cdcl.proofs.solver.Solver.learn.Goals as goal
 
