@@ -10,6 +10,19 @@ use Rattle.dimacs.specs.declared.fault.DimacsFault.TheVariants as faults
 use Rattle.dimacs.specs.Words.{all_words}
 use Rattle.dimacs.specs.Formulas.{texts, p_text, cnf_text, zero_text, header_texts, literal_texts, clause_texts}
 
+-- the place of a fault
+abbrev pub place_of : DimacsFault → Option Place
+place_of (faults.NoHeader place) = Some place
+place_of (faults.BadHeader place) = Some place
+place_of (faults.SecondHeader place) = Some place
+place_of (faults.NotALiteral place) = Some place
+place_of (faults.LiteralTooLarge place) = Some place
+place_of (faults.MoreClauses place) = Some place
+place_of (faults.FewerClauses place) = Some place
+place_of (faults.OpenClause place) = Some place
+place_of (faults.TooLarge place) = Some place
+place_of faults.NoMemory = None
+
 -- behind these words of a text a word stands at a place, or the text ends there
 abbrev pub StandsAt : TokensLeft → List PlacedToken → Option (List ℕ) → Place → Type 0
 StandsAt all before None place = (all.tokens ≡ before) × (place ≡ all.end)

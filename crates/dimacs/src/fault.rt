@@ -1,3 +1,6 @@
+ghost use Rattle.std.specs.Prelude.{◌≡◌};
+ghost use Rattle.dimacs.specs.Faults.{place_of};
+
 use psl_base::Place;
 use thiserror::Error;
 
@@ -37,4 +40,24 @@ pub enum DimacsFault {
     /// The allocator refused memory.
     #[error("out of memory")]
     NoMemory,
+}
+
+impl DimacsFault {
+    /// The place of the fault, unless memory was refused.
+    pub fn place(&self) -> Option<Place>
+        ensures { result ≡ place_of self.now }
+    {
+        match *self {
+            DimacsFault::NoHeader(place) => Some(place),
+            DimacsFault::BadHeader(place) => Some(place),
+            DimacsFault::SecondHeader(place) => Some(place),
+            DimacsFault::NotALiteral(place) => Some(place),
+            DimacsFault::LiteralTooLarge(place) => Some(place),
+            DimacsFault::MoreClauses(place) => Some(place),
+            DimacsFault::FewerClauses(place) => Some(place),
+            DimacsFault::OpenClause(place) => Some(place),
+            DimacsFault::TooLarge(place) => Some(place),
+            DimacsFault::NoMemory => None,
+        }
+    }
 }

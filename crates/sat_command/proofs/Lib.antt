@@ -1,0 +1,4 @@
+pub mod Asking
+pub mod Columns
+pub mod Telling
+pub mod Writing

@@ -1,0 +1,4 @@
+pub mod Keeping
+pub mod Models
+pub mod Requests
+pub mod Running

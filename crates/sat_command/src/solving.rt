@@ -1,0 +1,52 @@
+// A formula is read and solved.
+ghost use Rattle.std.specs.Prelude.{◌≡◌, ◌≤◌, length, IfOk, IfErr};
+ghost use Rattle.psl_base.specs.Places.{file_limit};
+ghost use Rattle.psl_base.specs.Shelf.{OnlyReads};
+ghost use Rattle.sat_command.specs.Requests.{asked_by};
+ghost use Rattle.sat_command.specs.Running.{IsSolved, IsReadingFault, IsAnswerFor, IsTextFault, limit_of};
+
+use crate::Fault;
+use crate::words::Request;
+use cdcl::{Answer, solve};
+use dimacs::{DimacsFault, read_dimacs};
+use psl_base::{Bytes, FILE_LIMIT, Shelf, read_all};
+use std::alloc::Global;
+
+/// Reads the formula that is asked for, and solves it.
+pub(crate) fn solved<F: Shelf>(
+    alloc: Global,
+    request: &Request<'_>,
+    files: &mut F,
+) -> Result<Answer, Fault>
+    ensures ok { IfOk result (IsSolved (asked_by request.now) (F.state files.old)) }
+    ensures err { IfErr result (IsReadingFault (asked_by request.now) (F.state files.old) (F.state files.new)) }
+    ensures rest { OnlyReads (F.state files.old) (F.state files.new) }
+{
+    let text = read_all(alloc, files, request.file, FILE_LIMIT)?;
+    answer(alloc, &text, steps_of(request))
+}
+
+/// How many lemmas may be learned.
+fn steps_of(request: &Request<'_>) -> u64
+    ensures { result ≡ limit_of (asked_by request.now).steps }
+{
+    match request.steps {
+        Some(steps) => steps,
+        None => u64::MAX,
+    }
+}
+
+/// The answer for the formula of a text.
+fn answer(alloc: Global, text: &Bytes, steps: u64) -> Result<Answer, Fault>
+    requires { length text.now ≤ file_limit }
+    ensures ok { IfOk result (IsAnswerFor text.now steps) }
+    ensures err { IfErr result (IsTextFault text.now) }
+{
+    let cnf = match read_dimacs(alloc, text.as_slice()) {
+        Ok(cnf) => cnf,
+        Err(DimacsFault::NoMemory) => return Err(Fault::NoMemory),
+        Err(fault) => return Err(Fault::Format(fault)),
+    };
+    let answer = solve(alloc, &cnf, steps)?;
+    Ok(answer)
+}
