@@ -52,7 +52,7 @@ same-met n v w agree (clause ∷ clauses) within =
     rw (same-meets n v w agree clause parts.0, same-met n v w agree clauses parts.1)
 
 -- gates
-same-gate : (before : ℕ) (v w : Assignment) → AreSame (suc before) v w → (gate : Gate) → IsTrue (gate_within before gate) → gate_holds v before gate ≡ gate_holds w before gate
+pub same-gate : (before : ℕ) (v w : Assignment) → AreSame (suc before) v w → (gate : Gate) → IsTrue (gate_within before gate) → gate_holds v before gate ≡ gate_holds w before gate
 same-gate before v w agree Free within = refl
 same-gate before v w agree (And first second) within =
     let parts = and_parts (is_within before first) (is_within before second) within in

@@ -1,4 +1,6 @@
 pub mod Agreement
+pub mod Chains
+pub mod Completions
 pub mod Differences
 pub mod Filling
 pub mod Joining

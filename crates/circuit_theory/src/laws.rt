@@ -6,6 +6,7 @@ ghost use Rattle.circuit_theory.specs.declared.circuit.Circuit.{Circuit};
 ghost use Rattle.circuit_theory.specs.declared.circuit.Gate.{Gate};
 ghost use Rattle.circuit_theory.specs.Circuits.{gates_hold, gates_within, AreDistinct, AreSame, IsSound, IsPath};
 ghost use Rattle.circuit_theory.specs.Distinct.{distinct};
+ghost use Rattle.circuit_theory.specs.Relations.{circuit_of, variables_of, IsChain, IsClosed, Relation};
 ghost use Rattle.circuit_theory.specs.Sizes.{distinct_variables, distinct_words, unrolled_variables, unrolled_words};
 ghost use Rattle.circuit_theory.specs.Terms.{built, term_size, term_within, value, Term};
 ghost use Rattle.circuit_theory.specs.Unrolled.{positions_of, unrolled};
@@ -56,4 +57,17 @@ pub fn term_law()
         → IsTrue (term_within variables term) → variables ≤ length gates → IsTrue (gates_within 0 gates)
         → IsTrue (gates_within 0 (built gates term).gates)
         × IsTrue (is_within (length (built gates term).gates) (built gates term).output) }
+{}
+
+/// A law: the circuit of a relation is sound, the models of its unrolled circuit have chains of the relation, and each
+/// chain is the first part of some model.
+pub fn relation_law()
+    ensures sound { (relation : Relation) → IsClosed relation → IsSound (circuit_of relation) }
+    ensures chains { (relation : Relation) (positions : ℕ) (values : Assignment) → IsClosed relation
+        → IsModel values (unrolled (circuit_of relation) positions)
+        → IsChain relation positions (positions_of (circuit_of relation) values) }
+    ensures models { (relation : Relation) (positions : ℕ) (chain : ℕ → Assignment) → IsClosed relation
+        → IsChain relation positions chain
+        → (values : Assignment) × IsModel values (unrolled (circuit_of relation) positions)
+        × ((position : ℕ) → AreSame (variables_of relation) (positions_of (circuit_of relation) values position) (chain position)) }
 {}

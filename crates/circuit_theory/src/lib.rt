@@ -6,4 +6,4 @@ mod circuit;
 mod laws;
 
 pub use circuit::{Circuit, Gate, Gates, Literals};
-pub use laws::{distinct_law, size_law, term_law, unrolling_law};
+pub use laws::{distinct_law, relation_law, size_law, term_law, unrolling_law};
