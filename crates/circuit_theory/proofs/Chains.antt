@@ -1,5 +1,5 @@
 -- The paths of a relation's circuit are its chains.
-use Rattle.std.proofs.Common.{◌≡◌, ℕ, zero, suc, ◌+◌, ◌*◌, ◌<◌, ◌≤◌, ℤ, pos, Bool, true, ◌&&◌, List, [], ◌∷◌, ◌++◌, length, replicate, slice_get, Some, refl, sym, ap, ◌∙◌, subst, arith, length-append, append_assoc}
+use Rattle.std.proofs.Common.{◌≡◌, ℕ, zero, suc, ◌+◌, ◌<◌, ◌≤◌, ℤ, pos, true, List, [], ◌∷◌, ◌++◌, length, replicate, slice_get, Some, refl, sym, ap, ◌∙◌, subst, arith, length-append, append_assoc}
 use Rattle.std.specs.Bool.{IsTrue}
 use Rattle.std.specs.List.{list_all, All}
 use Rattle.std.proofs.lemmas.Bool.{and_from, and_parts}
@@ -7,12 +7,11 @@ use Rattle.std.proofs.lemmas.List.{append-nil, length-replicate}
 use Rattle.std.proofs.lemmas.List.Elements.{All-cons, All-nil}
 use Rattle.clauses.specs.Literals.{is_within, clause_within}
 use Rattle.clauses.specs.Models.{Assignment, IsModel, is_true}
-use Rattle.circuit_theory.specs.declared.circuit.Circuit.{Circuit}
 use Rattle.circuit_theory.specs.declared.circuit.Gate.{Gate}
 use Rattle.circuit_theory.specs.declared.circuit.Gate.TheVariants.{Free}
-use Rattle.circuit_theory.specs.Circuits.{AreSame, IsPath, IsSound, IsStateBit, gates_hold, gates_within, literal_values}
+use Rattle.circuit_theory.specs.Circuits.{AreSame, IsPath, IsSound, IsStateBit, gates_hold, gates_within}
 use Rattle.circuit_theory.specs.Distinct.{following}
-use Rattle.circuit_theory.specs.Relations.{Relation, IsChain, IsClosed, circuit_of, is_related, variables_of}
+use Rattle.circuit_theory.specs.Relations.{Relation, IsChain, IsClosed, circuit_of, variables_of}
 use Rattle.circuit_theory.specs.Terms.{Term, value, term_within, built, built_all}
 use Rattle.circuit_theory.specs.Unrolled.{positions_of, unrolled}
 use Rattle.circuit_theory.proofs.Agreement.{same-fewer, same-values}
@@ -20,7 +19,7 @@ use Rattle.circuit_theory.proofs.Completions.{filled-gates, frees-hold, frees-wi
 use Rattle.circuit_theory.proofs.Joining.{path-some_model}
 use Rattle.circuit_theory.proofs.Models.{model-path}
 use Rattle.circuit_theory.proofs.Sizes.{length-following}
-use Rattle.circuit_theory.proofs.TermValues.{IsBuilt, gates_hold-append, same-value, term-built, term-value}
+use Rattle.circuit_theory.proofs.TermValues.{gates_hold-append, same-value, term-built, term-value}
 use Rattle.circuit_theory.proofs.Within.{following-within, wider}
 
 -- the gates of all terms behind others
@@ -127,8 +126,8 @@ fill r values closed =
     let all : IsTrue (gates_within 0 (frees_of r ++ b.more)) = subst (λ g. IsTrue (gates_within 0 g)) b.behind (b.within (frees-within 0 n)) in
     let new = filled-gates values n b.more (rest_within n (frees_of r) b.more size all) in
     let hold : IsTrue (gates_hold new.0 0 (frees_of r ++ b.more)) =
-        gates_hold-append new.0 0 n (frees_of r) b.more (omega (arith, size))
-        ∙ and_from (gates_hold new.0 0 (frees_of r)) (gates_hold new.0 n b.more) (frees-hold new.0 0 n) new.2 in
+    gates_hold-append new.0 0 n (frees_of r) b.more (omega (arith, size))
+    ∙ and_from (gates_hold new.0 0 (frees_of r)) (gates_hold new.0 n b.more) (frees-hold new.0 0 n) new.2 in
     (new.0, new.1, subst (λ g. IsTrue (gates_hold new.0 0 g)) (sym b.behind) hold)
   where
     rest_from : (before after : ℕ) (gates more : List Gate) → after ≡ before + length gates → IsTrue (gates_within before (gates ++ more)) → IsTrue (gates_within after more)
@@ -167,8 +166,7 @@ pub chain-model : (r : Relation) (positions : ℕ) (chain : ℕ → Assignment) 
 chain-model r positions chain closed is =
     let c = circuit_of r in
     let made : ℕ → Assignment = λ i. (fill r (chain i) closed).0 in
-    let some = path-some_model c positions made (relation-sound r closed) (chain-path r positions chain closed is) in
-    (
+    let some = path-some_model c positions made (relation-sound r closed) (chain-path r positions chain closed is) in (
       some.0,
       some.1,
       λ i k low high. same-fewer (variables_of r) (length c.gates) (positions_of c some.0 i) (made i) (relation-few r closed) (some.2 i) k low high

@@ -1,15 +1,14 @@
 -- The gates of a term compute its value.
-use Rattle.std.proofs.Common.{◌≡◌, ℕ, zero, suc, ◌+◌, ◌<◌, ◌≤◌, ℤ, pos, negsuc, neg_ℤ, Bool, true, false, not, ◌&&◌, List, [], ◌∷◌, ◌++◌, length, refl, sym, ap, ◌∙◌, subst, arith, length-append, append_assoc}
+use Rattle.std.proofs.Common.{◌≡◌, ℕ, suc, ◌+◌, ◌<◌, ◌≤◌, ℤ, pos, negsuc, neg_ℤ, Bool, true, false, not, ◌&&◌, List, [], ◌∷◌, ◌++◌, length, refl, sym, ap, ◌∙◌, subst, arith, length-append, append_assoc}
 use Rattle.std.specs.Bool.{IsTrue}
-use Rattle.std.specs.List.{list_all}
 use Rattle.std.proofs.lemmas.Bool.{and_from, and_parts}
 use Rattle.std.proofs.lemmas.List.{append-nil}
-use Rattle.clauses.specs.Literals.{variable_of, is_within, clause_within}
+use Rattle.clauses.specs.Literals.{variable_of, is_within}
 use Rattle.clauses.specs.Models.{Assignment, is_true}
 use Rattle.circuit_theory.specs.declared.circuit.Gate.{Gate}
-use Rattle.circuit_theory.specs.declared.circuit.Gate.TheVariants.{Free, And}
+use Rattle.circuit_theory.specs.declared.circuit.Gate.TheVariants.{And}
 use Rattle.circuit_theory.specs.Circuits.{gate_within, gates_within, same, gate_holds, gates_hold, AreSame}
-use Rattle.circuit_theory.specs.Terms.{Term, value, term_within, term_size, built, built_all, with_conjunction, with_equality}
+use Rattle.circuit_theory.specs.Terms.{Term, value, term_within, term_size, built, with_conjunction, with_equality}
 use Rattle.circuit_theory.specs.Terms.Term.{Literal, Negation, Conjunction, Equality}
 use Rattle.circuit_theory.proofs.Literals.{true-neg, within_is, within_from}
 use Rattle.circuit_theory.proofs.Parts.{same-is}
@@ -74,11 +73,11 @@ equality-built gates first second a b =
     let size : length (gates ++ x ∷ y ∷ z ∷ []) ≡ n + 3 = omega (arith, length-append gates (x ∷ y ∷ z ∷ [])) in
     let in_x : IsTrue (gate_within n x) = and_from (is_within n first) (is_within n second) a b in
     let in_y : IsTrue (gate_within (suc n) y) =
-        and_from (is_within (suc n) (neg_ℤ first)) (is_within (suc n) (neg_ℤ second))
-        (negated_within (suc n) first (within_more n (suc n) first (omega arith) a)) (negated_within (suc n) second (within_more n (suc n) second (omega arith) b)) in
+    and_from (is_within (suc n) (neg_ℤ first)) (is_within (suc n) (neg_ℤ second))
+    (negated_within (suc n) first (within_more n (suc n) first (omega arith) a)) (negated_within (suc n) second (within_more n (suc n) second (omega arith) b)) in
     let in_z : IsTrue (gate_within (suc (suc n)) z) =
-        and_from (is_within (suc (suc n)) (negsuc n)) (is_within (suc (suc n)) (negsuc (suc n)))
-        (within_from (suc (suc n)) (negsuc n) (omega arith) (omega arith)) (within_from (suc (suc n)) (negsuc (suc n)) (omega arith) (omega arith)) in
+    and_from (is_within (suc (suc n)) (negsuc n)) (is_within (suc (suc n)) (negsuc (suc n)))
+    (within_from (suc (suc n)) (negsuc n) (omega arith) (omega arith)) (within_from (suc (suc n)) (negsuc (suc n)) (omega arith) (omega arith)) in
     record {
       more = x ∷ y ∷ z ∷ [];
       behind = refl;
@@ -168,10 +167,10 @@ equality-value values gates first second some_first some_second hold =
     let three = and_parts (gate_holds values (suc (suc n)) z) true two.1 in
     let ex : values (suc n) ≡ (a && b) = same-is (values (suc n)) (a && b) one.0 in
     let ey : values (suc (suc n)) ≡ (not a && not b) =
-        same-is (values (suc (suc n))) (is_true values (neg_ℤ first) && is_true values (neg_ℤ second)) two.0
-        ∙ rw (true-neg values first some_first, true-neg values second some_second) in
+    same-is (values (suc (suc n))) (is_true values (neg_ℤ first) && is_true values (neg_ℤ second)) two.0
+    ∙ rw (true-neg values first some_first, true-neg values second some_second) in
     let ez : values (suc (suc (suc n))) ≡ (not (values (suc n)) && not (values (suc (suc n)))) =
-        same-is (values (suc (suc (suc n)))) (not (values (suc n)) && not (values (suc (suc n)))) three.0 in
+    same-is (values (suc (suc (suc n)))) (not (values (suc n)) && not (values (suc (suc n)))) three.0 in
     (equality_table a b (values (suc n)) (values (suc (suc n))) (values (suc (suc (suc n)))) ex ey ez, parts.0)
 
 pub term-value : (values : Assignment) (variables : ℕ) (gates : List Gate) (term : Term) → IsTrue (term_within variables term) → variables ≤ length gates →

@@ -20,8 +20,8 @@ gates_within before (gate ∷ gates) = gate_within before gate && gates_within (
 abbrev pub IsStateBit : List Gate → ℤ → Type 0
 IsStateBit gates literal = (before : ℕ) × (literal ≡ pos (suc before)) × (slice_get gates before ≡ Some Free)
 
--- What holds of each circuit: conjunctions name earlier gates, the state bits are free gates, each has a next value, and
--- every literal is that of a gate.
+-- What holds of each circuit: conjunctions name earlier gates, the state bits are free gates, each has a next value,
+-- and every literal is that of a gate.
 pub record IsSound (circuit : Circuit) : Type 0 where
   pub gates : IsTrue (gates_within 0 circuit.gates)
   pub now : All (IsStateBit circuit.gates) circuit.now
@@ -67,4 +67,5 @@ AreDistinct circuit positions values = (earlier later : ℕ) → earlier < later
 
 -- two assignments give the first so many variables the same values
 abbrev pub AreSame : ℕ → Assignment → Assignment → Type 0
-AreSame variables values others = (variable : ℕ) → 0 < variable → variable ≤ variables → values variable ≡ others variable
+AreSame variables values others = (variable : ℕ) → 0 < variable → variable ≤ variables
+    → values variable ≡ others variable

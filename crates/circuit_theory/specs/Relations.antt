@@ -1,5 +1,5 @@
 -- Relations from state to state, as circuits: terms that are true of a state, the next one, and some choices.
-use Rattle.std.specs.Prelude.{◌≡◌, ℕ, suc, ◌+◌, ◌*◌, ◌<◌, Bool, List, length, replicate, IsTrue}
+use Rattle.std.specs.Prelude.{◌≡◌, ℕ, suc, ◌+◌, ◌<◌, Bool, List, replicate, IsTrue}
 use Rattle.std.specs.List.{list_all}
 use Rattle.clauses.specs.Models.{Assignment}
 use Rattle.circuit_theory.specs.declared.circuit.Circuit.{Circuit}

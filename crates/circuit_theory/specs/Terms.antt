@@ -1,5 +1,5 @@
 -- Terms over literals, and the gates that compute them.
-use Rattle.std.specs.Prelude.{ℕ, suc, ◌+◌, ℤ, pos, negsuc, neg_ℤ, Bool, not, ◌&&◌, List, [], ◌∷◌, ◌++◌, length, IsTrue}
+use Rattle.std.specs.Prelude.{ℕ, suc, ◌+◌, ℤ, pos, negsuc, neg_ℤ, Bool, not, ◌&&◌, List, [], ◌∷◌, ◌++◌, length}
 use Rattle.clauses.specs.Literals.{is_within}
 use Rattle.clauses.specs.Models.{Assignment, is_true}
 use Rattle.circuit_theory.specs.declared.circuit.Gate.{Gate}

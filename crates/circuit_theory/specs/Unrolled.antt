@@ -1,5 +1,6 @@
 -- The clauses of a circuit at so many positions. Gate k, from 1, of g gates is at the position i, from 0, the variable
--- i * g + k (Biere, Cimatti, Clarke and Zhu, Symbolic model checking without BDDs; the clauses of a gate are Tseitin's).
+-- i * g + k (Biere, Cimatti, Clarke and Zhu, Symbolic model checking without BDDs). The clauses of a gate are those of
+-- Tseitin, On the complexity of derivation in propositional calculus.
 use Rattle.std.specs.Prelude.{ℕ, zero, suc, ◌+◌, ◌*◌, ℤ, pos, negsuc, neg_ℤ, List, [], ◌∷◌, ◌++◌, map, length}
 use Rattle.clauses.specs.Models.{Assignment}
 use Rattle.circuit_theory.specs.declared.circuit.Circuit.{Circuit}

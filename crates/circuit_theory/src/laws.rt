@@ -41,14 +41,16 @@ pub fn size_law()
     ensures distinct { (circuit : Circuit) (variables positions : ℕ) → IsSound circuit
         → positions * length circuit.gates ≤ variables
         → (clause_words (distinct circuit variables positions) ≡ distinct_words circuit positions)
-        × IsTrue (clauses_within (distinct_variables circuit variables positions) (distinct circuit variables positions)) }
+        × IsTrue (clauses_within (distinct_variables circuit variables positions)
+        (distinct circuit variables positions)) }
 {}
 
 /// A law: where the gates of a term are as they should be, their literal has the term's value; and they are as many as
 /// the term takes, and name earlier gates.
 pub fn term_law()
     ensures value { (values : Assignment) (variables : ℕ) (gates : List Gate) (term : Term)
-        → IsTrue (term_within variables term) → variables ≤ length gates → IsTrue (gates_hold values 0 (built gates term).gates)
+        → IsTrue (term_within variables term) → variables ≤ length gates
+        → IsTrue (gates_hold values 0 (built gates term).gates)
         → is_true values (built gates term).output ≡ value values term }
     ensures size { (variables : ℕ) (gates : List Gate) (term : Term)
         → IsTrue (term_within variables term) → variables ≤ length gates
@@ -69,5 +71,6 @@ pub fn relation_law()
     ensures models { (relation : Relation) (positions : ℕ) (chain : ℕ → Assignment) → IsClosed relation
         → IsChain relation positions chain
         → (values : Assignment) × IsModel values (unrolled (circuit_of relation) positions)
-        × ((position : ℕ) → AreSame (variables_of relation) (positions_of (circuit_of relation) values position) (chain position)) }
+        × ((position : ℕ) → AreSame (variables_of relation) (positions_of (circuit_of relation) values position)
+        (chain position)) }
 {}

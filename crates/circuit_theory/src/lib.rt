@@ -1,5 +1,5 @@
-//! Circuits as clauses: gates, the paths of a circuit, and the clauses whose models they are. It holds types, definitions
-//! and lemmas; its functions state laws.
+//! Circuits as clauses: gates, the paths of a circuit, and the clauses whose models they are. It holds types,
+//! definitions and lemmas; its functions state laws.
 #![tactic(auto)]
 
 mod circuit;

@@ -13,9 +13,9 @@ use circuit_theory::Circuit;
 use clauses::{Cnf, CnfFault};
 use std::alloc::Global;
 
-/// Adds to a formula that the states of a circuit at the first so many positions are different: a variable for each pair
-/// of positions and each state bit, and clauses by which one of them is true and is true only where the bit differs. The
-/// formula has the variables of these positions.
+/// Adds to a formula that the states of a circuit at the first so many positions are different: a variable for each
+/// pair of positions and each state bit, and clauses by which one of them is true and is true only where the bit
+/// differs. The formula has the variables of these positions.
 ///
 /// # Errors
 ///
@@ -30,15 +30,18 @@ pub fn distinct(
     requires sound { IsSound circuit.now }
     requires variables { positions * length circuit.now.gates ≤ cnf.old.variables }
     ensures variables { OnOk result (cnf.new.variables ≡ variables_of circuit.entry.now cnf.old.variables positions) }
-    ensures clauses { OnOk result (cnf.new.clauses ≡ cnf.old.clauses ++ spec.distinct circuit.entry.now cnf.old.variables positions) }
+    ensures clauses { OnOk result (cnf.new.clauses
+        ≡ cnf.old.clauses ++ spec.distinct circuit.entry.now cnf.old.variables positions) }
     ensures different { OnOk result ((values : Assignment) → IsModel values cnf.new.clauses
-        → IsModel values cnf.old.clauses × AreDistinct circuit.entry.now positions (positions_of circuit.entry.now values)) }
+        → IsModel values cnf.old.clauses
+        × AreDistinct circuit.entry.now positions (positions_of circuit.entry.now values)) }
     ensures extends { OnOk result ((values : Assignment) → IsModel values cnf.old.clauses
         → AreDistinct circuit.entry.now positions (positions_of circuit.entry.now values)
         → (further : Assignment) × IsModel further cnf.new.clauses × AreSame cnf.old.variables further values) }
     ensures err_variables { OnErr result (cnf.new.variables ≡ cnf.old.variables) }
     ensures err_clauses { OnErr result (cnf.new.clauses ≡ cnf.old.clauses) }
-    ensures too_large { (result ≡ Err CnfFault.TooLarge) ↔ IsTooLarge (variables_of circuit.entry.now cnf.old.variables positions)
+    ensures too_large { (result ≡ Err CnfFault.TooLarge)
+        ↔ IsTooLarge (variables_of circuit.entry.now cnf.old.variables positions)
         (cnf.old.clauses ++ spec.distinct circuit.entry.now cnf.old.variables positions) }
 {
     let variables = distinct_variables(circuit, positions, cnf)?;

@@ -54,9 +54,11 @@ fn unrolled_words(circuit: &Circuit, positions: u32) -> u128
 pub fn unrolled_variables(circuit: &Circuit, positions: u32) -> Result<u32, CnfFault>
     requires { IsSound circuit.now }
     ensures ok { IfOk result (λ variables. variables ≡ spec.unrolled_variables circuit.entry.now positions) }
-    ensures fits { OnOk result (AreFew (spec.unrolled_variables circuit.entry.now positions) (unrolled circuit.entry.now positions)) }
+    ensures fits { OnOk result (AreFew (spec.unrolled_variables circuit.entry.now positions)
+        (unrolled circuit.entry.now positions)) }
     ensures err { IfErr result (λ fault. fault ≡ CnfFault.TooLarge) }
-    ensures large { IfErr result (λ fault. IsTooLarge (spec.unrolled_variables circuit.entry.now positions) (unrolled circuit.entry.now positions)) }
+    ensures large { IfErr result (λ fault. IsTooLarge (spec.unrolled_variables circuit.entry.now positions)
+        (unrolled circuit.entry.now positions)) }
 {
     let variables = times(positions, circuit.gates.len());
     if variables > u128::from(MOST_VARIABLES) {
@@ -75,15 +77,19 @@ pub fn pairs(count: u32) -> u64
     u64::from(count) * u64::from(count.saturating_sub(1)) / 2
 }
 
-/// The variables that are in use once the states at the first so many positions are different, where the formula is then
-/// not too large.
+/// The variables that are in use once the states at the first so many positions are different, where the formula is
+/// then not too large.
 pub fn distinct_variables(circuit: &Circuit, positions: u32, cnf: &Cnf) -> Result<u32, CnfFault>
     requires sound { IsSound circuit.now }
     requires few { positions * length circuit.now.gates ≤ cnf.now.variables }
-    ensures ok { IfOk result (λ variables. variables ≡ spec.distinct_variables circuit.entry.now cnf.now.variables positions) }
-    ensures fits { OnOk result (AreFew (spec.distinct_variables circuit.entry.now cnf.now.variables positions) (cnf.now.clauses ++ distinct circuit.entry.now cnf.now.variables positions)) }
+    ensures ok { IfOk result (λ variables. variables
+        ≡ spec.distinct_variables circuit.entry.now cnf.now.variables positions) }
+    ensures fits { OnOk result (AreFew (spec.distinct_variables circuit.entry.now cnf.now.variables positions)
+        (cnf.now.clauses ++ distinct circuit.entry.now cnf.now.variables positions)) }
     ensures err { IfErr result (λ fault. fault ≡ CnfFault.TooLarge) }
-    ensures large { IfErr result (λ fault. IsTooLarge (spec.distinct_variables circuit.entry.now cnf.now.variables positions) (cnf.now.clauses ++ distinct circuit.entry.now cnf.now.variables positions)) }
+    ensures large { IfErr result (λ fault.
+        IsTooLarge (spec.distinct_variables circuit.entry.now cnf.now.variables positions)
+        (cnf.now.clauses ++ distinct circuit.entry.now cnf.now.variables positions)) }
 {
     let count = u128::from(pairs(positions));
     let bits = count * circuit.now.len() as u128;

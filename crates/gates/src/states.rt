@@ -52,7 +52,8 @@ fn add_differences(
     requires low { pair.low + size ≤ MOST_VARIABLES }
     requires high { pair.high + size ≤ MOST_VARIABLES }
     requires fits { FitsWith clauses.old (differences pair.variables pair.low pair.high literals.now) }
-    ensures { Adds clauses.old clauses.new (differences pair.variables pair.low pair.high literals.now) result }
+    ensures { Adds clauses.old clauses.new (differences pair.variables pair.low pair.high literals.now)
+        result }
 {
     for i in 0..literals.len() {
         add_difference(
@@ -88,7 +89,8 @@ fn add_pair(
     requires low { pair.low + length circuit.now.gates ≤ MOST_VARIABLES }
     requires high { pair.high + length circuit.now.gates ≤ MOST_VARIABLES }
     requires fits { FitsWith clauses.old (pair_of circuit.now pair.variables pair.low pair.high) }
-    ensures added { Adds clauses.old clauses.new (pair_of circuit.entry.now pair.variables pair.low pair.high) result }
+    ensures added { Adds clauses.old clauses.new (pair_of circuit.entry.now pair.variables pair.low pair.high)
+        result }
     ensures buffer { length buffer.new ≡ length buffer.old }
 {
     let size = circuit.gates.len() as u32;

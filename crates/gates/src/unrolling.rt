@@ -13,8 +13,9 @@ use circuit_theory::Circuit;
 use clauses::{Clauses, Cnf, CnfFault};
 use std::alloc::Global;
 
-/// A circuit at so many positions as clauses. Gate k, counted from 1, of g gates is at the position i, counted from 0, the
-/// variable i * g + k, and the models are the paths of the circuit. It takes time and memory in proportion to the words.
+/// A circuit at so many positions as clauses. Gate k, counted from 1, of g gates is at the position i, counted from 0,
+/// the variable i * g + k, and the models are the paths of the circuit. It takes time and memory in proportion to the
+/// words.
 ///
 /// # Errors
 ///
@@ -24,8 +25,10 @@ pub fn unroll(alloc: Global, circuit: &Circuit, positions: u32) -> Result<Cnf, C
     requires { IsSound circuit.now }
     ensures variables { IfOk result (λ cnf. cnf.variables ≡ variables_of circuit.entry.now positions) }
     ensures clauses { IfOk result (λ cnf. cnf.clauses ≡ unrolled circuit.entry.now positions) }
-    ensures models { IfOk result (λ cnf. (values : Assignment) → IsModel values cnf.clauses ↔ IsPath circuit.entry.now positions (positions_of circuit.entry.now values)) }
-    ensures too_large { (result ≡ Err CnfFault.TooLarge) ↔ IsTooLarge (variables_of circuit.entry.now positions) (unrolled circuit.entry.now positions) }
+    ensures models { IfOk result (λ cnf. (values : Assignment) → IsModel values cnf.clauses
+        ↔ IsPath circuit.entry.now positions (positions_of circuit.entry.now values)) }
+    ensures too_large { (result ≡ Err CnfFault.TooLarge)
+        ↔ IsTooLarge (variables_of circuit.entry.now positions) (unrolled circuit.entry.now positions) }
 {
     let variables = unrolled_variables(circuit, positions)?;
     let clauses = positions_clauses(alloc, circuit, positions)?;
