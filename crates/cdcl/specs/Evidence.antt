@@ -1,5 +1,6 @@
 -- What the log of a solver shows of each of its lemmas and drops.
-use Rattle.std.specs.Prelude.{◌≡◌, ◌≢◌, ℕ, ◌-◌, ◌*◌, ◌<◌, ◌≤◌, ℤ, neg_ℤ, List, [], ◌∷◌, ◌++◌, length, take, drop, count_by, Option, Some, is_some, IsSome, false}
+use Rattle.std.specs.Prelude.{◌≡◌, ◌≢◌, ℕ, ◌-◌, ◌*◌, ◌<◌, ◌≤◌, ℤ, neg_ℤ, List, []}
+use Rattle.std.specs.Prelude.{◌∷◌, ◌++◌, length, take, drop, count_by, Option, Some, is_some, IsSome, false}
 use Rattle.std.specs.List.{All, AllPairs, Contains}
 use Rattle.clauses.specs.Live.{clause_of}
 use Rattle.clauses.specs.Logs.{LogEntry, lemmas, is_empty_lemma, clauses_after, LemmaPasses}
@@ -18,7 +19,8 @@ pub record IsGoodLemma (variables : ℕ) (formula : List (List ℤ)) (before : L
   pub literals_once : AllPairs (λ literal other. literal ≢ other) literals
   pub hints_once : AllPairs (λ hint other. hint ≢ other) hints
   pub stands : (literal : ℤ) → Contains literals literal
-      → (hint : ℕ) × (clause : List ℤ) × Contains hints hint × (live_clause formula before hint ≡ Some clause) × Contains clause literal
+      → (hint : ℕ) × (clause : List ℤ) × Contains hints hint × (live_clause formula before hint ≡ Some clause)
+      × Contains clause literal
   pub adds : AddsPropagation neg_ℤ (live_clause formula before) literals
 
 -- a number names a lemma that is live behind some entries
@@ -29,7 +31,8 @@ IsLiveLemma formula before number = (length formula < number) × IsSome (live_cl
 abbrev pub DropsLive : List (List ℤ) → List LogEntry → List LogEntry → Type 0
 DropsLive formula before [] = Unit {0}
 DropsLive formula before (Lemma literals hints ∷ log) = DropsLive formula (before ++ Lemma literals hints ∷ []) log
-DropsLive formula before (Forget number ∷ log) = IsLiveLemma formula before number × DropsLive formula (before ++ Forget number ∷ []) log
+DropsLive formula before (Forget number ∷ log) =
+    IsLiveLemma formula before number × DropsLive formula (before ++ Forget number ∷ []) log
 
 -- how many lemmas of a log are live behind it
 abbrev pub live_lemmas : List (List ℤ) → List LogEntry → ℕ

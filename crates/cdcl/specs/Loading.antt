@@ -1,5 +1,6 @@
 -- The clauses of a formula, as the solver takes them.
-use Rattle.std.specs.Prelude.{◌≡◌, ℕ, ◌+◌, ◌-◌, ◌*◌, ◌^◌, ◌<◌, ◌≤◌, List, [], ◌∷◌, ◌++◌, length, map, take, slice_index_or, Bool, true, false, Option, Some, None}
+use Rattle.std.specs.Prelude.{◌≡◌, ℕ, ◌+◌, ◌-◌, ◌*◌, ◌^◌, ◌<◌, ◌≤◌, List, [], ◌∷◌}
+use Rattle.std.specs.Prelude.{◌++◌, length, map, take, slice_index_or, Bool, true, false, Option, Some, None}
 use Rattle.std.specs.List.{All, Contains}
 use Rattle.word_pool.specs.declared.region.TheConstants.{MOST_WORDS}
 use Rattle.clauses.specs.declared.cnf.Cnf.{Cnf}

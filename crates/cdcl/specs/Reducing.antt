@@ -10,7 +10,9 @@ use Rattle.cdcl.specs.Solving.{IsReady}
 
 -- where a literal stands on the trail, it has not this reason
 abbrev pub IsNoReason : Path → ℕ → ℕ → Type 0
-IsNoReason path number literal = (place : ℕ) → place < length path.literals → slice_index path.literals place ≡ literal → slice_index path.reasons place ≢ number
+IsNoReason path number literal =
+    (place : ℕ) → place < length path.literals → slice_index path.literals place ≡ literal
+    → slice_index path.reasons place ≢ number
 
 -- a number names a lemma that can go
 pub record CanDrop (solver : Solver) (number : ℕ) : Type 0 where

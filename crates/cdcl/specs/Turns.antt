@@ -1,5 +1,6 @@
 -- The trail as the analysis of a conflict reads it, and what a decision needs.
-use Rattle.std.specs.Prelude.{◌≡◌, ◌⊎◌, ℕ, ◌+◌, ◌-◌, ◌*◌, ◌^◌, ◌<◌, ◌≤◌, ◌↔◌, Bool, true, false, List, length, slice_index, slice_index_or}
+use Rattle.std.specs.Prelude.{◌≡◌, ◌⊎◌, ℕ, ◌+◌, ◌-◌, ◌*◌, ◌^◌, ◌<◌}
+use Rattle.std.specs.Prelude.{◌≤◌, ◌↔◌, Bool, true, false, List, length, slice_index, slice_index_or}
 use Rattle.std.specs.List.{All, Contains}
 use Rattle.word_pool.specs.declared.region.TheConstants.{MOST_WORDS}
 use Rattle.clause_store.specs.Stored.{stored_words}
@@ -29,7 +30,8 @@ pub record IsFree (path : Path) (literal : ℕ) : Type 0 where
 
 -- each variable has a value
 abbrev pub IsComplete : Path → Type 0
-IsComplete path = (variable : ℕ) → variable < path.variables → Contains path.literals (2 * variable) ⊎ Contains path.literals (2 * variable + 1)
+IsComplete path =
+    (variable : ℕ) → variable < path.variables → Contains path.literals (2 * variable) ⊎ Contains path.literals (2 * variable + 1)
 
 -- all of the trail was propagated, and each variable has a value
 pub record IsSolved (state : State) : Type 0 where
@@ -39,7 +41,8 @@ pub record IsSolved (state : State) : Type 0 where
 -- the values of the variables, counted from 0, by the literals that are true
 pub record AreValues (path : Path) (values : List Bool) : Type 0 where
   pub size : length values ≡ path.variables
-  pub is : (variable : ℕ) → variable < path.variables → (slice_index_or values variable false ≡ true) ↔ Contains path.literals (2 * variable)
+  pub is : (variable : ℕ) → variable < path.variables
+      → (slice_index_or values variable false ≡ true) ↔ Contains path.literals (2 * variable)
 
 -- a lemma can be added to the clauses, at a lower level
 pub record CanAttach (state : State) (lemma : List ℕ) : Type 0 where

@@ -11,7 +11,8 @@ use trail::Trail;
 pub(crate) fn has_value(trail: &Trail, variable: u32) -> bool
     requires within { variable < trail.now.variables }
     requires few { trail.now.variables ≤ MOST_VARIABLES }
-    ensures yes { OnTrue result (Contains trail.now.literals (2 * variable) ⊎ Contains trail.now.literals (2 * variable + 1)) }
+    ensures yes { OnTrue result
+        (Contains trail.now.literals (2 * variable) ⊎ Contains trail.now.literals (2 * variable + 1)) }
     ensures no { OnFalse result (IsFree trail.now (2 * variable) × IsFree trail.now (2 * variable + 1)) }
 {
     trail.is_true(2 * variable) || trail.is_true(2 * variable + 1)

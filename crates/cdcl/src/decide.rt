@@ -43,7 +43,8 @@ impl Decider {
     fn next_variable(&mut self, trail: &Trail, variables: u32) -> Option<u32>
         requires all { variables ≡ trail.now.variables }
         requires few { variables ≤ MOST_VARIABLES }
-        ensures some { IfSome result (λ variable. IsFree trail.now (2 * variable) × IsFree trail.now (2 * variable + 1)) }
+        ensures some { IfSome result
+            (λ variable. IsFree trail.now (2 * variable) × IsFree trail.now (2 * variable + 1)) }
         ensures none { IfNone result (IsComplete trail.now) }
     {
         while let Some(variable) = self.order.take() {

@@ -38,7 +38,8 @@ pub(crate) fn analyze(
     requires conflict { IsConflict propagator.now.clauses propagator.now.path conflict }
     requires room { analyzer.old ≡ propagator.now.path.variables }
     ensures learned { OnOk result (0 < length propagator.now.path.limits
-        → IsLearned propagator.now.clauses (steps_at propagator.now.path) lemma.new.literals.items lemma.new.hints.items) }
+        → IsLearned propagator.now.clauses (steps_at propagator.now.path)
+        lemma.new.literals.items lemma.new.hints.items) }
     ensures refuted { OnOk result (propagator.now.path.limits ≡ []
         → IsRefuted propagator.now.clauses lemma.new.literals.items lemma.new.hints.items) }
     ensures room { analyzer.new ≡ analyzer.old }
@@ -64,8 +65,10 @@ pub(crate) fn log_lemma(
 ) -> Result<(), NoMemory>
     requires literals { All (λ literal. literal < 2 * MOST_VARIABLES) lemma.now.literals.items }
     requires hints { All (λ hint. (0 < hint) × (hint ≤ MOST_VARIABLES)) lemma.now.hints.items }
-    requires few { log_words log.old + (length lemma.now.literals.items + length lemma.now.hints.items + 2) ≤ MOST_LOG_WORDS }
-    ensures { OnOk result (log.new ≡ log.old ++ LemmaEntry (map signed_of lemma.now.literals.items) lemma.now.hints.items ∷ []) }
+    requires few { log_words log.old
+        + (length lemma.now.literals.items + length lemma.now.hints.items + 2) ≤ MOST_LOG_WORDS }
+    ensures { OnOk result
+        (log.new ≡ log.old ++ LemmaEntry (map signed_of lemma.now.literals.items) lemma.now.hints.items ∷ []) }
 {
     signed_literals.clear();
     add_signed(signed_literals, &lemma.literals)?;

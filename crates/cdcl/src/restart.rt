@@ -3,8 +3,8 @@
 /// The fewest lemmas between two restarts.
 const FEWEST: u64 = 50;
 
-/// Restarts where the lemmas of late span more levels than lemmas did on the whole (Predicting learnt clauses quality in
-/// modern SAT solvers, 2009).
+/// Restarts where the lemmas of late span more levels than lemmas did on the whole. (Predicting learnt clauses quality
+/// in modern SAT solvers, 2009.)
 #[derive(Clone, Copy, Drop)]
 pub(crate) struct Restarts {
     // How many levels a lemma of late spans, in parts of 2 ^ 20.

@@ -66,7 +66,8 @@ impl<'a> Solver<'a> {
     pub(crate) fn find_conflict(&mut self) -> Result<Option<u32>, NoMemory>
         requires { self.old.propagator.path.variables ≡ self.old.formula.now.variables }
         ensures keeps { KeepsLog self.old self.new }
-        ensures conflict { IfOk result (λ conflict. IfSome conflict (IsConflict self.new.propagator.clauses self.new.propagator.path)) }
+        ensures conflict { IfOk result
+            (λ conflict. IfSome conflict (IsConflict self.new.propagator.clauses self.new.propagator.path)) }
         ensures solved { IfOk result (λ conflict. IfNone conflict (IsSolved self.new.propagator)) }
     {
         loop {
