@@ -46,7 +46,7 @@ pub reasons-pushed : (clauses : Numbered ℕ) (path : Path) (literal number : �
     → HasReasons clauses path → HasReasons clauses (pushed path literal number)
 reasons-pushed clauses path literal number same is reasons place within =
     elim (cases_lt place (length path.literals)) [
-      | inl before ↦ 
+      | inl before ↦
           elim (reasons place before) [
             | inl limit ↦ inl (limit.0, get_or_append_left path.reasons (number ∷ []) 0 place (omega arith) ∙ limit.1)
             | inr has ↦ inr (grown clauses path literal number place same before has)
