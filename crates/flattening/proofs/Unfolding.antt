@@ -16,17 +16,17 @@ use Rattle.flattening.proofs.Lines.{has_line, line_of}
 
 module _ (Line : Type 0) (mentions : Line → List ℕ) (models : List (Model Line)) where
   -- what is connected, is by a placement
-  placed_by : (path : Path) (k formal actual : ℕ) → actual_of models path k formal ≡ Some actual
+  pub placed_by : (path : Path) (k formal actual : ℕ) → actual_of models path k formal ≡ Some actual
       → (placement : Placement) × (placement_at models path k ≡ Some placement)
   placed_by path k formal actual is =
       option_and_then_some (λ placement. actual_in placement.connections formal) (placement_at models path k) actual is
       (λ placement there found. (placement, there))
 
-  owner-some : (path : Path) (k formal actual : ℕ) → actual_of models path k formal ≡ Some actual
+  pub owner-some : (path : Path) (k formal actual : ℕ) → actual_of models path k formal ≡ Some actual
       → owner models (k ∷ path) formal ≡ owner models path actual
   owner-some path k formal actual is = ap (owner_by (owner models path) (k ∷ path) formal) is
 
-  owner-none : (path : Path) (k name : ℕ) → actual_of models path k name ≡ None
+  pub owner-none : (path : Path) (k name : ℕ) → actual_of models path k name ≡ None
       → owner models (k ∷ path) name ≡ record { path = k ∷ path; name = name }
   owner-none path k name is = ap (owner_by (owner models path) (k ∷ path) name) is
 

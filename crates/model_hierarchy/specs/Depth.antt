@@ -1,0 +1,23 @@
+-- How deep models are.
+use Rattle.std.specs.Prelude.{◌≡◌, ℕ, zero, suc, ◌≤◌, List, [], ◌∷◌, map, max, Some}
+use Rattle.flattening.specs.declared.model.Placement.{Placement}
+use Rattle.flattening.specs.declared.model.Model.{Model}
+use Rattle.flattening.specs.declared.model.TheConstants.{DEEPEST}
+use Rattle.flattening.specs.Hierarchy.{placement_of}
+use Rattle.model_hierarchy.specs.Sums.{placements_of}
+
+abbrev pub largest : List ℕ → ℕ
+largest [] = 0
+largest (number ∷ numbers) = max number (largest numbers)
+
+-- a model without a placement has depth 1, and any other one more than the deepest that it places; counted up to so many
+abbrev pub depth_of : {Line : Type 0} → List (Model Line) → ℕ → ℕ → ℕ
+depth_of models zero model = 0
+depth_of models (suc most) model =
+    suc (largest (map (λ (placement : Placement). depth_of models most placement.model) (placements_of models model)))
+
+-- a placement is of a model that is as deep as a path may lead
+pub record IsTooDeep {Line : Type 0} (models : List (Model Line)) (model k : ℕ) : Type 0 where
+  pub placement : Placement
+  pub there : placement_of models model k ≡ Some placement
+  pub deep : DEEPEST ≤ depth_of models DEEPEST placement.model

@@ -1,0 +1,4 @@
+pub mod Depth
+pub mod Drivers
+pub mod Laws
+pub mod Sums
