@@ -23,16 +23,16 @@ formals_driven is_in [] = []
 formals_driven is_in (connection ∷ connections) =
     cond (is_in connection.formal) (formals_driven is_in connections) (connection.formal ∷ formals_driven is_in connections)
 
-onto_left : Option ℕ → ℕ → List ℕ → List ℕ
+unfoldable pub onto_left : Option ℕ → ℕ → List ℕ → List ℕ
 onto_left None name names = name ∷ names
 onto_left (Some actual) name names = names
 
-left_alone : List Connection → ℕ → List ℕ
+unfoldable pub left_alone : List Connection → ℕ → List ℕ
 left_alone connections zero = []
 left_alone connections (suc name) = onto_left (actual_in connections name) name (left_alone connections name)
 
 -- a name that is connected, and one that is not
-formal-among : (connections : List Connection) (name actual : ℕ) → actual_in connections name ≡ Some actual
+pub formal-among : (connections : List Connection) (name actual : ℕ) → actual_in connections name ≡ Some actual
     → Among name (map (λ (c : Connection). c.formal) connections)
 formal-among [] name actual is = cc
 formal-among (connection ∷ connections) name actual is =
@@ -42,7 +42,7 @@ formal-among (connection ∷ connections) name actual is =
           (sym (ap (λ b. cond b (Some connection.actual) (actual_in connections name)) differs) ∙ is))
     ]
 
-unconnected : (connections : List Connection) (name : ℕ) → actual_in connections name ≡ None → Among name (map (λ (c : Connection). c.formal) connections) → ⊥
+pub unconnected : (connections : List Connection) (name : ℕ) → actual_in connections name ≡ None → Among name (map (λ (c : Connection). c.formal) connections) → ⊥
 unconnected [] name none there = there
 unconnected (connection ∷ connections) name none there =
     elim (cases_Bool (eqb connection.formal name)) [
@@ -97,7 +97,7 @@ formals-apart is_in (connection ∷ connections) apart = by_input (is_in connect
     by_input false rest = (λ there. apart.0 (formals-within is_in connections connection.formal there).0, rest)
 
 -- a name is left alone where it is not connected
-left-within : (connections : List Connection) (count name : ℕ) → Among name (left_alone connections count) → (name < count) × (actual_in connections name ≡ None)
+pub left-within : (connections : List Connection) (count name : ℕ) → Among name (left_alone connections count) → (name < count) × (actual_in connections name ≡ None)
 unfolding left_alone onto_left
 left-within connections zero name none = absurd none
 left-within connections (suc last) name there =
@@ -110,7 +110,7 @@ left-within connections (suc last) name there =
     by_actual None is (inr rest) later = later rest
     by_actual (Some actual) is rest later = later rest
 
-left-there : (connections : List Connection) (count name : ℕ) → name < count → actual_in connections name ≡ None → Among name (left_alone connections count)
+pub left-there : (connections : List Connection) (count name : ℕ) → name < count → actual_in connections name ≡ None → Among name (left_alone connections count)
 unfolding left_alone onto_left
 left-there connections zero name lt none = absurd (omega arith)
 left-there connections (suc last) name lt none =
@@ -124,7 +124,7 @@ left-there connections (suc last) name lt none =
     by_actual None there = inr there
     by_actual (Some actual) there = there
 
-left-apart : (connections : List Connection) (count : ℕ) → Apart (left_alone connections count)
+pub left-apart : (connections : List Connection) (count : ℕ) → Apart (left_alone connections count)
 unfolding left_alone onto_left
 left-apart connections zero = tt
 left-apart connections (suc last) = by_actual (actual_in connections last) (left-apart connections last)
@@ -193,7 +193,7 @@ module _ (Line : Type 0) (inputs drives : Line → List ℕ) (models : List (Mod
   unfolding count connected
   formal-below name there =
       let by = from_map (λ (c : Connection). c.formal) name placement.connections there in
-      subst (λ n. n < names_of models placement.model) by.2 (connected.formals by.0 by.1)
+      subst (λ n. n < names_of models placement.model) by.2 (connected.form.formals by.0 by.1)
 
   no_formal : (name : ℕ) → (Among name (formals_driven is_in placement.connections) → ⊥) → times name (formals_driven is_in placement.connections) ≡ 0
   no_formal name none = times-none name (formals_driven is_in placement.connections) none
@@ -220,7 +220,7 @@ module _ (Line : Type 0) (inputs drives : Line → List ℕ) (models : List (Mod
       omega (arith, all-times name, is.once placement.model name lt, listed, formal, left)
   alike-inner name lt free (Some actual) some =
       let listed = times-none name (inputs_in inputs (items_of models placement.model)) (among-any name (inputs_in inputs (items_of models placement.model)) free) in
-      let formal = times-once name (formals_driven is_in placement.connections) (formals-apart is_in placement.connections connected.once)
+      let formal = times-once name (formals_driven is_in placement.connections) (formals-apart is_in placement.connections connected.form.once)
       (formals-there is_in placement.connections name (formal-among placement.connections name actual some) free) in
       let left = times-none name (left_alone placement.connections count) (λ there.
       let bad : None ≡ Some actual = sym (left-within placement.connections count name there).1 ∙ some in cc) in
@@ -245,7 +245,7 @@ module _ (Line : Type 0) (inputs drives : Line → List ℕ) (models : List (Mod
   formal-owner connection there =
       owner-some Line (λ line. []) models path k connection.formal connection.actual
       (ap (λ (o : Option Placement). option_and_then (λ (p : Placement). actual_in p.connections connection.formal) o) placed
-      ∙ first-only placement.connections connection connected.once there)
+      ∙ first-only placement.connections connection connected.form.once there)
 
   formals-owned : (signal : Signal) (connections : List Connection) → ((c : Connection) → Among c connections → Among c placement.connections)
       → count_where (λ name. same_signal signal (owner models (k ∷ path) name)) (formals_driven is_in connections)

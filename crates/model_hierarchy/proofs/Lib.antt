@@ -1,7 +1,11 @@
+pub mod Back
 pub mod Connecting
+pub mod Costs
 pub mod Counting
+pub mod Depths
 pub mod Driving
 pub mod Few
+pub mod Fitting
 pub mod Once
 pub mod Owning
 pub mod Parting

@@ -1,9 +1,9 @@
 -- How deep models are.
-use Rattle.std.specs.Prelude.{◌≡◌, ℕ, zero, suc, ◌≤◌, List, [], ◌∷◌, map, max, Some}
+use Rattle.std.specs.Prelude.{◌≡◌, ℕ, zero, suc, ◌<◌, ◌≤◌, List, [], ◌∷◌, length, map, max, slice_index, Some}
 use Rattle.flattening.specs.declared.model.Placement.{Placement}
 use Rattle.flattening.specs.declared.model.Model.{Model}
 use Rattle.flattening.specs.declared.model.TheConstants.{DEEPEST}
-use Rattle.flattening.specs.Hierarchy.{placement_of}
+use Rattle.flattening.specs.Hierarchy.{placements_in, placement_of}
 use Rattle.model_hierarchy.specs.Sums.{placements_of}
 
 abbrev pub largest : List ℕ → ℕ
@@ -21,3 +21,13 @@ pub record IsTooDeep {Line : Type 0} (models : List (Model Line)) (model k : ℕ
   pub placement : Placement
   pub there : placement_of models model k ≡ Some placement
   pub deep : DEEPEST ≤ depth_of models DEEPEST placement.model
+
+-- the depth of a model, by those of the models that it places
+abbrev pub depths_after : {Line : Type 0} → List ℕ → Model Line → ℕ
+depths_after depths model =
+    suc (largest (map (λ (placement : Placement). slice_index depths placement.model) (placements_in model.items)))
+
+-- a list has the depth of each model, counted up to so many
+pub record HasDepths {Line : Type 0} (models : List (Model Line)) (most : ℕ) (depths : List ℕ) : Type 0 where
+  pub size : length depths ≡ length models
+  pub each : (model : ℕ) → model < length models → slice_index depths model ≡ depth_of models most model

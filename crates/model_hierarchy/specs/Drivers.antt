@@ -47,12 +47,16 @@ abbrev pub drivers_of : {Line : Type 0} → (Line → List ℕ) → (Line → Li
 drivers_of inputs drives models model =
     inputs_in inputs (items_of models model) ++ driven_in inputs drives models (items_of models model)
 
--- connections of a placement: of names of the model that is placed, none of them twice, and of all of its inputs
-pub record IsConnected {Line : Type 0} (inputs : Line → List ℕ) (models : List (Model Line)) (placement : Placement)
-    : Type 0 where
+-- connections of a placement in form: of names of the model that is placed, none of them twice
+pub record IsInForm {Line : Type 0} (models : List (Model Line)) (placement : Placement) : Type 0 where
   pub formals : (connection : Connection) → Among connection placement.connections
       → connection.formal < names_of models placement.model
   pub once : Apart (map (λ connection. connection.formal) placement.connections)
+
+-- and of all of its inputs
+pub record IsConnected {Line : Type 0} (inputs : Line → List ℕ) (models : List (Model Line)) (placement : Placement)
+    : Type 0 where
+  pub form : IsInForm models placement
   pub whole : (name : ℕ) → is_input inputs models placement.model name ≡ true
       → (actual : ℕ) × (actual_in placement.connections name ≡ Some actual)
 

@@ -1,4 +1,7 @@
 pub mod Depth
 pub mod Drivers
+pub mod First
 pub mod Laws
+pub mod Order
+pub mod Recursion
 pub mod Sums

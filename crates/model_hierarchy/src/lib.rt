@@ -3,6 +3,15 @@
 //! All of it is found by sums over placements, before anything is flattened.
 #![tactic(auto)]
 
+mod cost;
+mod depth;
 mod laws;
+mod place;
+mod recursion;
 
+pub use cost::first_too_large;
+pub use depth::first_too_deep;
 pub use laws::hierarchy_law;
+pub use place::PlacementAt;
+pub use psl_base::NoMemory;
+pub use recursion::first_recursive;

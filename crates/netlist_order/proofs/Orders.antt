@@ -5,9 +5,9 @@ use Rattle.std.proofs.lemmas.Bool.{cases_lt}
 use Rattle.std.proofs.lemmas.List.{length-map, get_or-map, get_or_default, get_or-take, length-take-le}
 use Rattle.std.proofs.lemmas.List.Elements.{All-from_get_or}
 use Rattle.table_order.specs.Graph as graphs
-use Rattle.table_order.specs.Graph.{Graph, driver_of, Reads, Depends, directly, onwards, Occurs, OccursBefore}
+use Rattle.table_order.specs.Graph.{Graph, driver_of, Reads, Occurs, OccursBefore}
 use Rattle.table_order.specs.Wires.{drivers_of, graph_of}
-use Rattle.table_order.proofs.Chains.{Depends-within, Depends-keeps}
+use Rattle.table_order.proofs.Chains.{order-acyclic}
 use Rattle.netlist.specs.declared.table.Table.{Table}
 use Rattle.netlist.specs.Sound.{AreApart, IsOrder, no_table, table_at}
 use Rattle.netlist_order.specs.TableGraph.{driver_in, table_graph, IsAcyclic}
@@ -28,26 +28,9 @@ same-graph tables drivers is some =
         let rest = by-tables same more in
         cc
 
--- an order leaves no table that depends on itself: what a table reads stands before it
+-- an order leaves no table that depends on itself
 pub IsAcyclic-order : (graph : Graph) (order : List ℕ) → graphs.IsOrder graph order → IsAcyclic graph
-IsAcyclic-order graph order found table chain =
-    let at = found.each table (Depends-within chain) in
-    let later = behind at.place table at.within at.is chain in
-    found.once later.place at.place later.before at.within (later.is ∙ sym at.is)
-  where
-    next : (place t driver : ℕ) → place < length order → OccursBefore place t order → Reads graph t driver → OccursBefore place driver order
-    next place t driver lt before reads =
-        let there = found.after before.place driver (omega (arith, before.before)) (subst (λ u. Reads graph u driver) (sym before.is) reads) in
-        record { place = there.place; before = omega (arith, there.before, before.before); is = there.is }
-
-    first : (place driver : ℕ) → place < length order → get_or order place 0 ≡ table → Reads graph table driver → OccursBefore place driver order
-    first place driver lt is reads = found.after place driver lt (subst (λ u. Reads graph u driver) (sym is) reads)
-
-    behind : (place t : ℕ) → place < length order → get_or order place 0 ≡ table → Depends graph table t → OccursBefore place t order
-    behind place t lt is (directly reads) = first place t lt is reads
-    behind place t lt is (onwards {driver = driver} reads rest) =
-        Depends-keeps (λ u. OccursBefore place u order) (λ u other before reading. next place u other lt before reading) rest
-        (first place driver lt is reads)
+IsAcyclic-order graph order found table chain = order-acyclic graph order found table chain
 
 module _ (tables : List Table) (once : AreApart (map (λ table. table.output) tables)) where
   same-table : (t u : ℕ) → t < length tables → u < length tables → (table_at tables t).output ≡ (table_at tables u).output → t ≡ u

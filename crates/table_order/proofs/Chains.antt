@@ -1,9 +1,9 @@
 -- Chains of tables.
-use Rattle.std.proofs.Common.{◌≡◌, ℕ, ◌<◌, [], length, Some, None, get_or, sym, ◌∙◌, ap, ⊎_elim}
+use Rattle.std.proofs.Common.{◌≡◌, ℕ, ◌<◌, [], length, Some, None, get_or, sym, ◌∙◌, ap, subst, ⊎_elim, arith, List}
 use Rattle.std.proofs.lemmas.List.{get_or_past}
 use Rattle.std.proofs.lemmas.Option.{none-some}
 use Rattle.std.proofs.lemmas.Bool.{cases_lt}
-use Rattle.table_order.specs.Graph.{Graph, inputs_of, driver_of, Reads, Depends, directly, onwards}
+use Rattle.table_order.specs.Graph.{Graph, inputs_of, driver_of, Reads, Depends, directly, onwards, IsOrder, OccursBefore}
 
 -- two chains make one
 pub Depends-append : {graph : Graph} {table driver other : ℕ} → Depends graph table driver → Depends graph driver other → Depends graph table other
@@ -35,3 +35,24 @@ pub Depends-keeps : {graph : Graph} (P : ℕ → Type 0) → ((table driver : �
     → {table driver : ℕ} → Depends graph table driver → P table → P driver
 Depends-keeps P keeps (directly reads) holds = keeps _ _ holds reads
 Depends-keeps P keeps (onwards reads rest) holds = Depends-keeps P keeps rest (keeps _ _ holds reads)
+
+-- a topological order leaves no table that depends on itself: what a table reads stands before it
+pub order-acyclic : (graph : Graph) (order : List ℕ) → IsOrder graph order → (table : ℕ) → Depends graph table table → ⊥
+order-acyclic graph order found table chain =
+    let at = found.each table (Depends-within chain) in
+    let later = behind at.place table at.within at.is chain in
+    found.once later.place at.place later.before at.within (later.is ∙ sym at.is)
+  where
+    next : (place t driver : ℕ) → place < length order → OccursBefore place t order → Reads graph t driver → OccursBefore place driver order
+    next place t driver lt before reads =
+        let there = found.after before.place driver (omega (arith, before.before)) (subst (λ u. Reads graph u driver) (sym before.is) reads) in
+        record { place = there.place; before = omega (arith, there.before, before.before); is = there.is }
+
+    first : (place driver : ℕ) → place < length order → get_or order place 0 ≡ table → Reads graph table driver → OccursBefore place driver order
+    first place driver lt is reads = found.after place driver lt (subst (λ u. Reads graph u driver) (sym is) reads)
+
+    behind : (place t : ℕ) → place < length order → get_or order place 0 ≡ table → Depends graph table t → OccursBefore place t order
+    behind place t lt is (directly reads) = first place t lt is reads
+    behind place t lt is (onwards {driver = driver} reads rest) =
+        Depends-keeps (λ u. OccursBefore place u order) (λ u other before reading. next place u other lt before reading) rest
+        (first place driver lt is reads)
