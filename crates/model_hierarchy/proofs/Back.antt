@@ -1,6 +1,6 @@
 -- Models that depend on themselves, where of the models that one of them places only the first ones are kept.
-use Rattle.std.proofs.Common.{◌≡◌, ◌≢◌, ℕ, zero, suc, ◌+◌, ◌<◌, ◌≤◌, ◌⊎◌, inl, inr, List, [], ◌∷◌, length, map, take, set, get_or, slice_get, Option, Some, None, refl, sym, ap, ◌∙◌, subst, ⊎_elim, arith}
-use Rattle.std.proofs.lemmas.Bool.{cases_lt, cases_eq}
+use Rattle.std.proofs.Common.{◌≡◌, ◌≢◌, ℕ, zero, suc, ◌+◌, ◌<◌, ◌≤◌, ◌⊎◌, inl, inr, Bool, true, false, eqb, List, [], ◌∷◌, length, map, take, set, get_or, slice_get, All, IfSome, Option, Some, None, refl, sym, ap, ◌∙◌, subst, ⊎_elim, arith}
+use Rattle.std.proofs.lemmas.Bool.{cases_lt, cases_eq, eqb-true, eq-eqb, false≢true}
 use Rattle.std.proofs.lemmas.List.{map-set, set-set, set-get_or, get_or-set_same, get_or-set_other, get_or-take, get_or-map, get_or_past, length-map, length-take, take_all, take-map}
 use Rattle.std.proofs.lemmas.Option.{none-some}
 use Rattle.flattening.specs.declared.model.Placement.{Placement}
@@ -13,7 +13,7 @@ use Rattle.table_order.proofs.Chains.{order-acyclic}
 use Rattle.model_hierarchy.specs.declared.place.PlacementAt.{PlacementAt}
 use Rattle.model_hierarchy.specs.First.{Before, IsFirst, Finds, IsClosed}
 use Rattle.model_hierarchy.specs.Order.{placed_by, model_graph, IsRecursive}
-use Rattle.model_hierarchy.specs.Recursion.{IsItself, cut_at, IsLeast}
+use Rattle.model_hierarchy.specs.Recursion.{IsItself, ComesBack, cut_at, IsLeast}
 use Rattle.model_hierarchy.specs.Sums.{placements_of}
 use Rattle.model_hierarchy.proofs.Depths.{placement-among}
 
@@ -208,3 +208,41 @@ module _ (Line : Type 0) (models : List (Model Line)) where
             (⊎_elim (λ one. inl one) (λ more. inr (subst (λ g. Depends g here.placement.model model) (sym is) more)) here.back))
             before;
       }
+
+same_or_more : (n m : ℕ) → n ≤ m → (n ≡ m) ⊎ (n < m)
+same_or_more n m le = grind arith
+
+-- whether a model is the first one on a cycle, where no earlier one is on one
+pub comes-back : (lists : List (List ℕ)) (drivers : List (Option ℕ)) (model table : ℕ) → IsFirstOnCycle (graph_of lists drivers) table
+    → ((earlier : ℕ) → earlier < model → Depends (graph_of lists drivers) earlier earlier → ⊥) → ComesBack lists drivers model (eqb table model)
+comes-back lists drivers model table first before = by_test (eqb table model) refl
+  where
+    by_test : (test : Bool) → eqb table model ≡ test → ComesBack lists drivers model test
+    by_test true same = subst (λ t. Depends (graph_of lists drivers) t t) (eqb-true table model same) first.itself
+    by_test false differs = λ depends.
+        ⊎_elim (λ less. before table less first.itself)
+        (λ past. ⊎_elim (λ same. false≢true (sym differs ∙ eq-eqb table model (sym same))) (λ more. first.first model more depends)
+        (same_or_more model table past))
+        (cases_lt table model)
+
+pub acyclic-at : (lists : List (List ℕ)) (drivers : List (Option ℕ)) (order : List ℕ) (model : ℕ) → IsOrder (graph_of lists drivers) order
+    → Depends (graph_of lists drivers) model model → ⊥
+acyclic-at lists drivers order model found depends = order-acyclic (graph_of lists drivers) order found model depends
+
+-- the graph of what the code has made
+pub code-graph : (Line : Type 0) (models : List (Model Line)) → IsClosed models → (placed lists : List (List ℕ)) (drivers : List (Option ℕ)) (count : ℕ)
+    → placed ≡ map placed_by models → lists ≡ placed → count ≡ length placed → IsItself count drivers
+    → (lists ≡ map placed_by models) × (graph_of lists drivers ≡ model_graph models)
+code-graph Line models closed placed lists drivers count made same size itself =
+    let all : count ≡ length models = size ∙ ap length made ∙ length-map models (placed_by {Line = Line}) in
+    (same ∙ made, ap (λ ls. graph_of ls drivers) (same ∙ made) ∙ graph-is Line models closed drivers (subst (λ n. IsItself n drivers) all itself))
+
+pub itself-within : (drivers : List (Option ℕ)) (count : ℕ) → IsItself count drivers → All (λ driver. IfSome driver (λ table. table < count)) drivers
+itself-within drivers count itself k d lt =
+    let at : get_or drivers k d ≡ Some k = same drivers k d lt ∙ itself.each k (omega (arith, itself.size)) in
+    rw at (omega (arith, itself.size))
+  where
+    same : (xs : List (Option ℕ)) (k : ℕ) (d : Option ℕ) → k < length xs → get_or xs k d ≡ get_or xs k None
+    same [] k d lt = absurd (omega arith)
+    same (x ∷ xs) zero d lt = refl
+    same (x ∷ xs) (suc k) d lt = same xs k d (omega arith)

@@ -6,6 +6,7 @@ pub mod Depths
 pub mod Driving
 pub mod Few
 pub mod Fitting
+pub mod Halving
 pub mod Once
 pub mod Owning
 pub mod Parting

@@ -30,14 +30,12 @@ pub fn first_recursive<L>(
     let drivers = each_itself(alloc, placed.len())?;
     let mut lists = lists_of(alloc, &placed)?;
     let wiring = Wiring::new(lists.as_slice(), drivers.as_slice());
-    match order_of(alloc, &wiring)? {
-        Ok(_) => Ok(None),
-        Err(model) => {
-            let model = model as usize;
-            let placement = first_back(alloc, &mut lists, &drivers, model)?;
-            Ok(Some(PlacementAt { model, placement }))
-        }
-    }
+    let Err(model) = order_of(alloc, &wiring)? else {
+        return Ok(None);
+    };
+    let model = model as usize;
+    let placement = first_back(alloc, &mut lists, &drivers, model)?;
+    Ok(Some(PlacementAt { model, placement }))
 }
 
 // Of the models that a model on a cycle places, the first that leads back to it: the number of models before it. The
@@ -82,10 +80,10 @@ fn comes_back(
     ensures { IfOk result (λ back. ComesBack (map (λ list. list.now) lists.now) drivers.now model back) }
 {
     let wiring = Wiring::new(lists, drivers);
-    match order_of(alloc, &wiring)? {
-        Ok(_) => Ok(false),
-        Err(table) => Ok(table as usize == model),
-    }
+    let Err(table) = order_of(alloc, &wiring)? else {
+        return Ok(false);
+    };
+    Ok(table as usize == model)
 }
 
 // The models that each model places.
