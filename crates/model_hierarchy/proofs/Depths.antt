@@ -174,7 +174,7 @@ module _ (Line : Type 0) (models : List (Model Line)) (closed : IsClosed models)
           placement = found.1;
           there = there;
           deep = (let told = deep-told model k found.1 there in
-          let large : DEEPEST ≤ get_or depths found.1.model 0 = leb-true DEEPEST (get_or depths found.1.model 0) found.4 in omega (arith, told, large));
+              let large : DEEPEST ≤ get_or depths found.1.model 0 = leb-true DEEPEST (get_or depths found.1.model 0) found.4 in omega (arith, told, large));
         };
         first = λ other j first deep. ⊎_elim (λ less. before other j less deep)
             (λ same. let here = subst (λ m. IsTooDeep models m j) same.0 deep in

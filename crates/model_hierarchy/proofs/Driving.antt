@@ -67,9 +67,14 @@ module _ (Line : Type 0) (inputs drives : Line → List ℕ) (models : List (Mod
           + times_of signal (listed_by models below path k (placements_in (Place first ∷ items)))
       by_first first here rest =
           let own = own_signals first.connections (k ∷ path) (names_of models first.model) ++ below first.model (k ∷ path) in
-          omega (arith, here, rest, lines-append (lines (k ∷ path)) (lines_by lines path (suc k) items),
-          owned-append path (actuals_driven (is_input inputs models first.model) first.connections) (driven_in inputs drives models items),
-          count_where-append (same_signal signal) own (listed_by models below path (suc k) (placements_in items)))
+          omega (
+            arith,
+            here,
+            rest,
+            lines-append (lines (k ∷ path)) (lines_by lines path (suc k) items),
+            owned-append path (actuals_driven (is_input inputs models first.model) first.connections) (driven_in inputs drives models items),
+            count_where-append (same_signal signal) own (listed_by models below path (suc k) (placements_in items)),
+          )
 
   module _ (is : IsDriven inputs drives models) (shallow : (path : Path) → IsInstance models path → length path < DEEPEST) where
     -- what the lines of an instance and of those below it drive: the names that its model drives, and what is listed below

@@ -79,5 +79,15 @@ module _ (Line : Type 0) (models : List (Model Line)) (placement : Placement) (f
       let both = count_where-alike (λ x. true) (left_alone [] count) (left_alone placement.connections count ++ formals) alike in
       let split = count_where-append (λ x. true) (left_alone placement.connections count) formals in
       let sizes = length-map placement.connections (λ (c : Connection). c.formal) in
-      omega (arith, both, split, sizes, count-all (left_alone [] count), count-all (left_alone placement.connections count), count-all formals,
-      left-length [] count, left-length placement.connections count, all-own count)
+      omega (
+        arith,
+        both,
+        split,
+        sizes,
+        count-all (left_alone [] count),
+        count-all (left_alone placement.connections count),
+        count-all formals,
+        left-length [] count,
+        left-length placement.connections count,
+        all-own count,
+      )

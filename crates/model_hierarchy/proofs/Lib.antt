@@ -10,3 +10,5 @@ pub mod Halving
 pub mod Once
 pub mod Owning
 pub mod Parting
+pub mod Shallow
+pub mod Worked

@@ -63,10 +63,15 @@ by-length models below many same path k [] = refl
 by-length models below many same path k (placement ∷ placements) =
     let own = own_signals placement.connections (k ∷ path) (names_of models placement.model) in
     let inner = below placement.model (k ∷ path) in
-    omega (arith, length-append (own ++ inner) (listed_by models below path (suc k) placements), length-append own inner,
-    own-length placement.connections (k ∷ path) (names_of models placement.model), same placement.model (k ∷ path),
-    by-length models below many same path (suc k) placements,
-    sum_by-cons (λ (p : Placement). own_count p.connections (names_of models p.model) + many p.model) placement placements)
+    omega (
+      arith,
+      length-append (own ++ inner) (listed_by models below path (suc k) placements),
+      length-append own inner,
+      own-length placement.connections (k ∷ path) (names_of models placement.model),
+      same placement.model (k ∷ path),
+      by-length models below many same path (suc k) placements,
+      sum_by-cons (λ (p : Placement). own_count p.connections (names_of models p.model) + many p.model) placement placements,
+    )
 
 below-length : {Line : Type 0} (models : List (Model Line)) (levels model : ℕ) (path : Path)
     → length (listed_below models levels model path) ≡ signals_below models levels model
@@ -78,8 +83,13 @@ pub listed-length : {Line : Type 0} (models : List (Model Line)) → length (lis
 unfolding listed signal_count
 listed-length models =
     let own = own_signals [] [] (names_of models 0) in
-    omega (arith, length-append own (listed_below models DEEPEST 0 []), own-length [] [] (names_of models 0), all-own [] (names_of models 0),
-    below-length models DEEPEST 0 [])
+    omega (
+      arith,
+      length-append own (listed_below models DEEPEST 0 []),
+      own-length [] [] (names_of models 0),
+      all-own [] (names_of models 0),
+      below-length models DEEPEST 0 [],
+    )
 
 -- a name that is connected with nothing is there
 own-there : (connections : List Connection) (path : Path) (count name : ℕ) → name < count → actual_in connections name ≡ None

@@ -3,7 +3,7 @@ use Rattle.std.specs.Prelude.{◌≡◌, ℕ, zero, suc, ◌<◌, ◌≤◌, Lis
 use Rattle.flattening.specs.declared.model.Placement.{Placement}
 use Rattle.flattening.specs.declared.model.Model.{Model}
 use Rattle.flattening.specs.declared.model.TheConstants.{DEEPEST}
-use Rattle.flattening.specs.Hierarchy.{placements_in, placement_of}
+use Rattle.flattening.specs.Hierarchy.{Path, placements_in, placement_of, IsInstance}
 use Rattle.model_hierarchy.specs.Sums.{placements_of}
 
 abbrev pub largest : List ℕ → ℕ
@@ -31,3 +31,7 @@ depths_after depths model =
 pub record HasDepths {Line : Type 0} (models : List (Model Line)) (most : ℕ) (depths : List ℕ) : Type 0 where
   pub size : length depths ≡ length models
   pub each : (model : ℕ) → model < length models → slice_index depths model ≡ depth_of models most model
+
+-- no path is as long as the deepest may be
+abbrev pub IsShallow : {Line : Type 0} → List (Model Line) → Type 0
+IsShallow models = (path : Path) → IsInstance models path → length path < DEEPEST

@@ -43,13 +43,7 @@ pub fn first_too_large<L>(
                 signals: top.names.min(limit + 1),
                 instances: 0,
             };
-            Ok(first_past(
-                models,
-                &costs,
-                limit,
-                start,
-                top.items.as_slice(),
-            ))
+            Ok(first_past(models, &costs, limit, start, top.items.as_slice()))
         }
         None => Ok(None),
     }
@@ -73,7 +67,12 @@ fn costs_of<L>(alloc: Global, models: &Items<Model<L>>, cap: u32) -> Result<Vec<
 }
 
 // What is below each model, by what is below those that it places.
-fn costs_after<L>(alloc: Global, models: &Items<Model<L>>, costs: &[Cost], cap: u32) -> Result<Vec<Cost>, NoMemory>
+fn costs_after<L>(
+    alloc: Global,
+    models: &Items<Model<L>>,
+    costs: &[Cost],
+    cap: u32,
+) -> Result<Vec<Cost>, NoMemory>
     ensures { IfOk result (λ next. next.items ≡ map (cost_after models.now cap costs.now) models.now) }
 {
     let mut next = Vec::with_capacity(alloc, models.len())?;
@@ -100,7 +99,13 @@ fn cost_in<L>(models: &Items<Model<L>>, costs: &[Cost], cap: u32, items: &[Item<
 }
 
 // The number of the first placement with which the limit is passed.
-fn first_past<L>(models: &Items<Model<L>>, costs: &[Cost], limit: u32, start: Cost, items: &[Item<L>]) -> Option<usize>
+fn first_past<L>(
+    models: &Items<Model<L>>,
+    costs: &[Cost],
+    limit: u32,
+    start: Cost,
+    items: &[Item<L>],
+) -> Option<usize>
     requires limit { limit + 1 < 2 ^ 32 }
     ensures { result ≡ past_from models.now limit costs.now start 0 (placements_in items.now) }
 {
@@ -119,15 +124,25 @@ fn first_past<L>(models: &Items<Model<L>>, costs: &[Cost], limit: u32, start: Co
 }
 
 // A sum with one placement more.
-fn with_placement<L>(models: &Items<Model<L>>, costs: &[Cost], cap: u32, sum: Cost, placement: &Placement) -> Cost
+fn with_placement<L>(
+    models: &Items<Model<L>>,
+    costs: &[Cost],
+    cap: u32,
+    sum: Cost,
+    placement: &Placement,
+) -> Cost
     ensures { result ≡ with_placement models.now cap costs.now sum placement.now }
 {
     let below = cost_at(costs, placement.model);
-    let own = u64::from(name_count(models, placement.model))
-        .saturating_sub(placement.connections.len() as u64);
+    let own = u64::from(name_count(models, placement.model)).saturating_sub(
+        placement.connections.len() as u64,
+    );
     Cost {
         signals: capped(u64::from(sum.signals) + own + u64::from(below.signals), cap),
-        instances: capped(u64::from(sum.instances) + 1 + u64::from(below.instances), cap),
+        instances: capped(
+            u64::from(sum.instances) + 1 + u64::from(below.instances),
+            cap,
+        ),
     }
 }
 

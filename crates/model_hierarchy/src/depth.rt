@@ -1,8 +1,8 @@
 // How deep models are.
-ghost use Rattle.std.specs.Prelude.{◌≡◌, ◌<◌, ◌≤◌, suc, nat_le, length, map, All, IfOk, slice_index};
+ghost use Rattle.std.specs.Prelude.{◌≡◌, ◌<◌, ◌≤◌, suc, nat_le, length, map, All, IfOk, IfNone, slice_index};
 ghost use Rattle.std.specs.List.{position_from};
 ghost use Rattle.flattening.specs.Hierarchy.{placements_in};
-ghost use Rattle.model_hierarchy.specs.Depth.{largest, depths_after, HasDepths, IsTooDeep};
+ghost use Rattle.model_hierarchy.specs.Depth.{largest, depths_after, HasDepths, IsShallow, IsTooDeep};
 ghost use Rattle.model_hierarchy.specs.First.{Finds, IsClosed};
 
 use crate::place::PlacementAt;
@@ -21,7 +21,9 @@ pub fn first_too_deep<L>(
     models: &Items<Model<L>>,
 ) -> Result<Option<PlacementAt>, NoMemory>
     requires closed { IsClosed models.now }
-    ensures { IfOk result (λ found. Finds (IsTooDeep models.now) found) }
+    ensures found { IfOk result (λ found. Finds (IsTooDeep models.now) found) }
+    // where there is none, no path is too long
+    ensures shallow { IfOk result (λ found. IfNone found (IsShallow models.now)) }
 {
     let depths = depths_of(alloc, models)?;
     for model in 0..models.len() {

@@ -1,9 +1,10 @@
 use Rattle.std.proofs.Common.{rules, ◌≡◌, ◌∙◌, Some, None, sym, arith}
 use Rattle.model_hierarchy.proofs.Depths.{none-deep, some-deep, scan-is, deep-next, deep-all}
+use Rattle.model_hierarchy.proofs.Shallow.{shallow-all}
 use Rattle.model_hierarchy.proofs.depth.first_too_deep.Goals as goal
 
-pub returns-in-Some : goal.returns-in-Some
-returns-in-Some g c =
+pub returns-in-Some-clause-found : goal.returns-in-Some-clause-found
+returns-in-Some-clause-found g c =
     let scanned = scan-is c.args.models.now c.loop-model.model c.at.result.now c.as_slice.result.now c.in_ok-depths.depths.items c.deref.result.now c.first_deep.result
     (search rules) (search rules) (search rules) (search rules) in
     let is : c.first_deep.result ≡ Some c.in-Some.placement = search rules in
@@ -18,5 +19,8 @@ loop-model-preserved g c =
     deep-next c.args.models.now c.loop-model.model c.loop-model.invariant
     (none-deep g.row.L.Denot c.args.models.now c.requires.closed c.in_ok-depths.depths.items c.in_ok-depths.ensures c.loop-model.model (scanned ∙ is))
 
-pub returns : goal.returns
-returns g c = deep-all c.args.models.now c.loop-model.model (search rules) c.loop-model.invariant
+pub returns-clause-found : goal.returns-clause-found
+returns-clause-found g c = deep-all c.args.models.now c.loop-model.model (search rules) c.loop-model.invariant
+
+pub returns-clause-shallow : goal.returns-clause-shallow
+returns-clause-shallow g c = shallow-all c.args.models.now (returns-clause-found g c)
