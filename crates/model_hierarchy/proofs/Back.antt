@@ -1,17 +1,16 @@
 -- Models that depend on themselves, where of the models that one of them places only the first ones are kept.
-use Rattle.std.proofs.Common.{◌≡◌, ◌≢◌, ℕ, zero, suc, ◌+◌, ◌<◌, ◌≤◌, ◌⊎◌, inl, inr, Bool, true, false, eqb, List, [], ◌∷◌, length, map, take, set, get_or, slice_get, All, IfSome, Option, Some, None, refl, sym, ap, ◌∙◌, subst, ⊎_elim, arith}
+use Rattle.std.proofs.Common.{◌≡◌, ◌≢◌, ℕ, zero, suc, ◌<◌, ◌≤◌, ◌⊎◌, inl, inr, Bool, true, false, eqb, List, [], ◌∷◌, length, map, take, set, get_or, slice_get, All, IfSome, Option, Some, None, refl, sym, ap, ◌∙◌, subst, ⊎_elim, arith}
 use Rattle.std.proofs.lemmas.Bool.{cases_lt, cases_eq, eqb-true, eq-eqb, false≢true}
-use Rattle.std.proofs.lemmas.List.{map-set, set-set, set-get_or, get_or-set_same, get_or-set_other, get_or-take, get_or-map, get_or_past, length-map, length-take, take_all, take-map}
+use Rattle.std.proofs.lemmas.List.{map-set, set-get_or, get_or-set_same, get_or-set_other, get_or-take, get_or-map, get_or_past, length-map, length-take, take_all, take-map}
 use Rattle.std.proofs.lemmas.Option.{none-some}
 use Rattle.flattening.specs.declared.model.Placement.{Placement}
 use Rattle.flattening.specs.declared.model.Model.{Model}
 use Rattle.flattening.specs.Hierarchy.{items_of, placements_in, placement_of}
 use Rattle.flattening.specs.Members.{Among}
-use Rattle.table_order.specs.Graph.{Graph, inputs_of, driver_of, Reads, Depends, directly, onwards, IsFirstOnCycle, IsOrder}
+use Rattle.table_order.specs.Graph.{Graph, inputs_of, Reads, Depends, directly, onwards, IsFirstOnCycle, IsOrder}
 use Rattle.table_order.specs.Wires.{drivers_of, graph_of}
 use Rattle.table_order.proofs.Chains.{order-acyclic}
-use Rattle.model_hierarchy.specs.declared.place.PlacementAt.{PlacementAt}
-use Rattle.model_hierarchy.specs.First.{Before, IsFirst, Finds, IsClosed}
+use Rattle.model_hierarchy.specs.First.{IsFirst, IsClosed}
 use Rattle.model_hierarchy.specs.Order.{placed_by, model_graph, IsRecursive}
 use Rattle.model_hierarchy.specs.Recursion.{IsItself, ComesBack, cut_at, IsLeast}
 use Rattle.model_hierarchy.specs.Sums.{placements_of}

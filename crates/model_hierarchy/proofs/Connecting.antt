@@ -1,5 +1,5 @@
 -- What a placement connects: the formals that it drives, and the names that it leaves alone.
-use Rattle.std.proofs.Common.{◌≡◌, ◌≢◌, ℕ, zero, suc, ◌+◌, ◌<◌, ◌≤◌, ◌⊎◌, inl, inr, Bool, true, false, eqb, cond, ◌||◌, List, [], ◌∷◌, ◌++◌, map, Option, Some, None, option_and_then, refl, sym, ap, ◌∙◌, subst, ⊎_elim, arith}
+use Rattle.std.proofs.Common.{◌≡◌, ℕ, zero, suc, ◌+◌, ◌<◌, ◌≤◌, ◌⊎◌, inl, inr, Bool, true, false, eqb, cond, ◌||◌, List, [], ◌∷◌, ◌++◌, map, Option, Some, None, option_and_then, refl, sym, ap, ◌∙◌, subst, ⊎_elim, arith}
 use Rattle.std.specs.List.{list_any}
 use Rattle.std.proofs.lemmas.Bool.{cases_Bool, cases_lt, cases_eq, eqb-true, eq-eqb, false≢true}
 use Rattle.flattening.specs.declared.model.Connection.{Connection}
@@ -7,14 +7,14 @@ use Rattle.flattening.specs.declared.model.Placement.{Placement}
 use Rattle.flattening.specs.declared.model.Item.TheVariants.{Place}
 use Rattle.flattening.specs.declared.model.Model.{Model}
 use Rattle.flattening.specs.declared.model.Signal.{Signal}
-use Rattle.flattening.specs.Hierarchy.{Path, items_of, placement_at, actual_in, actual_of, owner}
+use Rattle.flattening.specs.Hierarchy.{Path, items_of, placement_at, actual_in, owner}
 use Rattle.flattening.specs.Instances.{names_of, own_signal}
 use Rattle.flattening.specs.Members.{Among, Apart}
 use Rattle.flattening.specs.Numbers.{same_signal}
 use Rattle.flattening.proofs.Members.{Among-map, from_map}
 use Rattle.flattening.proofs.Unfolding.{owner-some, owner-none}
 use Rattle.model_hierarchy.specs.Drivers.{count_where, times, inputs_in, is_input, actuals_driven, driven_in, drivers_of, IsConnected, IsDriven}
-use Rattle.model_hierarchy.proofs.Counting.{one_if, count_where-append, count_where-map, count_where-same, count_where-alike, times-some, times-none, times-once, times_of}
+use Rattle.model_hierarchy.proofs.Counting.{one_if, count_where-append, count_where-map, count_where-alike, times-some, times-none, times-once, times_of}
 use Rattle.model_hierarchy.proofs.Owning.{onto_own, own_signals}
 
 -- the formals that a placement drives, and the names that it leaves alone

@@ -1,10 +1,9 @@
 -- How often things stand in lists.
-use Rattle.std.proofs.Common.{◌≡◌, ◌≢◌, ℕ, zero, suc, ◌+◌, ◌<◌, ◌≤◌, ◌⊎◌, inl, inr, Bool, true, false, eqb, cond, List, [], ◌∷◌, ◌++◌, length, map, refl, sym, ap, ◌∙◌, subst, ⊎_elim, arith}
+use Rattle.std.proofs.Common.{◌≡◌, ℕ, zero, suc, ◌+◌, ◌≤◌, inl, inr, Bool, false, eqb, cond, List, [], ◌∷◌, ◌++◌, map, refl, sym, ap, subst, ⊎_elim, arith}
 use Rattle.std.proofs.lemmas.Bool.{cases_Bool, cases_eq, eqb-true, eq-eqb}
 use Rattle.flattening.specs.declared.model.Signal.{Signal}
 use Rattle.flattening.specs.Members.{Among, Apart}
 use Rattle.flattening.specs.Numbers.{same_signal}
-use Rattle.flattening.proofs.Members.{from_append}
 use Rattle.flattening.proofs.Numbering.{same_or_not}
 use Rattle.model_hierarchy.specs.Drivers.{count_where, times}
 

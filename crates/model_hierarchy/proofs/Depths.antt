@@ -1,7 +1,7 @@
 -- The depths of models, round by round.
-use Rattle.std.proofs.Common.{◌≡◌, ℕ, zero, suc, ◌+◌, ◌<◌, ◌≤◌, ◌⊎◌, inl, inr, Bool, true, false, cond, nat_le, leb, List, [], ◌∷◌, ◌++◌, length, map, take, get_or, slice_get, max, All, Option, Some, None, refl, sym, ap, ◌∙◌, subst, ⊎_elim, arith}
+use Rattle.std.proofs.Common.{◌≡◌, ℕ, zero, suc, ◌+◌, ◌<◌, ◌≤◌, ◌⊎◌, inl, inr, Bool, true, false, cond, nat_le, List, [], ◌∷◌, ◌++◌, length, map, take, get_or, slice_get, All, Option, Some, None, refl, sym, ap, ◌∙◌, subst, ⊎_elim, arith}
 use Rattle.std.specs.List.{position_from}
-use Rattle.std.proofs.lemmas.List.{map_more, length-map, length-replicate, get_or-replicate}
+use Rattle.std.proofs.lemmas.List.{map_more, length-map}
 use Rattle.std.proofs.lemmas.Bool.{false≢true, cases_lt, leb-true, le-leb}
 use Rattle.std.proofs.lemmas.Option.{none-some}
 use Rattle.flattening.specs.declared.model.Placement.{Placement}
@@ -13,9 +13,8 @@ use Rattle.flattening.specs.Hierarchy.{items_of, placements_in, placement_of}
 use Rattle.flattening.specs.Members.{Among}
 use Rattle.flattening.proofs.Visiting.{items_of-get}
 use Rattle.model_hierarchy.specs.Depth.{largest, depth_of, depths_after, HasDepths, IsTooDeep}
-use Rattle.model_hierarchy.specs.First.{Before, IsFirst, Finds, IsClosed}
+use Rattle.model_hierarchy.specs.First.{IsFirst, IsClosed}
 use Rattle.model_hierarchy.specs.Sums.{placements_of}
-use Rattle.model_hierarchy.specs.declared.place.PlacementAt.{PlacementAt}
 
 -- what a model places stands among its items
 pub placement-among : {Line : Type 0} (items : List (Item Line)) (placement : Placement) → Among placement (placements_in items) → Among (Place placement) items

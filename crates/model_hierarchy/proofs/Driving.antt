@@ -1,5 +1,5 @@
 -- The flat lines of a hierarchy drive each of its signals just once.
-use Rattle.std.proofs.Common.{◌≡◌, ℕ, zero, suc, ◌+◌, ◌<◌, ◌≤◌, inl, inr, List, [], ◌∷◌, ◌++◌, length, map, slice_get, Option, Some, None, refl, sym, ap, ◌∙◌, subst, ⊎_elim, arith}
+use Rattle.std.proofs.Common.{◌≡◌, ℕ, zero, suc, ◌+◌, ◌<◌, List, [], ◌∷◌, ◌++◌, length, map, slice_get, Some, refl, sym, ap, ◌∙◌, subst, arith}
 use Rattle.std.proofs.lemmas.List.{map-append}
 use Rattle.std.proofs.lemmas.List.Concat.{flat_map-append}
 use Rattle.flattening.specs.declared.model.Placement.{Placement}
@@ -8,17 +8,14 @@ use Rattle.flattening.specs.declared.model.Item.TheVariants.{Own, Place}
 use Rattle.flattening.specs.declared.model.Model.{Model}
 use Rattle.flattening.specs.declared.model.Signal.{Signal}
 use Rattle.flattening.specs.declared.model.TheConstants.{DEEPEST}
-use Rattle.flattening.specs.Hierarchy.{Path, Placed, items_of, items_at, model_at, placed_model, placements_in, placement_at, owner, IsInstance, lines_by, expand, flat_lines, mentioned_by, mentioned}
+use Rattle.flattening.specs.Hierarchy.{Path, Placed, items_of, items_at, model_at, placed_model, placements_in, owner, IsInstance, lines_by, expand, mentioned_by, mentioned}
 use Rattle.flattening.specs.Instances.{names_of}
-use Rattle.flattening.specs.Members.{Among}
 use Rattle.flattening.specs.Numbers.{same_signal}
 use Rattle.flattening.proofs.Visiting.{Among-placement}
-use Rattle.model_hierarchy.specs.Drivers.{times, inputs_in, is_input, actuals_driven, driven_in, drivers_of, IsDriven}
-use Rattle.model_hierarchy.specs.Sums.{placements_of}
-use Rattle.model_hierarchy.proofs.Counting.{count_where-append, count_where-alike, count_where-map, times_of, times_of-once, times-once, times-none}
+use Rattle.model_hierarchy.specs.Drivers.{is_input, actuals_driven, driven_in, IsDriven}
+use Rattle.model_hierarchy.proofs.Counting.{count_where-append, times_of}
 use Rattle.model_hierarchy.proofs.Connecting.{placement-drives}
-use Rattle.model_hierarchy.proofs.Owning.{own_signals, listed_by, listed_below, listed}
-use Rattle.model_hierarchy.proofs.Parting.{listed-apart}
+use Rattle.model_hierarchy.proofs.Owning.{own_signals, listed_by, listed_below}
 
 module _ (Line : Type 0) (inputs drives : Line → List ℕ) (models : List (Model Line)) (signal : Signal) where
   -- how often what lines drive is this signal

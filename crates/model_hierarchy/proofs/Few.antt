@@ -1,18 +1,18 @@
 -- A hierarchy has no more signals than are listed.
-use Rattle.std.proofs.Common.{◌≡◌, ◌≢◌, ℕ, suc, ◌<◌, ◌≤◌, inl, inr, List, [], ◌∷◌, ◌++◌, length, Option, Some, None, option_and_then, refl, sym, ap, subst, ⊎_elim, arith}
+use Rattle.std.proofs.Common.{◌≡◌, ℕ, ◌<◌, ◌≤◌, inl, inr, List, [], ◌∷◌, ◌++◌, length, Option, Some, option_and_then, refl, sym, ap, subst, ⊎_elim, arith}
 use Rattle.std.proofs.lemmas.List.{length-append}
 use Rattle.flattening.specs.declared.model.Placement.{Placement}
 use Rattle.flattening.specs.declared.model.Model.{Model}
 use Rattle.flattening.specs.declared.model.Signal.{Signal}
 use Rattle.flattening.specs.declared.model.Item.TheVariants.{Own}
-use Rattle.flattening.specs.Hierarchy.{Path, items_of, items_at, model_at, placements_in, placement_at, actual_in, actual_of, owner, IsInstance, flat_lines, mentioned_by, mentioned}
+use Rattle.flattening.specs.Hierarchy.{Path, items_of, items_at, model_at, actual_in, actual_of, owner, IsInstance, flat_lines, mentioned_by, mentioned}
 use Rattle.flattening.specs.Instances.{names_of, IsNamed}
 use Rattle.flattening.specs.Members.{Among, Apart}
 use Rattle.flattening.specs.Numbers.{signals}
 use Rattle.flattening.specs.Trees.{IsWhole}
 use Rattle.flattening.proofs.Lines.{line_of}
 use Rattle.flattening.proofs.Members.{Among-left, Among-right, from_append, from_map, from_flat_map}
-use Rattle.flattening.proofs.Numbering.{onto-from, Apart-onto, same_or_not}
+use Rattle.flattening.proofs.Numbering.{onto-from, Apart-onto}
 use Rattle.flattening.proofs.Unfolding.{placed_by}
 use Rattle.flattening.proofs.Visiting.{Among-placement}
 use Rattle.model_hierarchy.specs.Laws.{HasFewSignals}

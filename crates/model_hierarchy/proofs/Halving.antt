@@ -1,5 +1,5 @@
 -- The search by halves for the first placement that leads back.
-use Rattle.std.proofs.Common.{◌≡◌, ℕ, zero, suc, ◌+◌, ◌<◌, ◌≤◌, List, [], length, take, set, get_or, map, Bor, Option, refl, sym, ap, ◌∙◌, subst, arith}
+use Rattle.std.proofs.Common.{◌≡◌, ℕ, zero, suc, ◌+◌, ◌<◌, ◌≤◌, List, [], length, take, set, get_or, map, Bor, Option, sym, ap, ◌∙◌, subst, arith}
 use Rattle.std.proofs.lemmas.List.{set-set, set-get_or, take_all, map-set, get_or-map, length-map}
 use Rattle.table_order.specs.Graph.{Depends, IsFirstOnCycle}
 use Rattle.table_order.specs.Wires.{drivers_of, graph_of}

@@ -1,24 +1,24 @@
 -- Each signal of a hierarchy is driven once, by number.
-use Rattle.std.proofs.Common.{◌≡◌, ℕ, zero, suc, ◌+◌, ◌<◌, ◌≤◌, ◌⊎◌, inl, inr, Bool, true, false, eqb, List, [], ◌∷◌, ◌++◌, length, map, get_or, refl, sym, ap, ◌∙◌, subst, ⊎_elim, arith}
+use Rattle.std.proofs.Common.{◌≡◌, ℕ, zero, suc, ◌<◌, ◌≤◌, inl, inr, Bool, eqb, List, [], ◌∷◌, ◌++◌, length, map, get_or, refl, sym, ap, ◌∙◌, subst, ⊎_elim, arith}
 use Rattle.std.proofs.lemmas.Bool.{cases_Bool, cases_lt, cases_eq, eqb-true, eq-eqb}
 use Rattle.flattening.specs.declared.model.Item.{Item}
 use Rattle.flattening.specs.declared.model.Item.TheVariants.{Own, Place}
 use Rattle.flattening.specs.declared.model.Model.{Model}
 use Rattle.flattening.specs.declared.model.Signal.{Signal}
 use Rattle.flattening.specs.declared.model.TheConstants.{DEEPEST}
-use Rattle.flattening.specs.Hierarchy.{Path, items_of, owner, flat_lines, mentioned_by, mentioned}
-use Rattle.flattening.specs.Instances.{names_of, IsNamed, own_signal}
+use Rattle.flattening.specs.Hierarchy.{items_of, owner, flat_lines, mentioned_by, mentioned}
+use Rattle.flattening.specs.Instances.{names_of, IsNamed}
 use Rattle.flattening.specs.Cells.{no_signal}
 use Rattle.flattening.specs.Members.{Among, Apart}
-use Rattle.flattening.specs.Numbers.{same_signal, place_of, signals, number}
+use Rattle.flattening.specs.Numbers.{same_signal, place_of, signals}
 use Rattle.flattening.specs.Trees.{IsWhole}
-use Rattle.flattening.proofs.Members.{Among-left, Among-right, Among-map, Among-flat_map, Among-at, from_append, from_map, from_flat_map}
+use Rattle.flattening.proofs.Members.{Among-map, Among-flat_map, Among-at, from_append, from_map, from_flat_map}
 use Rattle.flattening.proofs.Numbering.{onto-adds, Apart-onto, same_or_not, place-within, get_or-place_of, place_of-get_or}
 use Rattle.flattening.proofs.Unfolding.{owner-among}
 use Rattle.model_hierarchy.specs.Drivers.{count_where, times, inputs_in, driven_in, drivers_of, IsDriven, driven_numbers}
 use Rattle.model_hierarchy.specs.Laws.{AreMentioned, IsDrivenOnce, DrivesSignals}
-use Rattle.model_hierarchy.proofs.Counting.{one_if, count_where-append, count_where-map, count_where-same, count_where-none, count_where-alike, times_of, times_of-once, times-once, times-none}
-use Rattle.model_hierarchy.proofs.Driving.{drives-signal, by-levels}
+use Rattle.model_hierarchy.proofs.Counting.{count_where-append, count_where-map, count_where-same, count_where-none, count_where-alike, times_of, times_of-once, times-once, times-none}
+use Rattle.model_hierarchy.proofs.Driving.{by-levels}
 use Rattle.model_hierarchy.proofs.Few.{signal-listed}
 use Rattle.model_hierarchy.proofs.Owning.{own_signals, listed_below, listed}
 use Rattle.model_hierarchy.proofs.Parting.{listed-apart}

@@ -1,5 +1,5 @@
 -- The signals that instances have of their own, one instance after another.
-use Rattle.std.proofs.Common.{◌≡◌, ◌≢◌, ℕ, zero, suc, ◌+◌, ◌-◌, ◌<◌, ◌≤◌, ◌⊎◌, inl, inr, cond, List, [], ◌∷◌, ◌++◌, length, map, slice_get, sum_by, is_none, option_and_then, Option, Some, None, refl, sym, ap, ◌∙◌, subst, ⊎_elim, arith}
+use Rattle.std.proofs.Common.{◌≡◌, ℕ, zero, suc, ◌+◌, ◌-◌, ◌<◌, ◌⊎◌, inl, inr, cond, List, [], ◌∷◌, ◌++◌, length, slice_get, sum_by, is_none, option_and_then, Option, Some, None, refl, sym, ap, subst, ⊎_elim, arith}
 use Rattle.std.proofs.lemmas.List.{length-append}
 use Rattle.std.proofs.lemmas.List.Sums.{sum_by-cons}
 use Rattle.flattening.specs.declared.model.Connection.{Connection}
@@ -7,12 +7,10 @@ use Rattle.flattening.specs.declared.model.Placement.{Placement}
 use Rattle.flattening.specs.declared.model.Model.{Model}
 use Rattle.flattening.specs.declared.model.Signal.{Signal}
 use Rattle.flattening.specs.declared.model.TheConstants.{DEEPEST}
-use Rattle.flattening.specs.Hierarchy.{Path, items_of, placements_in, placement_at, placed_model, model_at, actual_in, actual_of, owner_by, owner, IsInstance}
-use Rattle.flattening.specs.Instances.{names_of, own_signal, Under}
-use Rattle.flattening.specs.Members.{Among, Apart}
-use Rattle.flattening.specs.Trees.{IsWhole}
-use Rattle.flattening.proofs.Members.{Among-left, Among-right, from_append}
-use Rattle.flattening.proofs.Visiting.{under_one}
+use Rattle.flattening.specs.Hierarchy.{Path, placement_at, placed_model, model_at, actual_in, actual_of, owner_by, owner, IsInstance}
+use Rattle.flattening.specs.Instances.{names_of, own_signal}
+use Rattle.flattening.specs.Members.{Among}
+use Rattle.flattening.proofs.Members.{Among-left, Among-right}
 use Rattle.model_hierarchy.specs.Sums.{placements_of, own_count, signals_below, signal_count}
 
 -- a name's own signal, where it is connected with nothing, before others

@@ -1,5 +1,5 @@
 -- The worked example is closed, and its placements are in form.
-use Rattle.std.proofs.Common.{◌≡◌, ℕ, zero, suc, ◌<◌, inl, inr, List, [], ◌∷◌, length, sym, ap, subst, ⊎_elim, arith}
+use Rattle.std.proofs.Common.{◌≡◌, ℕ, zero, suc, ◌<◌, inl, inr, List, [], sym, subst}
 use Rattle.flattening.specs.declared.model.Placement.{Placement}
 use Rattle.flattening.specs.declared.model.Item.TheVariants.{Place}
 use Rattle.flattening.specs.declared.model.Model.{Model}

@@ -9,7 +9,7 @@ use Rattle.flattening.specs.declared.model.Model.{Model}
 use Rattle.flattening.specs.Hierarchy.{items_of, actual_in, owner, flat_lines, mentioned}
 use Rattle.flattening.specs.Instances.{names_of}
 use Rattle.flattening.specs.Members.{Among, Apart}
-use Rattle.flattening.specs.Numbers.{signals, number}
+use Rattle.flattening.specs.Numbers.{number}
 
 -- how many things in a list pass a test, and how often a number stands there
 abbrev pub count_where : {X : Type 0} → (X → Bool) → List X → ℕ

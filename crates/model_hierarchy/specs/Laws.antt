@@ -1,7 +1,7 @@
 -- What is so of each hierarchy that is driven: it has no more signals than the sum says, and each is driven just once.
 use Rattle.std.specs.Prelude.{◌≡◌, ℕ, ◌<◌, ◌≤◌, List, length}
 use Rattle.flattening.specs.declared.model.Model.{Model}
-use Rattle.flattening.specs.Instances.{names_of, IsNamed}
+use Rattle.flattening.specs.Instances.{IsNamed}
 use Rattle.flattening.specs.Members.{Among}
 use Rattle.flattening.specs.Numbers.{signals}
 use Rattle.flattening.specs.Trees.{IsWhole}

@@ -1,5 +1,4 @@
 use Rattle.std.proofs.Common.{rules, subst}
-use Rattle.flattening.specs.declared.model.TheConstants.{DEEPEST}
 use Rattle.model_hierarchy.specs.Sums.{HasCosts}
 use Rattle.model_hierarchy.proofs.Costs.{HasCosts-next}
 use Rattle.model_hierarchy.proofs.cost.costs_of.Goals as goal

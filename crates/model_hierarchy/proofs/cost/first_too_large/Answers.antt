@@ -1,4 +1,4 @@
-use Rattle.std.proofs.Common.{rules, ◌≡◌, ◌∙◌, ◌+◌, ◌-◌, ap, arith, subst, sym}
+use Rattle.std.proofs.Common.{rules, ◌+◌, ◌-◌, subst, sym}
 use Rattle.flattening.proofs.Visiting.{model-read, model-none}
 use Rattle.flattening.specs.declared.model.TheConstants.{DEEPEST}
 use Rattle.model_hierarchy.specs.Sums.{FindsPast, HasCosts}

@@ -1,4 +1,4 @@
-use Rattle.std.proofs.Common.{rules, ◌≡◌, ◌+◌, [], ◌∷◌, ◌++◌, ap, ◌∙◌, arith}
+use Rattle.std.proofs.Common.{rules, ◌+◌, [], ◌∷◌, ◌++◌, ap, ◌∙◌}
 use Rattle.model_hierarchy.proofs.Depths.{deeper-next}
 use Rattle.model_hierarchy.proofs.depth.deeper.Goals as goal
 

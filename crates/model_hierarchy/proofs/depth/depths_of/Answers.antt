@@ -1,4 +1,4 @@
-use Rattle.std.proofs.Common.{rules, ◌≡◌, ◌∙◌, ap, subst, add-one, arith, All, ◌<◌, length, get_or}
+use Rattle.std.proofs.Common.{rules, subst, All, ◌<◌}
 use Rattle.flattening.specs.declared.model.TheConstants.{DEEPEST}
 use Rattle.model_hierarchy.specs.Depth.{HasDepths}
 use Rattle.model_hierarchy.proofs.Depths.{few-depths, HasDepths-next}

@@ -1,4 +1,4 @@
-use Rattle.std.proofs.Common.{rules, ◌≡◌, ◌∙◌, Some, None, sym, arith}
+use Rattle.std.proofs.Common.{rules, ◌≡◌, ◌∙◌, Some, None}
 use Rattle.model_hierarchy.proofs.Depths.{none-deep, some-deep, scan-is, deep-next, deep-all}
 use Rattle.model_hierarchy.proofs.Shallow.{shallow-all}
 use Rattle.model_hierarchy.proofs.depth.first_too_deep.Goals as goal

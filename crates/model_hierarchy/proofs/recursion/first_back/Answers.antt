@@ -1,4 +1,4 @@
-use Rattle.std.proofs.Common.{rules, ◌≡◌, ◌+◌, ◌-◌, ◌/◌, ℕ, List, [], map, get_or, length, refl, subst, ap, sym, ◌∙◌, arith, length-set, Bor, Option}
+use Rattle.std.proofs.Common.{rules, ◌+◌, ◌-◌, ◌/◌, ℕ, List, map, length, refl, subst, ap, sym, ◌∙◌, arith, length-set, Bor}
 use Rattle.model_hierarchy.proofs.Halving.{Halves, halves-begin, halves-first, halves-second, halves-earlier, list-read, list-written, model-within}
 use Rattle.model_hierarchy.proofs.recursion.first_back.Goals as goal
 

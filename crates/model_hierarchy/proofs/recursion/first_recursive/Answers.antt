@@ -1,7 +1,6 @@
 use Rattle.std.proofs.Common.{rules, ◌≡◌, ◌<◌, ℕ, List, ◌∙◌, ap, sym, subst, length, map, All, IfSome, arith, Bor}
 use Rattle.std.proofs.lemmas.List.{length-map}
 use Rattle.table_order.specs.Graph.{Graph, IsOrder, IsFirstOnCycle}
-use Rattle.table_order.specs.Wires.{graph_of}
 use Rattle.model_hierarchy.specs.Order.{model_graph}
 use Rattle.model_hierarchy.proofs.Back.{none-recursive, first-recursive, code-graph, itself-within}
 use Rattle.model_hierarchy.proofs.recursion.first_recursive.Goals as goal
