@@ -8,50 +8,9 @@ use Rattle.flattening.specs.declared.model.Item.TheVariants.{Own, Place}
 use Rattle.netlist.specs.declared.latch.Latch.{Latch}
 use Rattle.netlist.specs.declared.table.Table.{Table}
 use Rattle.netlist.specs.Design.{Design}
-use Rattle.blif_model.specs.declared.line.LineKind.{LineKind}
-use Rattle.blif_model.specs.declared.line.LineKind.TheVariants as kinds
 use Rattle.blif_model.specs.declared.line.ModelLine.{ModelLine}
-use Rattle.blif_model.specs.declared.line.TableRows.{TableRows}
 use Rattle.blif_model.specs.declared.text.ModelText.{ModelText}
-
--- all but the last of some numbers, and the last
-abbrev pub all_but_last : List ℕ → List ℕ
-all_but_last [] = []
-all_but_last (number ∷ []) = []
-all_but_last (number ∷ other ∷ numbers) = number ∷ all_but_last (other ∷ numbers)
-
-abbrev pub last_of : List ℕ → ℕ
-last_of [] = 0
-last_of (number ∷ []) = number
-last_of (number ∷ other ∷ numbers) = last_of (other ∷ numbers)
-
--- what a line lists, by its kind and the signals that its names are: inputs,
-abbrev pub inputs_by : LineKind → List ℕ → List ℕ
-inputs_by kinds.Inputs signals = signals
-inputs_by kind signals = []
-
--- a latch, whose names are what it reads and what it drives,
-abbrev pub latches_by : LineKind → List ℕ → List Latch
-latches_by (kinds.Latch init) (input ∷ output ∷ []) = record { input = input; output = output; init = init } ∷ []
-latches_by kind signals = []
-
--- or a table, whose names are what it reads, and then what it drives
-abbrev pub table_by : TableRows → List ℕ → Table
-table_by rows signals = record {
-  inputs = all_but_last signals;
-  output = last_of signals;
-  rows = rows.rows;
-  value = rows.value;
-}
-
-abbrev pub tables_by : LineKind → List ℕ → List Table
-tables_by (kinds.Table rows) signals = table_by rows signals ∷ []
-tables_by kind signals = []
-
--- how many bytes of the text stand before the name of a table's output
-abbrev pub outputs_by : LineKind → List ℕ
-outputs_by (kinds.Table rows) = rows.output_at ∷ []
-outputs_by kind = []
+pub use Rattle.flat_netlist.specs.Lines.{all_but_last, last_of, inputs_by, latches_by, table_by, tables_by, outputs_by}
 
 -- the lines of a model
 abbrev pub lines_in : List (Item ModelLine) → List ModelLine

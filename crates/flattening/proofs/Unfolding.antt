@@ -51,7 +51,7 @@ module _ (Line : Type 0) (mentions : Line → List ℕ) (models : List (Model Li
         (owner-mentioned (k ∷ path) by.0 formal below by.1 by.2)
 
   -- a signal is what a name of an instance mentions
-  signal-named : (signal : Signal) → Among signal (signals mentions models)
+  pub signal-named : (signal : Signal) → Among signal (signals mentions models)
       → (path : Path) × (name : ℕ) × IsInstance models path × IsName mentions models path name × (owner models path name ≡ signal)
   signal-named signal there =
       let found = ⊎_elim (λ none. absurd none) (λ some. some) (onto-from [] (mentioned mentions models (flat_lines models)) signal there) in

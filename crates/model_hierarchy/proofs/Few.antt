@@ -19,24 +19,24 @@ use Rattle.model_hierarchy.specs.Laws.{HasFewSignals}
 use Rattle.model_hierarchy.proofs.Owning.{listed, listed-length, owner-listed}
 
 -- a list without one of its members
-record Parted (x : Signal) (ys : List Signal) : Type 0 where
-  left : List Signal
-  right : List Signal
+record Parted {X : Type 0} (x : X) (ys : List X) : Type 0 where
+  left : List X
+  right : List X
   is : ys ≡ left ++ x ∷ right
 
-part : (x : Signal) (ys : List Signal) → Among x ys → Parted x ys
+part : {X : Type 0} (x : X) (ys : List X) → Among x ys → Parted x ys
 part x [] none = absurd none
-part x (y ∷ ys) (inl here) = record { left = []; right = ys; is = ap (λ (z : Signal). z ∷ ys) here }
+part x (y ∷ ys) (inl here) = record { left = []; right = ys; is = ap (λ z. z ∷ ys) here }
 part x (y ∷ ys) (inr there) =
     let rest = part x ys there in
-    record { left = y ∷ rest.left; right = rest.right; is = ap (λ (zs : List Signal). y ∷ zs) rest.is }
+    record { left = y ∷ rest.left; right = rest.right; is = ap (λ zs. y ∷ zs) rest.is }
 
 -- of members that are apart there are no more than a list has
-pub no-more : (xs ys : List Signal) → Apart xs → ((x : Signal) → Among x xs → Among x ys) → length xs ≤ length ys
+pub no-more : {X : Type 0} (xs ys : List X) → Apart xs → ((x : X) → Among x xs → Among x ys) → length xs ≤ length ys
 no-more [] ys apart all = omega arith
 no-more (x ∷ xs) ys apart all =
     let at = part x ys (all x (inl refl)) in
-    let sizes : length ys ≡ length (at.left ++ x ∷ at.right) = ap (λ (zs : List Signal). length zs) at.is in
+    let sizes : length ys ≡ length (at.left ++ x ∷ at.right) = ap (λ zs. length zs) at.is in
     let rest = no-more xs (at.left ++ at.right) apart.1 (λ y there.
     ⊎_elim (λ first. Among-left y at.left at.right first)
     (λ second. ⊎_elim (λ same. absurd (apart.0 (subst (λ z. Among z xs) (sym same) there))) (λ later. Among-right y at.left at.right later) second)
