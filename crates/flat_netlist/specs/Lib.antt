@@ -1,3 +1,5 @@
+pub mod Example
 pub mod Flat
 pub mod Lines
+pub mod Listing
 pub mod Trees

@@ -1,4 +1,4 @@
-ghost use Rattle.std.specs.Prelude.{◌≡◌, ℕ, ◌<◌, ◌^◌, [], ◌∷◌, ◌++◌, length, slice_index_or, sum_by, All, OnOk, OnErr};
+ghost use Rattle.std.specs.Prelude.{◌≡◌, ℕ, ◌<◌, ◌^◌, [], ◌∷◌, ◌++◌, length, slice_index_or, sum_by, All, IfOk, OnOk, OnErr};
 
 use psl_base::NoMemory;
 use std::alloc::Global;
@@ -67,6 +67,19 @@ impl Rows {
         ensures { result ≡ sum_by length self.now }
     {
         self.marks.len()
+    }
+
+    /// The same rows once more.
+    pub fn copy(&self, alloc: Global) -> Result<Rows, NoMemory>
+        ensures { IfOk result (λ rows. rows ≡ self.now) }
+    {
+        let mut marks = Vec::with_capacity(alloc, self.marks.len())?;
+        marks.extend_from_slice(&self.marks)?;
+        Ok(Rows {
+            marks,
+            width: self.width,
+            count: self.count,
+        })
     }
 
     /// One row more, as long as those before it. Where memory is refused, the rows stay; so they do where no number
