@@ -9,7 +9,7 @@ use Rattle.alternating_theory.specs.Merged.{fits, is_first, joined, merged_by}
 use Rattle.alternating_theory.specs.Obligations.{Obligation, Automaton, obligation_at}
 use Rattle.alternating_theory.specs.Positive.{met, owes}
 use Rattle.alternating_theory.specs.Trimmed.{count_below, renumbered_obligation}
-use Rattle.alternating_theory.proofs.Merges.{new-below, joined-new, owed-inside, new-start, joined-fewer}
+use Rattle.alternating_theory.proofs.Merges.{new-below, joined-new, joined-met, owed-inside, new-start, joined-fewer}
 use Rattle.alternating_theory.proofs.MetLaws.{met-renumbered}
 use Rattle.alternating_theory.proofs.Reached.{same-number}
 use Rattle.alternating_theory.proofs.Settled.{count-at_most}
@@ -79,14 +79,11 @@ module _ (a : Automaton) (class : ℕ → ℕ) (fit : IsTrue (fits a class)) (na
   abbrev new : ℕ → ℕ
   new n = count_below (class n) (is_first class)
 
-  new-is : (q : ℕ) → q < len → after (new q) ≡ renumbered_obligation new (look q)
-  new-is q l = joined-new a class fit names q l
-
   accepting-is : (q : ℕ) → q < len → (after (new q)).accepting ≡ (look q).accepting
-  accepting-is q l = ap (λ (o : Obligation). o.accepting) (new-is q l)
+  accepting-is q l = (joined-new a class fit names q l).accepting
 
   met-is : (q : ℕ) → q < len → (x : Letter) (f : ℕ → Truth) → met (after (new q)).delta x f ≡ met (look q).delta x (λ r. f (new r))
-  met-is q l x f = ap (λ (o : Obligation). met o.delta x f) (new-is q l) ∙ met-renumbered new (look q).delta x f
+  met-is q l x f = joined-met a class fit names q l x f
 
   inside : (q r : ℕ) → q < len → IsTrue (owes (look q).delta r) → r < len
   inside q r l o = omega (arith, owed-inside a class fit names q r l o, names.start_last)

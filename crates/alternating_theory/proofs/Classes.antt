@@ -1,20 +1,20 @@
 -- The classes of one pass over the obligations fit, and the duals have the same.
 use Rattle.std.proofs.Common.{◌≡◌, ◌⊎◌, inl, inr, refl, sym, ap, ◌∙◌, subst, ℕ, zero, suc, ◌+◌, ◌≤◌, ◌<◌, Bool as Truth, true, false, List, [], ◌∷◌, ◌++◌, length, map, get_or, arith}
 use Rattle.std.specs.Prelude.{IsTrue, ◌&&◌, ◌==◌, nat_le, if◌then◌else◌}
-use Rattle.std.proofs.lemmas.Bool.{and_parts, and_from, eq-eqb, le-leb, cases_lt}
+use Rattle.std.proofs.lemmas.Bool.{both_ways, and_parts, and_from, eq-eqb, le-leb, cases_lt}
 use Rattle.std.proofs.lemmas.List.{length-append}
 use mathlib.Core.Path.{fun_ext}
 use Rattle.alternating_theory.specs.Construction.{opposite_obligation}
 use Rattle.alternating_theory.specs.Dual.{opposite_automaton}
 use Rattle.alternating_theory.specs.Laws.{NamesOf}
-use Rattle.alternating_theory.specs.Merged.{all_below, fits_at, fits, class_in, first_from, is_like, classes_upto, merged, merged_by, same_obligation}
+use Rattle.alternating_theory.specs.Merged.{all_below, fits_at, fits, class_in, first_from, supposed, is_like, classes_upto, merged, merged_by, same_obligation}
 use Rattle.alternating_theory.specs.Obligations.{Obligation, Automaton, obligation_at}
 use Rattle.alternating_theory.specs.Trimmed.{renumbered_obligation}
 use Rattle.alternating_theory.proofs.Duals.{one-renumbered}
 use Rattle.alternating_theory.proofs.MergedDuals.{merged_opposite}
 use Rattle.alternating_theory.proofs.Merges.{twice}
 use Rattle.alternating_theory.proofs.Reached.{same-number}
-use Rattle.alternating_theory.proofs.Same.{obligation-same, obligation-self, obligation-turned}
+use Rattle.alternating_theory.proofs.Same.{obligation-renumbered, obligation-self, obligation-turned}
 use Rattle.alternating_theory.proofs.Values.{at-map}
 
 -- classes in a list
@@ -74,20 +74,12 @@ module _ (os : List Obligation) where
   class-none : (k q : ℕ) → k ≤ q → class_at k q ≡ q
   class-none k q l = class-past (classes_upto os k) q q (omega (arith, l, classes-long os k))
 
+  -- of two numbers the obligations ask the same, up to classes
+  abbrev Asks : (ℕ → ℕ) → ℕ → ℕ → Type 0
+  Asks class i j = IsTrue (same_obligation (renumbered_obligation class (obligation_at os i)) (renumbered_obligation class (obligation_at os j)))
+
   found-low : (k : ℕ) → found k ≤ k
   found-low k = omega (arith, first-bound 0 k (λ j. is_like os (class_in (classes_upto os k)) j k))
-
-  abbrev Asks : (ℕ → ℕ) → ℕ → ℕ → Type 0
-  Asks class i j = renumbered_obligation class (obligation_at os i) ≡ renumbered_obligation class (obligation_at os j)
-
-  -- what is found stands for itself, and asks the same
-  found-is : (k : ℕ) → (class_at k (found k) ≡ found k) × Asks (class_at k) (found k) k
-  found-is k = elim (cases_lt (found k) k) as (λ _. (class_at k (found k) ≡ found k) × Asks (class_at k) (found k) k) [
-    | inl l ↦ (let parts = and_parts (class_at k (found k) == found k) (same_obligation (renumbered_obligation (class_at k) (obligation_at os (found k))) (renumbered_obligation (class_at k) (obligation_at os k)))
-        (first-passes 0 k (λ j. is_like os (class_in (classes_upto os k)) j k) (omega arith)) in
-        (same-number (class_at k (found k)) (found k) parts.0, obligation-same (renumbered_obligation (class_at k) (obligation_at os (found k))) (renumbered_obligation (class_at k) (obligation_at os k)) parts.1))
-    | inr l ↦ (let e : found k ≡ k = omega (arith, found-low k) in (class-none k (found k) l, ap (λ i. renumbered_obligation (class_at k) (obligation_at os i)) e))
-  ]
 
   -- the next classes are made of these
   step : ℕ → ℕ → ℕ
@@ -123,7 +115,43 @@ module _ (os : List Obligation) where
   later k g o = ap (λ (f : ℕ → ℕ). renumbered_obligation f o) (fun_ext (next-class k g)) ∙ sym (twice (step k) (class_at k) o)
 
   asks-later : (k : ℕ) → Good k → (i j : ℕ) → Asks (class_at k) i j → Asks (class_at (suc k)) i j
-  asks-later k g i j e = later k g (obligation_at os i) ∙ ap (λ (o : Obligation). renumbered_obligation (step k) o) e ∙ sym (later k g (obligation_at os j))
+  asks-later k g i j e =
+      subst (λ (o : Obligation). IsTrue (same_obligation o (renumbered_obligation (class_at (suc k)) (obligation_at os j)))) (sym (later k g (obligation_at os i)))
+      (subst (λ (o : Obligation). IsTrue (same_obligation (renumbered_obligation (step k) (renumbered_obligation (class_at k) (obligation_at os i))) o)) (sym (later k g (obligation_at os j)))
+      (obligation-renumbered (step k) (renumbered_obligation (class_at k) (obligation_at os i)) (renumbered_obligation (class_at k) (obligation_at os j)) e))
+
+  -- what is found stands for itself, and asks the same by the next classes
+
+  found-supposed : (k n : ℕ) → supposed (class_at k) k (found k) n ≡ class_at (suc k) n
+  found-supposed k n = at (n == k) refl (cases_lt n k)
+    where
+      at : (b : Truth) → (n == k) ≡ b → ((n < k) ⊎ (k ≤ n)) → (if b then found k else class_at k n) ≡ class_at (suc k) n
+      at true e l = sym (ap (λ i. class_at (suc k) i) (same-number n k e) ∙ class-new k)
+      at false e (inl l) = sym (class-before k n l)
+      at false e (inr l) =
+          let m : suc k ≤ n = omega (arith, beside e l) in class-none k n l ∙ sym (class-none (suc k) n m)
+        where
+          beside : (n == k) ≡ false → k ≤ n → suc k ≤ n
+          beside e l = elim (cases_lt k n) [
+            | inl m ↦ omega arith
+            | inr m ↦ absurd (both_ways (n == k) e (eq-eqb n k (omega arith)))
+          ]
+
+  found-like : (k : ℕ) → found k < k → IsTrue (is_like os (class_at k) (found k) k)
+  found-like k l = first-passes 0 k (λ j. is_like os (class_in (classes_upto os k)) j k) (omega arith)
+
+  found-first : (k : ℕ) → found k < k → class_at k (found k) ≡ found k
+  found-first k l = same-number (class_at k (found k)) (found k) (and_parts (class_at k (found k) == found k)
+      (same_obligation (renumbered_obligation (supposed (class_at k) k (found k)) (obligation_at os (found k))) (renumbered_obligation (supposed (class_at k) k (found k)) (obligation_at os k)))
+      (found-like k l)).0
+
+  found-asks : (k : ℕ) → Asks (class_at (suc k)) (found k) k
+  found-asks k = elim (cases_lt (found k) k) as (λ _. Asks (class_at (suc k)) (found k) k) [
+    | inl l ↦ (subst (λ (class : ℕ → ℕ). Asks class (found k) k) (fun_ext (found-supposed k)) (and_parts (class_at k (found k) == found k)
+        (same_obligation (renumbered_obligation (supposed (class_at k) k (found k)) (obligation_at os (found k))) (renumbered_obligation (supposed (class_at k) k (found k)) (obligation_at os k)))
+        (found-like k l)).1)
+    | inr l ↦ (let e : found k ≡ k = omega (arith, found-low k) in subst (λ (i : ℕ). Asks (class_at (suc k)) i k) (sym e) (obligation-self (renumbered_obligation (class_at (suc k)) (obligation_at os k))))
+  ]
 
   good : (k : ℕ) → Good k
   good zero = record { low = λ q l. absurd (omega arith); own = λ q l. absurd (omega arith); asks = λ q l. absurd (omega arith) }
@@ -140,14 +168,14 @@ module _ (os : List Obligation) where
           | inr m ↦ (let e : q ≡ k = omega arith in let h = ap (λ i. class_at (suc k) i) e ∙ class-new k in ap (λ i. class_at (suc k) i) h ∙ found-own (cases_lt (found k) k) ∙ sym h)
         ];
         asks = λ q l. elim (cases_lt q k) [
-          | inl m ↦ ap (λ i. renumbered_obligation (class_at (suc k)) (obligation_at os i)) (class-before k q m) ∙ asks-later k g (class_at k q) q (g.asks q m)
-          | inr m ↦ (let e : q ≡ k = omega arith in ap (λ i. renumbered_obligation (class_at (suc k)) (obligation_at os i)) (ap (λ i. class_at (suc k) i) e ∙ class-new k)
-              ∙ asks-later k g (found k) k (found-is k).1 ∙ ap (λ i. renumbered_obligation (class_at (suc k)) (obligation_at os i)) (sym e))
+          | inl m ↦ subst (λ (i : ℕ). Asks (class_at (suc k)) i q) (sym (class-before k q m)) (asks-later k g (class_at k q) q (g.asks q m))
+          | inr m ↦ (let e : q ≡ k = omega arith in
+              subst (λ (i : ℕ). Asks (class_at (suc k)) (class_at (suc k) i) i) (sym e) (subst (λ (i : ℕ). Asks (class_at (suc k)) i k) (sym (class-new k)) (found-asks k)))
         ];
       }
         where
           found-own : ((found k < k) ⊎ (k ≤ found k)) → class_at (suc k) (found k) ≡ found k
-          found-own (inl m) = class-before k (found k) m ∙ (found-is k).0
+          found-own (inl m) = class-before k (found k) m ∙ found-first k m
           found-own (inr m) = let e : found k ≡ k = omega (arith, found-low k) in ap (λ i. class_at (suc k) i) e ∙ class-new k
 
   pub low-class : (start q : ℕ) → q < start → class_in (classes_upto os start) q ≤ q
@@ -163,7 +191,7 @@ module _ (os : List Obligation) where
       (le-leb (class_at k q) q low)
       (and_from (class_at k (class_at k q) == class_at k q) (same_obligation (renumbered_obligation (class_at k) (obligation_at os (class_at k q))) (renumbered_obligation (class_at k) (obligation_at os q)))
       (eq-eqb (class_at k (class_at k q)) (class_at k q) own)
-      (subst (λ (o : Obligation). IsTrue (same_obligation o (renumbered_obligation (class_at k) (obligation_at os q)))) (sym asks) (obligation-self (renumbered_obligation (class_at k) (obligation_at os q)))))
+      asks)
 
   pub classes-fit : (start : ℕ) → length os ≡ start + 1 → IsTrue (fits (record { start = start; obligations = os }) (class_in (classes_upto os start)))
   classes-fit start last =
@@ -171,7 +199,8 @@ module _ (os : List Obligation) where
       (all-from (length os) (fits_at os (class_at start)) (λ q l. elim (cases_lt q start) [
         | inl m ↦ (let g = good start in fits-from start q (g.low q m) (g.own q m) (g.asks q m))
         | inr m ↦ (let e = class-none start q m in
-            fits-from start q (omega (arith, e)) (ap (λ i. class_at start i) e) (ap (λ i. renumbered_obligation (class_at start) (obligation_at os i)) e))
+            fits-from start q (omega (arith, e)) (ap (λ i. class_at start i) e)
+            (subst (λ (i : ℕ). Asks (class_at start) i q) (sym e) (obligation-self (renumbered_obligation (class_at start) (obligation_at os q)))))
       ]))
 
 -- the duals have the same classes
@@ -184,12 +213,15 @@ first-same n (suc d) f g e =
 
 like-opposite : (os : List Obligation) (class : ℕ → ℕ) (i j : ℕ) → i < length os → j < length os → is_like (map opposite_obligation os) class i j ≡ is_like os class i j
 like-opposite os class i j k l = ap (λ (t : Truth). (class i == i) && t)
-    (ap (λ (o : Obligation). same_obligation o (renumbered_obligation class (obligation_at (map opposite_obligation os) j))) (turned i k)
-    ∙ ap (λ (o : Obligation). same_obligation (opposite_obligation (renumbered_obligation class (obligation_at os i))) o) (turned j l)
-    ∙ obligation-turned (renumbered_obligation class (obligation_at os i)) (renumbered_obligation class (obligation_at os j)))
+    (ap (λ (o : Obligation). same_obligation o (renumbered_obligation new (obligation_at (map opposite_obligation os) j))) (turned i k)
+    ∙ ap (λ (o : Obligation). same_obligation (opposite_obligation (renumbered_obligation new (obligation_at os i))) o) (turned j l)
+    ∙ obligation-turned (renumbered_obligation new (obligation_at os i)) (renumbered_obligation new (obligation_at os j)))
   where
-    turned : (q : ℕ) → q < length os → renumbered_obligation class (obligation_at (map opposite_obligation os) q) ≡ opposite_obligation (renumbered_obligation class (obligation_at os q))
-    turned q h = ap (λ (o : Obligation). renumbered_obligation class o) (at-map opposite_obligation os q h) ∙ one-renumbered class (obligation_at os q)
+    new : ℕ → ℕ
+    new = supposed class j i
+
+    turned : (q : ℕ) → q < length os → renumbered_obligation new (obligation_at (map opposite_obligation os) q) ≡ opposite_obligation (renumbered_obligation new (obligation_at os q))
+    turned q h = ap (λ (o : Obligation). renumbered_obligation new o) (at-map opposite_obligation os q h) ∙ one-renumbered new (obligation_at os q)
 
 classes-opposite : (os : List Obligation) (k : ℕ) → k ≤ length os → classes_upto (map opposite_obligation os) k ≡ classes_upto os k
 classes-opposite os zero l = refl

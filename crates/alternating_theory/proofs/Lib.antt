@@ -9,6 +9,7 @@ pub mod Kept
 pub mod Means
 pub mod Duals
 pub mod LawsHold
+pub mod Literals
 pub mod MergedDuals
 pub mod Merges
 pub mod MetLaws

@@ -8,12 +8,12 @@ use Rattle.psl_tree.specs.declared.letter.Letter.{Letter}
 use Rattle.alternating_theory.specs.Laws.{NamesOf, KeepsValues}
 use Rattle.alternating_theory.specs.Merged.{all_below, fits_at, fits, is_first, joined, merged_by, same_obligation}
 use Rattle.alternating_theory.specs.Obligations.{Obligation, Automaton, obligation_at, value_past, value_of, value_on, IsReached, begun, owed}
-use Rattle.alternating_theory.specs.Positive.{Positive, Const, Holds, Owed, And, Or, owes, OwesWithin, renumbered}
+use Rattle.alternating_theory.specs.Positive.{Positive, Const, Holds, Owed, And, Or, met, owes, OwesWithin, renumbered}
 use Rattle.alternating_theory.specs.Trimmed.{count_below, kept, renumbered_obligation}
 use Rattle.alternating_theory.proofs.Kept.{kept-at, length-kept, count-kept, count-less, kept-origin}
 use Rattle.alternating_theory.proofs.MetLaws.{met-renumbered}
 use Rattle.alternating_theory.proofs.Reached.{same-number, met-owed, owed-within, owes-renumbered, within-owed}
-use Rattle.alternating_theory.proofs.Same.{obligation-same}
+use Rattle.alternating_theory.proofs.Same.{Alike, obligation-alike, obligation-renumbered, positive-met, positive-owes, positive-within}
 use Rattle.alternating_theory.proofs.Settled.{count-at_most}
 use Rattle.alternating_theory.proofs.Values.{at-map}
 
@@ -44,6 +44,11 @@ past-renumbered : (new : ℕ → ℕ) (p : Past) (o : Obligation) → value_past
 past-renumbered new Nothing o = refl
 past-renumbered new Tops o = refl
 past-renumbered new Bottoms o = refl
+
+past-alike : (p : Past) (o other : Obligation) → Alike o other → value_past p o ≡ value_past p other
+past-alike Nothing o other h = h.end
+past-alike Tops o other h = h.top
+past-alike Bottoms o other h = h.bottom
 
 module _ (a : Automaton) (class : ℕ → ℕ) (fit : IsTrue (fits a class)) (names : NamesOf a) where
   abbrev os : List Obligation
@@ -77,9 +82,8 @@ module _ (a : Automaton) (class : ℕ → ℕ) (fit : IsTrue (fits a class)) (na
   class-first : (q : ℕ) → q < length os → IsTrue (first (class q))
   class-first q l = (and_parts (class (class q) == class q) (same_obligation (renumbered_obligation class (obligation_at os (class q))) (renumbered_obligation class (obligation_at os q))) (rest q l)).0
 
-  asks-same : (q : ℕ) → q < length os → renumbered_obligation class (obligation_at os (class q)) ≡ renumbered_obligation class (obligation_at os q)
-  asks-same q l = obligation-same (renumbered_obligation class (obligation_at os (class q))) (renumbered_obligation class (obligation_at os q))
-      (and_parts (class (class q) == class q) (same_obligation (renumbered_obligation class (obligation_at os (class q))) (renumbered_obligation class (obligation_at os q))) (rest q l)).1
+  asks-same : (q : ℕ) → q < length os → IsTrue (same_obligation (renumbered_obligation class (obligation_at os (class q))) (renumbered_obligation class (obligation_at os q)))
+  asks-same q l = (and_parts (class (class q) == class q) (same_obligation (renumbered_obligation class (obligation_at os (class q))) (renumbered_obligation class (obligation_at os q))) (rest q l)).1
 
   pub joined-count : length (joined a class).obligations ≡ count_below (length os) (is_first class)
   joined-count = length-map (kept first os) (λ obligation. renumbered_obligation new_number obligation) ∙ length-kept first os
@@ -87,22 +91,35 @@ module _ (a : Automaton) (class : ℕ → ℕ) (fit : IsTrue (fits a class)) (na
   pub new-below : (q : ℕ) → q < length os → new_number q < length (joined a class).obligations
   new-below q l = omega (arith, joined-count, count-less (class q) (length os) first (omega (arith, low q l)) (class-first q l))
 
-  pub joined-new : (q : ℕ) → q < length os → after (new_number q) ≡ renumbered_obligation new_number (obligation_at os q)
-  joined-new q l =
-      at-map (λ obligation. renumbered_obligation new_number obligation) (kept first os) (new_number q) (omega (arith, new-below q l, joined-count, length-kept first os))
-      ∙ ap (λ (o : Obligation). renumbered_obligation new_number o) (kept-at first os (class q) (omega (arith, low q l)) (class-first q l))
-      ∙ sym (twice (λ n. count_below n first) class (obligation_at os (class q)))
-      ∙ ap (λ (o : Obligation). renumbered_obligation (λ n. count_below n first) o) (asks-same q l)
-      ∙ twice (λ n. count_below n first) class (obligation_at os q)
+  -- the obligation of a new number asks what each of its class asks
+  joined-same : (q : ℕ) → q < length os → IsTrue (same_obligation (after (new_number q)) (renumbered_obligation new_number (obligation_at os q)))
+  joined-same q l =
+      subst (λ (o : Obligation). IsTrue (same_obligation o (renumbered_obligation new_number (obligation_at os q)))) (sym first-new)
+      (subst (λ (o : Obligation). IsTrue (same_obligation (renumbered_obligation (λ n. count_below n first) (renumbered_obligation class (obligation_at os (class q)))) o))
+      (twice (λ n. count_below n first) class (obligation_at os q))
+      (obligation-renumbered (λ n. count_below n first) (renumbered_obligation class (obligation_at os (class q))) (renumbered_obligation class (obligation_at os q)) (asks-same q l)))
+    where
+      first-new : after (new_number q) ≡ renumbered_obligation (λ n. count_below n first) (renumbered_obligation class (obligation_at os (class q)))
+      first-new =
+          at-map (λ obligation. renumbered_obligation new_number obligation) (kept first os) (new_number q) (omega (arith, new-below q l, joined-count, length-kept first os))
+          ∙ ap (λ (o : Obligation). renumbered_obligation new_number o) (kept-at first os (class q) (omega (arith, low q l)) (class-first q l))
+          ∙ sym (twice (λ n. count_below n first) class (obligation_at os (class q)))
+
+  pub joined-new : (q : ℕ) → q < length os → Alike (after (new_number q)) (renumbered_obligation new_number (obligation_at os q))
+  joined-new q l = obligation-alike (after (new_number q)) (renumbered_obligation new_number (obligation_at os q)) (joined-same q l)
+
+  -- it is met where the old one is, by the values of the new numbers
+  pub joined-met : (q : ℕ) → q < length os → (x : Letter) (f : ℕ → Truth) → met (after (new_number q)).delta x f ≡ met (obligation_at os q).delta x (λ r. f (new_number r))
+  joined-met q l x f =
+      positive-met (after (new_number q)).delta (renumbered new_number (obligation_at os q).delta) (joined-new q l).delta x f ∙ met-renumbered new_number (obligation_at os q).delta x f
 
   pub owed-inside : (q r : ℕ) → q < length os → IsTrue (owes (obligation_at os q).delta r) → r < a.start
   owed-inside q r l o = (owed-within 0 a.start (obligation_at os q).delta (names.owed_below q l) r o).1
 
   same-value : (p : Past) (xs : List Letter) (q : ℕ) → q < length os → value_of after p (after (new_number q)) xs ≡ value_of (obligation_at os) p (obligation_at os q) xs
-  same-value p [] q l = ap (λ (o : Obligation). value_past p o) (joined-new q l) ∙ past-renumbered new_number p (obligation_at os q)
+  same-value p [] q l = past-alike p (after (new_number q)) (renumbered_obligation new_number (obligation_at os q)) (joined-new q l) ∙ past-renumbered new_number p (obligation_at os q)
   same-value p (x ∷ xs) q l =
-      ap (λ (o : Obligation). value_of after p o (x ∷ xs)) (joined-new q l)
-      ∙ met-renumbered new_number (obligation_at os q).delta x (λ n. value_of after p (after n) xs)
+      joined-met q l x (λ n. value_of after p (after n) xs)
       ∙ met-owed (obligation_at os q).delta x (λ n. value_of after p (after (new_number n)) xs) (λ n. value_of (obligation_at os) p (obligation_at os n) xs)
       (λ r o. same-value p xs r (omega (arith, owed-inside q r l o, names.start_last)))
 
@@ -133,7 +150,7 @@ module _ (a : Automaton) (class : ℕ → ℕ) (fit : IsTrue (fits a class)) (na
   joined-below q l =
       let j = joined-origin q l in
       subst (λ (n : ℕ). OwesWithin 0 (joined a class).start (after n).delta) (sym j.2)
-      (subst (λ (o : Obligation). OwesWithin 0 (joined a class).start o.delta) (sym (joined-new j.0 j.1))
+      (positive-within 0 (joined a class).start (after (new_number j.0)).delta (renumbered new_number (obligation_at os j.0).delta) (joined-new j.0 j.1).delta
       (within-owed 0 (joined a class).start new_number (obligation_at os j.0).delta
       (λ r o. (let k = owed-inside j.0 r j.1 o in let m : r < length os = omega (arith, k, names.start_last) in
       (omega arith, count-less (class r) a.start first (omega (arith, k, low r m)) (class-first r m))))))
@@ -145,7 +162,8 @@ module _ (a : Automaton) (class : ℕ → ℕ) (fit : IsTrue (fits a class)) (na
   reaches : (q : ℕ) → IsReached a q → IsReached (joined a class) (new_number q)
   reaches q (begun e) = begun (ap new_number e ∙ new-start)
   reaches q (owed by r o) = owed (new_number by) (reaches by r)
-      (subst (λ (k : Obligation). IsTrue (owes k.delta (new_number q))) (sym (joined-new by (reached-below by r))) (owes-renumbered new_number (obligation_at os by).delta q o))
+      (positive-owes (after (new_number by)).delta (renumbered new_number (obligation_at os by).delta) (joined-new by (reached-below by r)).delta (new_number q)
+      ∙ owes-renumbered new_number (obligation_at os by).delta q o)
 
   joined-reached : (q : ℕ) → q < length (joined a class).obligations → IsReached (joined a class) q
   joined-reached q l = let j = joined-origin q l in subst (λ (n : ℕ). IsReached (joined a class) n) (sym j.2) (reaches j.0 (names.all_reached j.0 j.1))

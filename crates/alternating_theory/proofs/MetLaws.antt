@@ -1,5 +1,5 @@
 -- Laws of what meets a positive combination.
-use Rattle.std.proofs.Common.{◌≡◌, refl, sym, ℕ, ◌≤◌, ◌<◌, Bool as Truth, true, false, arith, inl, inr}
+use Rattle.std.proofs.Common.{◌≡◌, refl, sym, ◌∙◌, ℕ, ◌≤◌, ◌<◌, Bool as Truth, true, false, arith, inl, inr}
 use Rattle.std.specs.Prelude.{IsTrue, not, ◌&&◌, ◌||◌}
 use Rattle.std.proofs.lemmas.Bool.{or_cases, or_left, or_right, and_parts, and_from}
 use Rattle.psl_meaning.specs.Trace.{dual_letter}
@@ -9,6 +9,7 @@ use Rattle.psl_tree.specs.Trees.{Boolean}
 use Rattle.psl_tree.specs.declared.letter.Letter.{Letter}
 use Rattle.psl_tree.specs.declared.letter.Letter.TheVariants.{Top, Bottom, Holds as Atoms}
 use Rattle.alternating_theory.specs.Positive.{Positive, Const, Holds, Owed, And, Or, met, OwesWithin, renumbered, opposite}
+use Rattle.alternating_theory.proofs.Literals.{holds-negated}
 
 -- only the values of what is owed count
 pub met-same : (low high : ℕ) (p : Positive) → OwesWithin low high p → (x : Letter) (f g : ℕ → Truth) → ((q : ℕ) → low ≤ q → q < high → f q ≡ g q)
@@ -75,7 +76,7 @@ not-or false b = refl
 
 pub met-opposite : (p : Positive) (x : Letter) (f : ℕ → Truth) → met (opposite p) x f ≡ not (met p (dual_letter x) (λ q. not (f q)))
 met-opposite (Const v) x f = refl
-met-opposite (Holds b) x f = holds-not x b
+met-opposite (Holds b) x f = holds-negated x b ∙ holds-not x b
 met-opposite (Owed q) x f = sym (not-twice (f q))
 met-opposite (And p r) x f =
     let a = met-opposite p x f in let b = met-opposite r x f in

@@ -3,6 +3,7 @@ pub mod Construction
 pub mod Dual
 pub mod Going
 pub mod Laws
+pub mod Literals
 pub mod Merged
 pub mod Obligations
 pub mod Positive

@@ -5,6 +5,7 @@ use Rattle.std.specs.Prelude.{Bool as Truth, true, false, not, ◌&&◌, ◌==�
 use Rattle.psl_tree.specs.Holds.{is_same_atom}
 use Rattle.psl_tree.specs.Trees as trees
 use Rattle.psl_tree.specs.Trees.{Boolean}
+use Rattle.alternating_theory.specs.Literals.{is_unnegated, core}
 use Rattle.alternating_theory.specs.Obligations.{Obligation, Automaton, obligation_at}
 use Rattle.alternating_theory.specs.Positive.{Positive, Const, Holds, Owed, And, Or}
 use Rattle.alternating_theory.specs.Trimmed.{count_below, kept, renumbered_obligation}
@@ -22,10 +23,14 @@ same_boolean (trees.And left right) (trees.And first second) = same_boolean left
 same_boolean (trees.Or left right) (trees.Or first second) = same_boolean left first && same_boolean right second
 same_boolean _ _ = false
 
--- two combinations are one tree
+-- two Booleans are one tree, but for pairs of Nots at their heads
+abbrev pub same_literal : Boolean → Boolean → Truth
+same_literal first second = same_truth (is_unnegated first) (is_unnegated second) && same_boolean (core first) (core second)
+
+-- two combinations are one tree, but for pairs of Nots at the heads of their Booleans
 abbrev pub same_positive : Positive → Positive → Truth
 same_positive (Const value) (Const other) = same_truth value other
-same_positive (Holds test) (Holds other) = same_boolean test other
+same_positive (Holds test) (Holds other) = same_literal test other
 same_positive (Owed number) (Owed other) = number == other
 same_positive (And left right) (And first second) = same_positive right second && same_positive left first
 same_positive (Or left right) (Or first second) = same_positive right second && same_positive left first
@@ -78,14 +83,20 @@ abbrev pub first_from : ℕ → ℕ → (ℕ → Truth) → ℕ
 first_from number zero test = number
 first_from number (suc count) test = if test number then number else first_from (suc number) count test
 
--- the obligation of a number is the first of its class, and asks what that of another number asks, up to classes
+-- the classes, if a number had this one
+abbrev pub supposed : (ℕ → ℕ) → ℕ → ℕ → ℕ → ℕ
+supposed class number first other = if other == number then first else class other
+
+-- the obligation of a number is the first of its class, and that of a later number asks the same, up to
+-- classes, if it is of that class: what an obligation owes of itself counts as the same
 abbrev pub is_like : List Obligation → (ℕ → ℕ) → ℕ → ℕ → Truth
-is_like obligations class number other =
-    (class number == number)
-    && same_obligation (renumbered_obligation class (obligation_at obligations number)) (renumbered_obligation class (obligation_at obligations other))
+is_like obligations class first number =
+    (class first == first)
+    && same_obligation (renumbered_obligation (supposed class number first) (obligation_at obligations first))
+        (renumbered_obligation (supposed class number first) (obligation_at obligations number))
 
 -- the classes of so many obligations: each becomes one with the first before it that asks the same, once
--- those before it have become one
+-- those before it have become one and these two are supposed to be one
 abbrev pub classes_upto : List Obligation → ℕ → List ℕ
 classes_upto obligations zero = []
 classes_upto obligations (suc count) =

@@ -1,9 +1,9 @@
 -- Positive combinations: what an obligation asks of a letter and of the obligations at the next place.
 use Rattle.std.specs.Prelude.{Bool as Truth, false, not, ◌&&◌, ◌||◌, ◌==◌, ◌≤◌, ◌<◌, ℕ}
 use Rattle.psl_tree.specs.Holds.{holds}
-use Rattle.psl_tree.specs.Trees as trees
 use Rattle.psl_tree.specs.Trees.{Boolean}
 use Rattle.psl_tree.specs.declared.letter.Letter.{Letter}
+use Rattle.alternating_theory.specs.Literals.{negated}
 
 -- a constant, a Boolean on the letter, an obligation at the next place by its number, or two
 -- combinations of which both or one must be met
@@ -49,7 +49,7 @@ renumbered new (Or left right) = Or (renumbered new left) (renumbered new right)
 -- the dual: "and" and "or" change places, and constants and Booleans are negated
 abbrev pub opposite : Positive → Positive
 opposite (Const value) = Const (not value)
-opposite (Holds test) = Holds (trees.Not test)
+opposite (Holds test) = Holds (negated test)
 opposite (Owed number) = Owed number
 opposite (And left right) = Or (opposite left) (opposite right)
 opposite (Or left right) = And (opposite left) (opposite right)
