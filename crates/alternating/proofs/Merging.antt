@@ -1,20 +1,23 @@
 -- The loops that find classes, and the merged automaton.
 use Rattle.std.proofs.Common.{◌≡◌, inl, inr, refl, sym, ap, ◌∙◌, subst, ℕ, zero, suc, ◌+◌, ◌-◌, ◌^◌, ◌≤◌, ◌<◌, Bool as Truth, true, false, if◌then◌else◌, List, [], ◌∷◌, ◌++◌, map, length, get_or, slice_index, arith}
-use Rattle.std.specs.Prelude.{◌&&◌}
-use Rattle.std.proofs.lemmas.Bool.{cases_lt, eq-eqb}
+use Rattle.std.specs.Prelude.{IsTrue, ◌&&◌, ◌==◌}
+use Rattle.std.proofs.lemmas.Bool.{both_ways, and_parts, cases_lt, eq-eqb}
 use Rattle.std.proofs.lemmas.List.{length-map, get_or_default}
 use Rattle.sere_nfa.specs.Marking.{is_marked}
 use Rattle.alternating_theory.specs.Laws.{NamesOf}
-use Rattle.alternating_theory.specs.Merged.{class_in, first_from, is_like, is_first, classes_upto, joined, merged, same_obligation}
+use Rattle.alternating_theory.specs.Merged.{class_in, first_from, supposed, is_like, is_first, classes_upto, joined, merged, same_positive, same_obligation}
 use Rattle.alternating_theory.specs.Obligations.{Obligation, Automaton, obligation_at}
+use Rattle.alternating_theory.specs.Positive.{Positive, Const, Holds, Owed, And, Or, renumbered}
 use Rattle.alternating_theory.specs.Trimmed.{count_below, kept, renumbered_obligation}
 use Rattle.alternating_theory.proofs.Classes.{classes-long, class-left, class-last, class-past, pass_fits, low-class}
 use Rattle.alternating_theory.proofs.MetLaws.{within-wider}
 use Rattle.alternating_theory.proofs.Merges.{merging_keeps}
+use Rattle.alternating_theory.proofs.Same.{obligation-alike}
 use Rattle.alternating.proofs.Shown.{shown-obligation}
 use Rattle.alternating.proofs.Trims.{count-same, kept-same, renamed-same, at-within}
 use Rattle.alternating.specs.Classes.{Firsts, ClassNames}
 use Rattle.alternating.specs.Search.{Names}
+use Rattle.alternating.specs.Sizes.{size, delta_sizes}
 use Rattle.alternating.specs.Views.{obligation_of, obligations_of_code, ObligationsWithin}
 use Rattle.alternating.specs.declared.obligation.Obligation as code_obligation
 
@@ -31,8 +34,57 @@ like-shown os class i j first second l m e f t g =
     ∙ ap (λ (o : Obligation). same_obligation (renumbered_obligation class (obligation_at (obligations_of_code os) i)) (renumbered_obligation class o)) b
 
 pub like-true : (os : List Obligation) (class : ℕ → ℕ) (i j : ℕ) (t : Truth) → class i ≡ i
-    → t ≡ same_obligation (renumbered_obligation class (obligation_at os i)) (renumbered_obligation class (obligation_at os j)) → t ≡ is_like os class i j
-like-true os class i j t e g = g ∙ sym (ap (λ (b : Truth). b && same_obligation (renumbered_obligation class (obligation_at os i)) (renumbered_obligation class (obligation_at os j))) (eq-eqb (class i) i e))
+    → t ≡ same_obligation (renumbered_obligation (supposed class j i) (obligation_at os i)) (renumbered_obligation (supposed class j i) (obligation_at os j)) → t ≡ is_like os class i j
+like-true os class i j t e g =
+    g ∙ sym (ap (λ (b : Truth). b && same_obligation (renumbered_obligation (supposed class j i) (obligation_at os i)) (renumbered_obligation (supposed class j i) (obligation_at os j))) (eq-eqb (class i) i e))
+
+-- obligations that ask the same have deltas of one size
+
+size-renumbered : (new : ℕ → ℕ) (p : Positive) → size (renumbered new p) ≡ size p
+size-renumbered new (Const v) = refl
+size-renumbered new (Holds b) = refl
+size-renumbered new (Owed n) = refl
+size-renumbered new (And p r) = let a = size-renumbered new p in let b = size-renumbered new r in cc
+size-renumbered new (Or p r) = let a = size-renumbered new p in let b = size-renumbered new r in cc
+
+size-same : (p r : Positive) → IsTrue (same_positive p r) → size p ≡ size r
+size-same (Const v) (Const w) h = refl
+size-same (Holds b) (Holds d) h = refl
+size-same (Owed m) (Owed n) h = refl
+size-same (And p q) (And r s) h =
+    let parts = and_parts (same_positive q s) (same_positive p r) h in let a = size-same p r parts.1 in let b = size-same q s parts.0 in cc
+size-same (Or p q) (Or r s) h =
+    let parts = and_parts (same_positive q s) (same_positive p r) h in let a = size-same p r parts.1 in let b = size-same q s parts.0 in cc
+size-same _ _ h = absurd (both_ways false refl h)
+
+size-at : (os : List Obligation) (i : ℕ) → i < length os → get_or (delta_sizes os) i 0 ≡ size (obligation_at os i).delta
+size-at [] i l = absurd (omega arith)
+size-at (o ∷ os) zero l = refl
+size-at (o ∷ os) (suc i) l = size-at os i (omega arith)
+
+like-sizes : (os : List Obligation) (class : ℕ → ℕ) (i j : ℕ) → IsTrue (is_like os class i j) → size (obligation_at os i).delta ≡ size (obligation_at os j).delta
+like-sizes os class i j h =
+    let new = supposed class j i in
+    let same = (and_parts (class i == i) (same_obligation (renumbered_obligation new (obligation_at os i)) (renumbered_obligation new (obligation_at os j))) h).1 in
+    let alike = obligation-alike (renumbered_obligation new (obligation_at os i)) (renumbered_obligation new (obligation_at os j)) same in
+    sym (size-renumbered new (obligation_at os i).delta)
+    ∙ size-same (renumbered new (obligation_at os i).delta) (renumbered new (obligation_at os j).delta) alike.delta
+    ∙ size-renumbered new (obligation_at os j).delta
+
+-- so those of other sizes do not
+pub unlike : (os : List code_obligation.Obligation) (sizes : List ℕ) (class : ℕ → ℕ) (i j : ℕ) → sizes ≡ delta_sizes (obligations_of_code os) → i < length os → j < length os
+    → (get_or sizes i 0 ≡ get_or sizes j 0 → ⊥) → false ≡ is_like (obligations_of_code os) class i j
+unlike os sizes class i j e l m other = at (is_like (obligations_of_code os) class i j) refl
+  where
+    many : length (obligations_of_code os) ≡ length os
+    many = length-map os obligation_of
+
+    size-is : (k : ℕ) → k < length os → get_or sizes k 0 ≡ size (obligation_at (obligations_of_code os) k).delta
+    size-is k h = ap (λ (s : List ℕ). get_or s k 0) e ∙ size-at (obligations_of_code os) k (omega (arith, h, many))
+
+    at : (t : Truth) → is_like (obligations_of_code os) class i j ≡ t → false ≡ t
+    at false h = refl
+    at true h = absurd (other (size-is i l ∙ like-sizes (obligations_of_code os) class i j h ∙ sym (size-is j m)))
 
 -- the first number that passes a test
 

@@ -8,6 +8,7 @@ use Rattle.psl_tree.specs.declared.atom.Atom.{Atom}
 use Rattle.sere_nfa.specs.Acceptance.{Edge, State, state_at}
 use Rattle.sere_nfa.specs.Construction as sequences
 use Rattle.sere_nfa.specs.Construction.{Draft, either_of, both_of, joined, narrowed, narrowed_by, fused, edge_pair, edge_pairs, state_pair, state_pairs, again, star_part, is_repetition, nfa_of}
+use Rattle.alternating_theory.specs.Literals.{is_unnegated, bare, negated}
 use Rattle.alternating_theory.specs.Construction.{Part, part_of, opposite_obligation, with_letter, until_obligation, cut_obligation, taken, going, quiet, prefix_obligation, suffix_obligation}
 use Rattle.alternating_theory.specs.Going.{edges_of_all, entry, goes_on}
 use Rattle.alternating_theory.specs.Obligations.{Obligation, Automaton}
@@ -195,9 +196,23 @@ module _ (P : Atom → Type 0) where
       let u = quiet-has ss es t.1 in
       if-positive (state_at ss e.target).is_final (And (Holds (trees.Not e.label)) others) others (t.0, u) u
 
+  bare-has : (b : Boolean) → AtomsOfBoolean P b → AtomsOfBoolean P (bare b)
+  bare-has (trees.Const v) t = t
+  bare-has (trees.Test a) t = t
+  bare-has (trees.Not b) t = bare-has b t
+  bare-has (trees.And b c) t = t
+  bare-has (trees.Or b c) t = t
+
+  negated-has : (b : Boolean) → AtomsOfBoolean P b → AtomsOfBoolean P (negated b)
+  negated-has b t = at (is_unnegated b)
+    where
+      at : (u : Truth) → AtomsOfBoolean P (if u then trees.Not (bare b) else bare b)
+      at true = bare-has b t
+      at false = bare-has b t
+
   opposite-has : (p : Positive) → AtomsOfPositive P p → AtomsOfPositive P (opposite p)
   opposite-has (Const v) t = tt
-  opposite-has (Holds b) t = t
+  opposite-has (Holds b) t = negated-has b t
   opposite-has (Owed q) t = tt
   opposite-has (And p r) t = (opposite-has p t.0, opposite-has r t.1)
   opposite-has (Or p r) t = (opposite-has p t.0, opposite-has r t.1)

@@ -7,7 +7,9 @@ pub mod Limits
 pub mod Negations
 pub mod Packed
 pub mod Search
+pub mod Sizes
 pub mod Stages
 pub mod Stepped
+pub mod Supposed
 pub mod TruthsView
 pub mod Views

@@ -9,6 +9,7 @@ mod build;
 mod dual;
 mod laws;
 mod letter;
+mod literal;
 mod marking;
 mod merge;
 mod obligation;

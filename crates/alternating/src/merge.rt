@@ -1,11 +1,14 @@
 ghost use Rattle.std.specs.Prelude.{◌≡◌, ◌≤◌, ◌<◌, ◌+◌, ◌^◌, ℕ, length, slice_index, IfOk};
 ghost use Rattle.psl_tree.specs.Trees.{boolean_of};
-ghost use Rattle.alternating_theory.specs.Merged.{same_truth, same_boolean, same_positive, same_obligation, class_in, first_from, is_like, classes_upto};
+ghost use Rattle.alternating_theory.specs.Merged.{same_truth, same_boolean, same_literal, same_positive, same_obligation, class_in, first_from, is_like, classes_upto};
 ghost use Rattle.alternating_theory.specs.Positive.{renumbered};
 ghost use Rattle.alternating_theory.specs.Trimmed.{renumbered_obligation};
 ghost use Rattle.alternating.specs.Classes.{Firsts, ClassNames};
+ghost use Rattle.alternating.specs.Sizes.{delta_sizes};
+ghost use Rattle.alternating.specs.Supposed.{class_of};
 ghost use Rattle.alternating.specs.Views.{positive_of, obligation_of, obligations_of_code};
 
+use crate::literal::{bare, is_unnegated};
 use crate::obligation::Obligation;
 use crate::positive::Positive;
 use psl_base::NoMemory;
@@ -13,7 +16,8 @@ use psl_tree::{Bool, same_atom};
 use std::alloc::Global;
 
 /// The classes of so many obligations in one pass: each becomes one with the first before it that asks
-/// the same, once those before it have become one. A class is the number of its first obligation.
+/// the same, once those before it have become one and these two are supposed to be one. A class is the
+/// number of its first obligation.
 pub(crate) fn classes_of(
     alloc: Global,
     obligations: &[Obligation],
@@ -22,38 +26,82 @@ pub(crate) fn classes_of(
     requires { count ≤ length obligations.now }
     ensures { IfOk result (λ classes. classes.items ≡ classes_upto (obligations_of_code obligations.now) count) }
 {
+    let sizes = sizes_of(alloc, obligations)?;
     let mut classes = Vec::new(alloc);
     for number in 0..count {
-        let class = first_like(obligations, classes.as_slice(), number);
-        classes.push(class).map_err(|_| NoMemory)?;
+        let known = Known {
+            obligations,
+            sizes: sizes.as_slice(),
+            classes: classes.as_slice(),
+        };
+        let class = known.first_like(number);
+        classes.push(class)?;
     }
     Ok(classes)
 }
 
-// The first obligation that asks what this one asks, up to the classes of those before it.
-fn first_like(obligations: &[Obligation], classes: &[u32], number: u32) -> u32
-    requires number { number < length obligations.now }
-    requires classes { length classes.now ≡ number }
-    ensures { result ≡ first_from 0 number (λ earlier. is_like (obligations_of_code obligations.now) (class_in classes.now) earlier number) }
+// The size of each obligation's delta.
+fn sizes_of(alloc: Global, obligations: &[Obligation]) -> Result<Vec<u32>, NoMemory>
+    ensures { IfOk result (λ sizes. sizes.items ≡ delta_sizes (obligations_of_code obligations.now)) }
 {
-    for earlier in 0..number {
-        if is_like(obligations, classes, earlier, number) {
-            return earlier;
-        }
+    let mut sizes = Vec::new(alloc);
+    for obligation in obligations {
+        sizes.push(obligation.delta.size())?;
     }
-    number
+    Ok(sizes)
 }
 
-// Whether an earlier obligation is the first of its class and asks what this one asks.
-fn is_like(obligations: &[Obligation], classes: &[u32], earlier: u32, number: u32) -> bool
-    requires number { number < length obligations.now }
-    requires classes { length classes.now ≡ number }
-    requires earlier { earlier < number }
-    ensures { result ≡ is_like (obligations_of_code obligations.now) (class_in classes.now) earlier number }
-{
-    let first = &obligations[earlier as usize];
-    let second = &obligations[number as usize];
-    class_of(classes, earlier) == earlier && same_obligation(first, second, classes)
+/// What the pass knows: the obligations, the sizes of their deltas, and the classes of the first ones.
+#[derive(Clone, Copy)]
+struct Known<'a> {
+    obligations: &'a [Obligation],
+    sizes: &'a [u32],
+    classes: &'a [u32],
+}
+
+impl Known<'_> {
+    // The first obligation that asks what this one asks, up to the classes of those before it.
+    fn first_like(&self, number: u32) -> u32
+        requires number { number < length self.now.obligations.now }
+        requires sizes { self.now.sizes.now ≡ delta_sizes (obligations_of_code self.now.obligations.now) }
+        requires classes { length self.now.classes.now ≡ number }
+        ensures { result ≡ first_from 0 number (λ earlier. is_like (obligations_of_code self.now.obligations.now) (class_in self.now.classes.now) earlier number) }
+    {
+        for earlier in 0..number {
+            if self.is_like(earlier, number) {
+                return earlier;
+            }
+        }
+        number
+    }
+
+    // Whether an earlier obligation is the first of its class, and the other asks what it asks if they
+    // are one. Obligations of different sizes do not, so the trees of few are compared.
+    fn is_like(&self, earlier: u32, number: u32) -> bool
+        requires number { number < length self.now.obligations.now }
+        requires sizes { self.now.sizes.now ≡ delta_sizes (obligations_of_code self.now.obligations.now) }
+        requires classes { length self.now.classes.now ≡ number }
+        requires earlier { earlier < number }
+        ensures { result ≡ is_like (obligations_of_code self.now.obligations.now) (class_in self.now.classes.now) earlier number }
+    {
+        self.sizes[earlier as usize] == self.sizes[number as usize] && self.asks_same(earlier, number)
+    }
+
+    fn asks_same(&self, earlier: u32, number: u32) -> bool
+        requires number { number < length self.now.obligations.now }
+        requires classes { length self.now.classes.now ≡ number }
+        requires earlier { earlier < number }
+        ensures { result ≡ is_like (obligations_of_code self.now.obligations.now) (class_in self.now.classes.now) earlier number }
+    {
+        let first = &self.obligations[earlier as usize];
+        let second = &self.obligations[number as usize];
+        let supposed = Supposed {
+            classes: self.classes,
+            number,
+            class: earlier,
+        };
+        class_of(self.classes, earlier) == earlier && same_obligation(first, second, &supposed)
+    }
 }
 
 /// The class of an obligation, which is its own where none is known yet.
@@ -67,6 +115,27 @@ fn class_of(classes: &[u32], number: u32) -> u32
     }
 }
 
+/// The classes of the first obligations, and the one that a later obligation is supposed to have.
+#[derive(Clone, Copy)]
+struct Supposed<'a> {
+    classes: &'a [u32],
+    number: u32,
+    class: u32,
+}
+
+impl Supposed<'_> {
+    // The class of an obligation.
+    fn class_of(&self, number: u32) -> u32
+        ensures { result ≡ class_of self.now number }
+    {
+        if number == self.number {
+            self.class
+        } else {
+            class_of(self.classes, number)
+        }
+    }
+}
+
 fn same_truth(left: bool, right: bool) -> bool
     ensures { result ≡ same_truth left right }
 {
@@ -74,8 +143,8 @@ fn same_truth(left: bool, right: bool) -> bool
 }
 
 // What is told apart soonest goes first: the values, and of combinations the right parts.
-fn same_obligation(left: &Obligation, right: &Obligation, classes: &[u32]) -> bool
-    ensures { result ≡ same_obligation (renumbered_obligation (λ number. class_in classes.now number) (obligation_of left.now)) (renumbered_obligation (λ number. class_in classes.now number) (obligation_of right.now)) }
+fn same_obligation(left: &Obligation, right: &Obligation, classes: &Supposed) -> bool
+    ensures { result ≡ same_obligation (renumbered_obligation (class_of classes.now) (obligation_of left.now)) (renumbered_obligation (class_of classes.now) (obligation_of right.now)) }
 {
     same_truth(left.accepting, right.accepting)
         && (same_truth(left.end, right.end)
@@ -84,8 +153,8 @@ fn same_obligation(left: &Obligation, right: &Obligation, classes: &[u32]) -> bo
                     && same_positive(&left.delta, &right.delta, classes))))
 }
 
-fn same_positive(left: &Positive, right: &Positive, classes: &[u32]) -> bool
-    ensures { result ≡ same_positive (renumbered (λ number. class_in classes.now number) (positive_of left.now)) (renumbered (λ number. class_in classes.now number) (positive_of right.now)) }
+fn same_positive(left: &Positive, right: &Positive, classes: &Supposed) -> bool
+    ensures { result ≡ same_positive (renumbered (class_of classes.now) (positive_of left.now)) (renumbered (class_of classes.now) (positive_of right.now)) }
 {
     match left {
         Positive::Const(value) => match right {
@@ -95,13 +164,13 @@ fn same_positive(left: &Positive, right: &Positive, classes: &[u32]) -> bool
             }
         },
         Positive::Holds(test) => match right {
-            Positive::Holds(other) => same_boolean(test, other),
+            Positive::Holds(other) => same_literal(test, other),
             Positive::Const(_) | Positive::Owed(_) | Positive::And(_, _) | Positive::Or(_, _) => {
                 false
             }
         },
         Positive::Owed(number) => match right {
-            Positive::Owed(other) => class_of(classes, *number) == class_of(classes, *other),
+            Positive::Owed(other) => classes.class_of(*number) == classes.class_of(*other),
             Positive::Const(_) | Positive::Holds(_) | Positive::And(_, _) | Positive::Or(_, _) => {
                 false
             }
@@ -123,6 +192,12 @@ fn same_positive(left: &Positive, right: &Positive, classes: &[u32]) -> bool
             }
         },
     }
+}
+
+fn same_literal(left: &Bool, right: &Bool) -> bool
+    ensures { result ≡ same_literal (boolean_of left.now) (boolean_of right.now) }
+{
+    same_truth(is_unnegated(left), is_unnegated(right)) && same_boolean(bare(left), bare(right))
 }
 
 fn same_boolean(left: &Bool, right: &Bool) -> bool
@@ -163,9 +238,9 @@ pub(crate) fn firsts(alloc: Global, classes: &[u32]) -> Result<Vec<bool>, NoMemo
 {
     let mut marks = Vec::new(alloc);
     for (number, class) in classes.iter().enumerate() {
-        marks.push(*class == number as u32).map_err(|_| NoMemory)?;
+        marks.push(*class == number as u32)?;
     }
-    marks.push(true).map_err(|_| NoMemory)?;
+    marks.push(true)?;
     Ok(marks)
 }
 
@@ -181,8 +256,8 @@ pub(crate) fn class_names(
 {
     let mut new = Vec::new(alloc);
     for class in classes {
-        new.push(names[*class as usize]).map_err(|_| NoMemory)?;
+        new.push(names[*class as usize])?;
     }
-    new.push(names[classes.len()]).map_err(|_| NoMemory)?;
+    new.push(names[classes.len()])?;
     Ok(new)
 }

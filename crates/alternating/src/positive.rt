@@ -1,10 +1,12 @@
 ghost use Rattle.std.specs.Prelude.{◌≡◌, ◌+◌, ◌-◌, ◌*◌, ◌^◌, ◌≤◌, length, slice_index, IfOk};
 ghost use Rattle.alternating_theory.specs.Positive.{OwesWithin, And, Or, met, opposite, renumbered};
 ghost use Rattle.alternating.specs.Packed.{letter_of};
+ghost use Rattle.alternating.specs.Sizes.{size};
 ghost use Rattle.alternating.specs.Stepped.{value_at};
 ghost use Rattle.alternating.specs.Views.{positive_of};
 
 use crate::letter::holds;
+use crate::literal::negated;
 use crate::truths::Truths;
 use psl_base::{NoMemory, boxed};
 use psl_tree::{Atom, Bool};
@@ -58,16 +60,25 @@ impl Positive {
     {
         match self {
             Positive::Const(value) => Ok(Positive::Const(!*value)),
-            Positive::Holds(test) => Ok(Positive::Holds(Bool::Not(boxed(
-                alloc,
-                test.copy(alloc)?,
-            )?))),
+            Positive::Holds(test) => Ok(Positive::Holds(negated(alloc, test)?)),
             Positive::Owed(number) => Ok(Positive::Owed(*number)),
             Positive::And(left, right) => {
                 one_of(alloc, left.opposite(alloc)?, right.opposite(alloc)?)
             }
             Positive::Or(left, right) => {
                 all_of(alloc, left.opposite(alloc)?, right.opposite(alloc)?)
+            }
+        }
+    }
+
+    /// How many constructors there are, up to multiples of 2^32.
+    pub(crate) fn size(&self) -> u32
+        ensures { result ≡ size (positive_of self.now) }
+    {
+        match self {
+            Positive::Const(_) | Positive::Holds(_) | Positive::Owed(_) => 1,
+            Positive::And(left, right) | Positive::Or(left, right) => {
+                left.size().wrapping_add(right.size()).wrapping_add(1)
             }
         }
     }

@@ -10,12 +10,12 @@ use Rattle.psl_tree.specs.declared.atom.Edge.{Edge}
 use Rattle.psl_tree.specs.declared.atom.Edge.TheVariants.{Value, Rise, Fall}
 use Rattle.psl_tree.specs.declared.letter.Letter.{Letter}
 use Rattle.alternating_theory.specs.Construction.{opposite_obligation}
-use Rattle.alternating_theory.specs.Literals.{is_unnegated, core, negated}
+use Rattle.alternating_theory.specs.Literals.{is_unnegated, bare, negated}
 use Rattle.alternating_theory.specs.Merged.{same_truth, same_boolean, same_literal, same_positive, same_obligation}
 use Rattle.alternating_theory.specs.Obligations.{Obligation}
 use Rattle.alternating_theory.specs.Positive.{Positive, Const, Holds, Owed, And, Or, met, owes, OwesWithin, renumbered, opposite}
 use Rattle.alternating_theory.specs.Trimmed.{renumbered_obligation}
-use Rattle.alternating_theory.proofs.Literals.{unnegated-negated, core-negated, holds-literal}
+use Rattle.alternating_theory.proofs.Literals.{unnegated-negated, bare-negated, holds-literal}
 use Rattle.alternating_theory.proofs.Reached.{same-number}
 
 pub truth-same : (v w : Truth) → IsTrue (same_truth v w) → v ≡ w
@@ -60,8 +60,8 @@ boolean-same _ _ h = absurd (both_ways false refl h)
 -- two literals that are the same have the same values
 literal-holds : (x : Letter) (b d : Boolean) → IsTrue (same_literal b d) → holds x b ≡ holds x d
 literal-holds x b d h =
-    let parts = and_parts (same_truth (is_unnegated b) (is_unnegated d)) (same_boolean (core b) (core d)) h in
-    holds-literal x b d (truth-same (is_unnegated b) (is_unnegated d) parts.0) (boolean-same (core b) (core d) parts.1)
+    let parts = and_parts (same_truth (is_unnegated b) (is_unnegated d)) (same_boolean (bare b) (bare d)) h in
+    holds-literal x b d (truth-same (is_unnegated b) (is_unnegated d) parts.0) (boolean-same (bare b) (bare d) parts.1)
 
 -- what the test says of combinations: they are met alike, owe the same, and stay the same with other numbers
 
@@ -161,7 +161,7 @@ boolean-self (trees.Or b c) = and_from (same_boolean b b) (same_boolean c c) (bo
 
 positive-self : (p : Positive) → IsTrue (same_positive p p)
 positive-self (Const v) = truth-self v
-positive-self (Holds b) = and_from (same_truth (is_unnegated b) (is_unnegated b)) (same_boolean (core b) (core b)) (truth-self (is_unnegated b)) (boolean-self (core b))
+positive-self (Holds b) = and_from (same_truth (is_unnegated b) (is_unnegated b)) (same_boolean (bare b) (bare b)) (truth-self (is_unnegated b)) (boolean-self (bare b))
 positive-self (Owed n) = eq-eqb n n refl
 positive-self (And p q) = and_from (same_positive q q) (same_positive p p) (positive-self q) (positive-self p)
 positive-self (Or p q) = and_from (same_positive q q) (same_positive p p) (positive-self q) (positive-self p)
@@ -183,11 +183,11 @@ truth-turned false false = refl
 
 literal-turned : (b d : Boolean) → same_literal (negated b) (negated d) ≡ same_literal b d
 literal-turned b d =
-    ap (λ (c : Boolean). same_truth (is_unnegated (negated b)) (is_unnegated (negated d)) && same_boolean c (core (negated d))) (core-negated b)
-    ∙ ap (λ (c : Boolean). same_truth (is_unnegated (negated b)) (is_unnegated (negated d)) && same_boolean (core b) c) (core-negated d)
-    ∙ ap (λ (t : Truth). same_truth t (is_unnegated (negated d)) && same_boolean (core b) (core d)) (unnegated-negated b)
-    ∙ ap (λ (t : Truth). same_truth (not (is_unnegated b)) t && same_boolean (core b) (core d)) (unnegated-negated d)
-    ∙ ap (λ (t : Truth). t && same_boolean (core b) (core d)) (truth-turned (is_unnegated b) (is_unnegated d))
+    ap (λ (c : Boolean). same_truth (is_unnegated (negated b)) (is_unnegated (negated d)) && same_boolean c (bare (negated d))) (bare-negated b)
+    ∙ ap (λ (c : Boolean). same_truth (is_unnegated (negated b)) (is_unnegated (negated d)) && same_boolean (bare b) c) (bare-negated d)
+    ∙ ap (λ (t : Truth). same_truth t (is_unnegated (negated d)) && same_boolean (bare b) (bare d)) (unnegated-negated b)
+    ∙ ap (λ (t : Truth). same_truth (not (is_unnegated b)) t && same_boolean (bare b) (bare d)) (unnegated-negated d)
+    ∙ ap (λ (t : Truth). t && same_boolean (bare b) (bare d)) (truth-turned (is_unnegated b) (is_unnegated d))
 
 positive-turned : (p r : Positive) → same_positive (opposite p) (opposite r) ≡ same_positive p r
 positive-turned (Const v) (Const w) = truth-turned v w

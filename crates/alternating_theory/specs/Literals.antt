@@ -8,10 +8,10 @@ is_unnegated (Not part) = not (is_unnegated part)
 is_unnegated _ = true
 
 -- what stands behind the Nots at the head
-abbrev pub core : Boolean → Boolean
-core (Not part) = core part
-core test = test
+abbrev pub bare : Boolean → Boolean
+bare (Not part) = bare part
+bare test = test
 
 -- the negation, with at most one Not at its head
 abbrev pub negated : Boolean → Boolean
-negated test = if is_unnegated test then Not (core test) else core test
+negated test = if is_unnegated test then Not (bare test) else bare test

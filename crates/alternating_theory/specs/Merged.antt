@@ -5,7 +5,7 @@ use Rattle.std.specs.Prelude.{Bool as Truth, true, false, not, ◌&&◌, ◌==�
 use Rattle.psl_tree.specs.Holds.{is_same_atom}
 use Rattle.psl_tree.specs.Trees as trees
 use Rattle.psl_tree.specs.Trees.{Boolean}
-use Rattle.alternating_theory.specs.Literals.{is_unnegated, core}
+use Rattle.alternating_theory.specs.Literals.{is_unnegated, bare}
 use Rattle.alternating_theory.specs.Obligations.{Obligation, Automaton, obligation_at}
 use Rattle.alternating_theory.specs.Positive.{Positive, Const, Holds, Owed, And, Or}
 use Rattle.alternating_theory.specs.Trimmed.{count_below, kept, renumbered_obligation}
@@ -25,7 +25,7 @@ same_boolean _ _ = false
 
 -- two Booleans are one tree, but for pairs of Nots at their heads
 abbrev pub same_literal : Boolean → Boolean → Truth
-same_literal first second = same_truth (is_unnegated first) (is_unnegated second) && same_boolean (core first) (core second)
+same_literal first second = same_truth (is_unnegated first) (is_unnegated second) && same_boolean (bare first) (bare second)
 
 -- two combinations are one tree, but for pairs of Nots at the heads of their Booleans
 abbrev pub same_positive : Positive → Positive → Truth

@@ -6,10 +6,10 @@ use Rattle.alternating.proofs.merge.classes_of.Goals as goal
 
 pub first_like-class-requires-clause-classes : goal.first_like-class-requires-clause-classes
 first_like-class-requires-clause-classes c =
-    ap (λ (l : List ℕ). length l) c.as_slice.ensures.value ∙ ap (λ (l : List ℕ). length l) c.loop-number.invariant ∙ classes-long (obligations_of_code c.args.obligations.now) c.loop-number.number
+    ap (λ (l : List ℕ). length l) c.as_slice-in-loop-number.ensures.value ∙ ap (λ (l : List ℕ). length l) c.loop-number.invariant ∙ classes-long (obligations_of_code c.args.obligations.now) c.loop-number.number
 
 pub loop-number-preserved : goal.loop-number-preserved
 loop-number-preserved c =
     let pushed : c.push.new.self.items ≡ c.loop-number.classes.items ++ c.first_like-class.result ∷ [] = search rules in
-    classes-more (obligations_of_code c.args.obligations.now) c.loop-number.number c.loop-number.classes.items c.as_slice.result.now c.push.new.self.items c.first_like-class.result
-    c.loop-number.invariant c.as_slice.ensures.value c.first_like-class.ensures pushed
+    classes-more (obligations_of_code c.args.obligations.now) c.loop-number.number c.loop-number.classes.items c.as_slice-in-loop-number.result.now c.push.new.self.items c.first_like-class.result
+    c.loop-number.invariant c.as_slice-in-loop-number.ensures.value c.first_like-class.ensures pushed
