@@ -71,7 +71,7 @@ fn cut_all(
     let mut copies = Vec::new(alloc);
     for obligation in obligations {
         let new = obligation.cut(alloc, test, by)?;
-        copies.push(new).map_err(|_| NoMemory)?;
+        copies.push(new)?;
     }
     Ok(copies)
 }

@@ -55,7 +55,7 @@ pub(crate) fn opposites(
     let mut found = Vec::new(alloc);
     for obligation in obligations {
         let new = obligation.opposite(alloc)?;
-        found.push(new).map_err(|_| NoMemory)?;
+        found.push(new)?;
     }
     Ok(found)
 }
@@ -153,7 +153,7 @@ pub(crate) fn until(
 pub(crate) fn add(obligations: &mut Vec<Obligation>, new: Obligation) -> Result<(), NoMemory>
     ensures { OnOk result (obligations.new.items ≡ obligations.old.items ++ new ∷ []) }
 {
-    obligations.push(new).map_err(|_| NoMemory)
+    Ok(obligations.push(new)?)
 }
 
 /// Adds obligations at the end.
@@ -163,5 +163,5 @@ pub(crate) fn add_all(
 ) -> Result<(), NoMemory>
     ensures { OnOk result (obligations.new.items ≡ obligations.old.items ++ more.items) }
 {
-    obligations.append(&mut more).map_err(|_| NoMemory)
+    Ok(obligations.append(&mut more)?)
 }

@@ -17,7 +17,7 @@ pub(crate) fn names_of(alloc: Global, marks: &[bool]) -> Result<Vec<u32>, NoMemo
     let mut names = Vec::new(alloc);
     let mut count: u32 = 0;
     for marked in marks {
-        names.push(count).map_err(|_| NoMemory)?;
+        names.push(count)?;
         count = counted(count, *marked);
     }
     Ok(names)
@@ -62,7 +62,7 @@ fn keep(
 {
     if marked {
         let new = obligation.renamed(alloc, names)?;
-        into.push(new).map_err(|_| NoMemory)?;
+        into.push(new)?;
     }
     Ok(())
 }

@@ -34,7 +34,7 @@ impl Truths {
     pub fn new(alloc: Global, count: u32) -> Result<Truths, NoMemory>
         ensures { IfOk result (λ truths. truths ≡ replicate count false) }
     {
-        let words = vec![in alloc; 0; count.div_ceil(32) as usize].map_err(|_| NoMemory)?;
+        let words = vec![in alloc; 0; count.div_ceil(32) as usize]?;
         Ok(Truths { count, words })
     }
 
