@@ -88,7 +88,7 @@ impl Obligation {
         Ok(Obligation {
             delta: one_of(alloc, stopped, self.delta.raised(alloc, by)?)?,
             accepting: self.accepting,
-            end: false,
+            end: false, // the word must not end before the cut
             top: self.top,
             bottom: self.bottom,
         })

@@ -8,9 +8,8 @@ use Rattle.alternating_theory.specs.Laws.{NamesOf}
 use Rattle.alternating_theory.specs.Merged.{fits, is_first, joined, merged_by}
 use Rattle.alternating_theory.specs.Obligations.{Obligation, Automaton, obligation_at}
 use Rattle.alternating_theory.specs.Positive.{met, owes}
-use Rattle.alternating_theory.specs.Trimmed.{count_below, renumbered_obligation}
+use Rattle.alternating_theory.specs.Trimmed.{count_below}
 use Rattle.alternating_theory.proofs.Merges.{new-below, joined-new, joined-met, owed-inside, new-start, joined-fewer}
-use Rattle.alternating_theory.proofs.MetLaws.{met-renumbered}
 use Rattle.alternating_theory.proofs.Reached.{same-number}
 use Rattle.alternating_theory.proofs.Settled.{count-at_most}
 use Rattle.alternating_loops.specs.Acceptance.{serves, IsRun, AcceptsAlong}

@@ -93,7 +93,7 @@ abbrev pub is_like : List Obligation → (ℕ → ℕ) → ℕ → ℕ → Truth
 is_like obligations class first number =
     (class first == first)
     && same_obligation (renumbered_obligation (supposed class number first) (obligation_at obligations first))
-        (renumbered_obligation (supposed class number first) (obligation_at obligations number))
+    (renumbered_obligation (supposed class number first) (obligation_at obligations number))
 
 -- the classes of so many obligations: each becomes one with the first before it that asks the same, once
 -- those before it have become one and these two are supposed to be one
