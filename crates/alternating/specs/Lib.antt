@@ -3,6 +3,7 @@ pub mod Atoms
 pub mod Beyonds
 pub mod Classes
 pub mod Codes
+pub mod Held
 pub mod Limits
 pub mod Negations
 pub mod Packed

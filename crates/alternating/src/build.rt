@@ -12,7 +12,7 @@ ghost use Rattle.alternating.specs.Views.{part_of_code, PartWithin};
 use crate::abort::abort;
 use crate::part::{Part, and, next, not, now, until};
 use crate::prefix::prefix;
-use crate::stage::going_on;
+use crate::stage::{Stage, going_on};
 use crate::suffix::suffix;
 use psl_base::{NoMemory, boxed};
 use psl_tree::{Bool, Fl, Sere};
@@ -100,7 +100,12 @@ fn prefix_of(alloc: Global, offset: u32, end: bool, sequence: &Sere) -> Result<B
 {
     let nfa = nfa(alloc, sequence)?;
     let ongoing = going_on(alloc, &nfa)?;
-    let part = prefix(alloc, &nfa, ongoing.as_slice(), offset, end)?;
+    let stage = Stage {
+        nfa: &nfa,
+        ongoing: ongoing.as_slice(),
+        offset,
+    };
+    let part = prefix(alloc, &stage, end)?;
     boxed(alloc, part)
 }
 

@@ -1,11 +1,10 @@
 ghost use Rattle.std.specs.Prelude.{◌≡◌, ◌≤◌, ◌<◌, ◌+◌, ◌^◌, ℕ, length, slice_index, IfOk};
 ghost use Rattle.psl_tree.specs.Trees.{boolean_of};
-ghost use Rattle.alternating_theory.specs.Merged.{same_truth, same_boolean, same_literal, same_positive, same_obligation, class_in, first_from, is_like, classes_upto};
+ghost use Rattle.alternating_theory.specs.Merged.{same_truth, same_boolean, same_literal, same_positive, same_obligation, class_in, first_from, classes_upto};
 ghost use Rattle.alternating_theory.specs.Positive.{renumbered};
-ghost use Rattle.alternating_theory.specs.Trimmed.{renumbered_obligation};
 ghost use Rattle.alternating.specs.Classes.{Firsts, ClassNames};
 ghost use Rattle.alternating.specs.Sizes.{delta_sizes};
-ghost use Rattle.alternating.specs.Supposed.{class_of};
+ghost use Rattle.alternating.specs.Supposed.{class_of, asked, asks_same};
 ghost use Rattle.alternating.specs.Views.{positive_of, obligation_of, obligations_of_code};
 
 use crate::literal::{bare, is_unnegated};
@@ -65,7 +64,7 @@ impl Known<'_> {
         requires number { number < length self.now.obligations.now }
         requires sizes { self.now.sizes.now ≡ delta_sizes (obligations_of_code self.now.obligations.now) }
         requires classes { length self.now.classes.now ≡ number }
-        ensures { result ≡ first_from 0 number (λ earlier. is_like (obligations_of_code self.now.obligations.now) (class_in self.now.classes.now) earlier number) }
+        ensures { result ≡ first_from 0 number (λ earlier. asks_same self.now earlier number) }
     {
         for earlier in 0..number {
             if self.is_like(earlier, number) {
@@ -82,16 +81,17 @@ impl Known<'_> {
         requires sizes { self.now.sizes.now ≡ delta_sizes (obligations_of_code self.now.obligations.now) }
         requires classes { length self.now.classes.now ≡ number }
         requires earlier { earlier < number }
-        ensures { result ≡ is_like (obligations_of_code self.now.obligations.now) (class_in self.now.classes.now) earlier number }
+        ensures { result ≡ asks_same self.now earlier number }
     {
-        self.sizes[earlier as usize] == self.sizes[number as usize] && self.asks_same(earlier, number)
+        self.sizes[earlier as usize] == self.sizes[number as usize]
+            && self.asks_same(earlier, number)
     }
 
     fn asks_same(&self, earlier: u32, number: u32) -> bool
         requires number { number < length self.now.obligations.now }
         requires classes { length self.now.classes.now ≡ number }
         requires earlier { earlier < number }
-        ensures { result ≡ is_like (obligations_of_code self.now.obligations.now) (class_in self.now.classes.now) earlier number }
+        ensures { result ≡ asks_same self.now earlier number }
     {
         let first = &self.obligations[earlier as usize];
         let second = &self.obligations[number as usize];
@@ -144,7 +144,7 @@ fn same_truth(left: bool, right: bool) -> bool
 
 // What is told apart soonest goes first: the values, and of combinations the right parts.
 fn same_obligation(left: &Obligation, right: &Obligation, classes: &Supposed) -> bool
-    ensures { result ≡ same_obligation (renumbered_obligation (class_of classes.now) (obligation_of left.now)) (renumbered_obligation (class_of classes.now) (obligation_of right.now)) }
+    ensures { result ≡ same_obligation (asked classes.now (obligation_of left.now)) (asked classes.now (obligation_of right.now)) }
 {
     same_truth(left.accepting, right.accepting)
         && (same_truth(left.end, right.end)

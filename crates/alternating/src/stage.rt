@@ -35,13 +35,24 @@ pub(crate) fn goes_on(nfa: &Nfa, edges: &[NfaEdge]) -> bool
     false
 }
 
-/// Whether an edge leads on from a state to an end, by the marks.
-pub(crate) fn leads_on(nfa: &Nfa, ongoing: &[bool], state: u32) -> bool
-    requires marked { GoingOn nfa.now ongoing.now }
-    requires below { state < length nfa.now.states }
-    ensures { result ≡ goes_on nfa.now.states (state_at nfa.now.states state).edges }
-{
-    ongoing[state as usize]
+/// A sequence's automaton, the marks of the states from which an edge leads on to an end, and the number
+/// of the first state's obligation.
+#[derive(Clone, Copy)]
+pub(crate) struct Stage<'a> {
+    pub(crate) nfa: &'a Nfa,
+    pub(crate) ongoing: &'a [bool],
+    pub(crate) offset: u32,
+}
+
+impl Stage<'_> {
+    /// Whether an edge leads on from a state to an end, by the marks.
+    pub(crate) fn leads_on(&self, state: u32) -> bool
+        requires marked { GoingOn self.now.nfa.now self.now.ongoing.now }
+        requires below { state < length self.now.nfa.now.states }
+        ensures { result ≡ goes_on self.now.nfa.now.states (state_at self.now.nfa.now.states state).edges }
+    {
+        self.ongoing[state as usize]
+    }
 }
 
 /// The edges on which an automaton with one initial state reads its first letter.

@@ -3,13 +3,14 @@ ghost use Rattle.psl_tree.specs.Trees.{boolean_of, Not};
 ghost use Rattle.alternating_theory.specs.Positive.{Holds};
 ghost use Rattle.sere_nfa.specs.Views.{edge_of, edges_of};
 ghost use Rattle.alternating_theory.specs.Construction.{going, going_edge, quiet, quiet_edge, suffix_obligation, suffix_part};
+ghost use Rattle.alternating.specs.Held.{HasStage};
 ghost use Rattle.alternating.specs.Stages.{IsStage};
 ghost use Rattle.alternating.specs.Views.{positive_of, obligation_of, part_of_code};
 
 use crate::obligation::Obligation;
 use crate::part::{Part, add};
 use crate::positive::{Positive, all_of, one_of};
-use crate::stage::{entry, goes_on, leads_on};
+use crate::stage::{Stage, entry, goes_on};
 use psl_base::{NoMemory, boxed};
 use psl_tree::Bool;
 use sere_nfa::{Nfa, NfaEdge};
@@ -31,12 +32,16 @@ pub(crate) fn suffix(
         start: follows,
         mut rest,
     } = part;
-    let from = offset + rest.len() as u32;
+    let stage = Stage {
+        nfa,
+        ongoing,
+        offset: offset + rest.len() as u32,
+    };
     let edges = entry(nfa).as_slice();
-    let start = suffix_obligation(alloc, nfa, ongoing, from, false, &follows, edges)?;
+    let start = suffix_obligation(alloc, &stage, false, &follows, edges)?;
     for state in 0..nfa.len() as u32 {
         let edges = nfa.edges(state).as_slice();
-        let new = suffix_obligation(alloc, nfa, ongoing, from, true, &follows, edges)?;
+        let new = suffix_obligation(alloc, &stage, true, &follows, edges)?;
         add(&mut rest, new)?;
     }
     Ok(Part { start, rest })
@@ -46,65 +51,59 @@ pub(crate) fn suffix(
 // on.
 fn suffix_obligation(
     alloc: Global,
-    nfa: &Nfa,
-    ongoing: &[bool],
-    offset: u32,
+    stage: &Stage,
     accepting: bool,
     part: &Obligation,
     edges: &[NfaEdge],
 ) -> Result<Obligation, NoMemory>
-    requires stage { IsStage nfa.now ongoing.now offset }
-    requires below { All (λ edge. edge.target < length nfa.now.states) edges.now }
-    ensures { IfOk result (λ new. obligation_of new ≡ suffix_obligation nfa.now.states offset accepting (obligation_of part.now) (edges_of edges.now)) }
+    requires stage { HasStage stage.now }
+    requires below { All (λ edge. edge.target < length stage.now.nfa.now.states) edges.now }
+    ensures { IfOk result (λ new. obligation_of new ≡ suffix_obligation stage.now.nfa.now.states stage.now.offset accepting (obligation_of part.now) (edges_of edges.now)) }
 {
-    let steps = going(alloc, nfa, ongoing, offset, edges)?;
-    let ends = quiet(alloc, nfa, edges)?;
+    let steps = going(alloc, stage, edges)?;
+    let ends = quiet(alloc, stage.nfa, edges)?;
     let follows = one_of(alloc, ends, part.delta.copy(alloc)?)?;
     Ok(Obligation {
         delta: all_of(alloc, steps, follows)?,
         accepting,
         end: true,
         top: true,
-        bottom: !goes_on(nfa, edges) || part.bottom,
+        bottom: !goes_on(stage.nfa, edges) || part.bottom,
     })
 }
 
 // Where the dual letter takes an edge, the state that it leads to is owed next, if it goes on.
 fn going(
     alloc: Global,
-    nfa: &Nfa,
-    ongoing: &[bool],
-    offset: u32,
+    stage: &Stage,
     edges: &[NfaEdge],
 ) -> Result<Positive, NoMemory>
-    requires stage { IsStage nfa.now ongoing.now offset }
-    requires below { All (λ edge. edge.target < length nfa.now.states) edges.now }
-    ensures { IfOk result (λ new. positive_of new ≡ going nfa.now.states offset (edges_of edges.now)) }
+    requires stage { HasStage stage.now }
+    requires below { All (λ edge. edge.target < length stage.now.nfa.now.states) edges.now }
+    ensures { IfOk result (λ new. positive_of new ≡ going stage.now.nfa.now.states stage.now.offset (edges_of edges.now)) }
 {
     let mut found = Positive::Const(true);
     for done in 0..edges.len() {
         let edge = &edges[edges.len() - 1 - done];
-        found = going_edge(alloc, nfa, ongoing, offset, edge, found)?;
+        found = going_edge(alloc, stage, edge, found)?;
     }
     Ok(found)
 }
 
 fn going_edge(
     alloc: Global,
-    nfa: &Nfa,
-    ongoing: &[bool],
-    offset: u32,
+    stage: &Stage,
     edge: &NfaEdge,
     others: Positive,
 ) -> Result<Positive, NoMemory>
-    requires stage { IsStage nfa.now ongoing.now offset }
-    requires below { edge.now.target < length nfa.now.states }
-    ensures { IfOk result (λ new. positive_of new ≡ going_edge nfa.now.states offset (edge_of edge.now) (positive_of others)) }
+    requires stage { HasStage stage.now }
+    requires below { edge.now.target < length stage.now.nfa.now.states }
+    ensures { IfOk result (λ new. positive_of new ≡ going_edge stage.now.nfa.now.states stage.now.offset (edge_of edge.now) (positive_of others)) }
 {
-    if !leads_on(nfa, ongoing, edge.target) {
+    if !stage.leads_on(edge.target) {
         return Ok(others);
     }
-    let next = Positive::Owed(offset + edge.target);
+    let next = Positive::Owed(stage.offset + edge.target);
     let step = one_of(alloc, not_label(alloc, edge)?, next)?;
     all_of(alloc, step, others)
 }

@@ -4,4 +4,4 @@ use Rattle.alternating.specs.Views.{obligations_of_code}
 use Rattle.alternating.proofs.prefix.prefix.Given as goal
 
 abbrev pub invariant-loop-state : goal.invariant-loop-state
-invariant-loop-state l = obligations_of_code l.rest.items ≡ map (λ state. prefix_obligation l.nfa.states l.offset l.end state.edges) (take l.state l.nfa.states)
+invariant-loop-state l = obligations_of_code l.rest.items ≡ map (λ state. prefix_obligation l.stage.nfa.now.states l.stage.offset l.end state.edges) (take l.state l.stage.nfa.now.states)

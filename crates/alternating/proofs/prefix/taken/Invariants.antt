@@ -5,4 +5,4 @@ use Rattle.alternating.specs.Views.{positive_of}
 use Rattle.alternating.proofs.prefix.taken.Given as goal
 
 abbrev pub invariant-loop-done : goal.invariant-loop-done
-invariant-loop-done l = positive_of l.found ≡ taken l.nfa.states l.offset (edges_of (drop (length l.edges - l.done) l.edges))
+invariant-loop-done l = positive_of l.found ≡ taken l.stage.nfa.now.states l.stage.offset (edges_of (drop (length l.edges - l.done) l.edges))

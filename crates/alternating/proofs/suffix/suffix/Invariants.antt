@@ -5,4 +5,4 @@ use Rattle.alternating.proofs.suffix.suffix.Given as goal
 
 abbrev pub invariant-loop-state : goal.invariant-loop-state
 invariant-loop-state l = obligations_of_code l.rest.items
-    ≡ obligations_of_code l.initial.rest.items ++ map (λ state. suffix_obligation l.nfa.states l.from true (obligation_of l.follows) state.edges) (take l.state l.nfa.states)
+    ≡ obligations_of_code l.initial.rest.items ++ map (λ state. suffix_obligation l.nfa.states l.stage.offset true (obligation_of l.follows) state.edges) (take l.state l.nfa.states)
