@@ -13,11 +13,7 @@ use sere_nfa::NfaEdge;
 use std::alloc::Global;
 
 /// The part of a sequence of which a prefix must be read, with its value where the word has ended.
-pub(crate) fn prefix(
-    alloc: Global,
-    stage: &Stage,
-    end: bool,
-) -> Result<Part, NoMemory>
+pub(crate) fn prefix(alloc: Global, stage: &Stage, end: bool) -> Result<Part, NoMemory>
     requires { HasStage stage.now }
     ensures { IfOk result (λ part. part_of_code part ≡ prefix_part stage.now.offset end stage.now.nfa.now) }
 {
@@ -53,11 +49,7 @@ fn prefix_obligation(
 }
 
 // Some edge is taken.
-fn taken(
-    alloc: Global,
-    stage: &Stage,
-    edges: &[NfaEdge],
-) -> Result<Positive, NoMemory>
+fn taken(alloc: Global, stage: &Stage, edges: &[NfaEdge]) -> Result<Positive, NoMemory>
     requires stage { HasStage stage.now }
     requires below { All (λ edge. edge.target < length stage.now.nfa.now.states) edges.now }
     ensures { IfOk result (λ new. positive_of new ≡ taken stage.now.nfa.now.states stage.now.offset (edges_of edges.now)) }

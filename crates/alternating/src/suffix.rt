@@ -73,11 +73,7 @@ fn suffix_obligation(
 }
 
 // Where the dual letter takes an edge, the state that it leads to is owed next, if it goes on.
-fn going(
-    alloc: Global,
-    stage: &Stage,
-    edges: &[NfaEdge],
-) -> Result<Positive, NoMemory>
+fn going(alloc: Global, stage: &Stage, edges: &[NfaEdge]) -> Result<Positive, NoMemory>
     requires stage { HasStage stage.now }
     requires below { All (λ edge. edge.target < length stage.now.nfa.now.states) edges.now }
     ensures { IfOk result (λ new. positive_of new ≡ going stage.now.nfa.now.states stage.now.offset (edges_of edges.now)) }
