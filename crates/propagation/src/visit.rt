@@ -48,6 +48,26 @@ fn forced(trail: &Trail, watch: Watch) -> Visit
     }
 }
 
+/// What there is to do with a clause of which another literal is not false. Where that literal is true, it blocks the
+/// entry, which stays: the clause needs no other watch then.
+fn moved(trail: &Trail, watch: Watch, first: u32) -> Visit
+    requires { first < 2 * trail.now.variables }
+    ensures { ((result ≡ Visit.Keep record watch { blocker = first }) × Contains trail.now.literals first)
+        ⊎ (result ≡ Visit.Move record { first = first; second = watch.blocker }) }
+{
+    if trail.is_true(first) {
+        Visit::Keep(Watch {
+            blocker: first,
+            ..watch
+        })
+    } else {
+        Visit::Move(Pair {
+            first,
+            second: watch.blocker,
+        })
+    }
+}
+
 /// What there is to do at an entry of the list of a false literal.
 pub(crate) fn look_at(
     clauses: &Store,
@@ -82,10 +102,7 @@ pub(crate) fn look_at(
         return Visit::Gone;
     };
     match open_literal(clause, trail, other) {
-        Some(first) => Visit::Move(Pair {
-            first,
-            second: other,
-        }),
+        Some(first) => moved(trail, watch, first),
         None => forced(trail, watch),
     }
 }
