@@ -7,7 +7,7 @@ use Rattle.std.proofs.lemmas.List.Elements.{filter_more}
 use Rattle.std.proofs.lemmas.List.Sorted.{All-permutation}
 use Rattle.conflict_analysis.specs.declared.standing.Standing.{Standing}
 use Rattle.conflict_analysis.specs.declared.standing.Standing.TheVariants.{Untouched, Waiting, Explained, Kept}
-use Rattle.conflict_theory.specs.Trails.{opposite}
+use Rattle.trail.specs.Literals.{opposite}
 use Rattle.conflict_analysis.specs.Standings.{standing_at, is_kept, literals_at, IsListed}
 
 -- one place more

@@ -7,7 +7,8 @@ use Rattle.std.proofs.lemmas.List.Elements.{All-push, All-weaker, Contains-push,
 use Rattle.std.proofs.lemmas.List.Quantifiers.{all_pairs_push}
 use Rattle.conflict_analysis.specs.declared.standing.Standing.{Standing}
 use Rattle.conflict_analysis.specs.declared.standing.Standing.TheVariants.{Untouched, Waiting}
-use Rattle.conflict_theory.specs.Trails.{Steps, KnowsPlaces, opposite, size_of, literal_at}
+use Rattle.trail.specs.Literals.{opposite}
+use Rattle.conflict_theory.specs.Trails.{Steps, KnowsPlaces, size_of, literal_at}
 use Rattle.conflict_analysis.specs.Standings.{standing_at, IsListed, ReachesPlace, IsReadable, IsReaching}
 use Rattle.conflict_theory.proofs.Literals.{variable-opposite}
 use Rattle.conflict_analysis.proofs.Counting.{standing-same, standing-other, waiting-more, at_most}

@@ -7,7 +7,8 @@ use Rattle.std.proofs.lemmas.List.Elements.{All-contains}
 use Rattle.clauses.specs.Live.{Numbered, clause_of}
 use Rattle.conflict_analysis.specs.declared.standing.Standing.{Standing}
 use Rattle.conflict_analysis.specs.declared.standing.Standing.TheVariants.{Untouched, Waiting, Explained, Kept}
-use Rattle.conflict_theory.specs.Trails.{Steps, IsTrail, IsConflict, HasEnded, lower_literals, opposite, size_of, literal_at}
+use Rattle.trail.specs.Literals.{opposite}
+use Rattle.conflict_theory.specs.Trails.{Steps, IsTrail, IsConflict, HasEnded, lower_literals, size_of, literal_at}
 use Rattle.conflict_analysis.specs.Standings.{standing_at, waiting_below, IsListed, IsReadable, IsReached, IsReaching, IsExplored, IsSweeping}
 use Rattle.conflict_theory.proofs.Literals.{opposite-opposite, clash}
 use Rattle.conflict_theory.proofs.Lower.{lower_contains, lower_at}

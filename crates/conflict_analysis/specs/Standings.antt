@@ -5,7 +5,8 @@ use Rattle.std.specs.List.Sorted.{IsPermutation, IsNonDecreasing}
 use Rattle.conflict_analysis.specs.declared.standing.Standing.{Standing}
 use Rattle.conflict_analysis.specs.declared.standing.Standing.TheVariants.{Untouched, Waiting, Explained, Kept}
 use Rattle.clauses.specs.Live.{Numbered, clause_of}
-use Rattle.conflict_theory.specs.Trails.{Steps, opposite, size_of, literal_at, reason_at, IsFalseBelow}
+use Rattle.trail.specs.Literals.{opposite}
+use Rattle.conflict_theory.specs.Trails.{Steps, size_of, literal_at, reason_at, IsFalseBelow}
 
 -- what is known of a place
 abbrev pub standing_at : List Standing → ℕ → Standing

@@ -8,7 +8,7 @@ use crate::collect::Lemma;
 use crate::implied::Memory;
 use crate::search::search_and_clear;
 use crate::standing::Standing;
-use crate::trail::TrailView;
+use crate::view::TrailView;
 use clause_store::Store;
 use psl_base::NoMemory;
 use std::alloc::Global;

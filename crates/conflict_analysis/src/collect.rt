@@ -2,13 +2,14 @@
 ghost use Rattle.std.specs.Prelude.{◌≡◌, ◌≢◌, ℕ, ◌++◌, ◌<◌, ◌≤◌, length, reverse, IfOk, OnOk};
 ghost use Rattle.std.specs.List.{All, Contains};
 ghost use Rattle.conflict_analysis.specs.declared.standing.Standing.TheVariants.{Untouched};
-ghost use Rattle.conflict_theory.specs.Trails.{opposite as opposite_of, size_of, IsTrail};
+ghost use Rattle.conflict_theory.specs.Trails.{size_of, IsTrail};
 ghost use Rattle.conflict_analysis.specs.Views.{steps_of};
 ghost use Rattle.conflict_analysis.specs.Standings.{standing_at, hints_at, literals_at, IsListed, IsCollected};
 
 use crate::TrailView;
 use crate::standing::Standing;
 use psl_base::NoMemory;
+use trail::opposite;
 
 /// A lemma, and the numbers of the clauses that it follows from, in the order of propagation.
 #[derive(Debug, Drop)]
@@ -90,11 +91,4 @@ fn wipe(standings: &mut [Standing], places: &[u32])
     for place in places {
         standings[*place as usize] = Standing::Untouched;
     }
-}
-
-/// The negation of a literal.
-pub fn opposite(literal: u32) -> u32
-    ensures { result ≡ opposite_of literal }
-{
-    literal ^ 1
 }

@@ -12,9 +12,9 @@ mod standing;
 mod sweep;
 #[cfg(test)]
 mod tests;
-mod trail;
+mod view;
 
 pub use analyzer::Analyzer;
-pub use collect::{Lemma, opposite};
+pub use collect::Lemma;
 pub use psl_base::NoMemory;
-pub use trail::{TrailView, level_of};
+pub use view::{TrailView, level_of};

@@ -4,7 +4,8 @@ use Rattle.std.specs.List.{All, AllPairs, Contains}
 use Rattle.std.proofs.lemmas.List.Elements.{All-contains, Contains-push, Contains-append_left}
 use Rattle.clauses.specs.Live.{Numbered, clause_of}
 use Rattle.clauses.specs.Passing.{AddsPropagation}
-use Rattle.conflict_theory.specs.Trails.{Steps, IsTrail, HasEnded, lower_literals, opposite, size_of, literal_at, reason_at}
+use Rattle.trail.specs.Literals.{opposite}
+use Rattle.conflict_theory.specs.Trails.{Steps, IsTrail, HasEnded, lower_literals, size_of, literal_at, reason_at}
 use Rattle.conflict_theory.specs.Lemmas.{IsAsserting, IsLearned, IsRefuted}
 use Rattle.conflict_theory.specs.Closing.{negation_at, lemma_of, hints_of, IsNamed, IsClosed, IsKeeping}
 use Rattle.conflict_theory.proofs.Literals.{opposite-opposite, opposite-injective, clash, one_place}

@@ -1,7 +1,8 @@
 -- Literals and their negations on a trail.
 use Rattle.std.proofs.Common.{◌≡◌, ◌≢◌, ℕ, ◌/◌, ◌<◌, sym, ap, ◌∙◌, arith}
 use Rattle.clauses.specs.Live.{Numbered}
-use Rattle.conflict_theory.specs.Trails.{Steps, IsTrail, opposite, size_of, literal_at}
+use Rattle.trail.specs.Literals.{opposite}
+use Rattle.conflict_theory.specs.Trails.{Steps, IsTrail, size_of, literal_at}
 
 pub variable-opposite : (literal : ℕ) → opposite literal / 2 ≡ literal / 2
 variable-opposite literal = omega arith

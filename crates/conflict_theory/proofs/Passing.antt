@@ -6,7 +6,8 @@ use Rattle.std.proofs.lemmas.List.Elements.{All-contains, All-cons, All-head, Al
 use Rattle.std.proofs.lemmas.List.Kept.{AllPairs-cons}
 use Rattle.clauses.specs.Live.{Numbered, clause_of}
 use Rattle.clauses.specs.Passing.{Passes, IsLeft}
-use Rattle.conflict_theory.specs.Trails.{Steps, IsTrail, opposite, size_of, literal_at, reason_at}
+use Rattle.trail.specs.Literals.{opposite}
+use Rattle.conflict_theory.specs.Trails.{Steps, IsTrail, size_of, literal_at, reason_at}
 use Rattle.conflict_theory.specs.Closing.{negation_at, lemma_of, hints_of, IsCovered, IsStep, IsClosed}
 use Rattle.conflict_theory.proofs.Literals.{clash, one_place}
 use Rattle.conflict_theory.proofs.Members.{contains-cons, no_member, contains-map, from_map, all_members, pairs-tail, pairs-head}

@@ -3,7 +3,8 @@ use Rattle.std.proofs.Common.{◌≡◌, ◌⊎◌, ℕ, ◌<◌, ◌≤◌, Lis
 use Rattle.std.specs.List.{All, Contains}
 use Rattle.std.proofs.lemmas.List.Elements.{All-contains}
 use Rattle.clauses.specs.Live.{Numbered}
-use Rattle.conflict_theory.specs.Trails.{Steps, IsTrail, opposite, size_of, literal_at}
+use Rattle.trail.specs.Literals.{opposite}
+use Rattle.conflict_theory.specs.Trails.{Steps, IsTrail, size_of, literal_at}
 use Rattle.conflict_theory.specs.Closing.{negation_at, lemma_of}
 use Rattle.conflict_theory.specs.Lemmas.{IsAsserting, IsUnit}
 use Rattle.conflict_theory.proofs.Literals.{opposite-opposite, clash, one_place}

@@ -2,7 +2,8 @@
 use Rattle.std.specs.Prelude.{◌≡◌, ◌⊎◌, ℕ, ◌<◌, ◌≤◌, List, [], ◌∷◌, ◌++◌, map, Some}
 use Rattle.std.specs.List.{All, AllPairs, Contains}
 use Rattle.clauses.specs.Live.{Numbered, clause_of}
-use Rattle.conflict_theory.specs.Trails.{Steps, opposite, size_of, literal_at, reason_at}
+use Rattle.trail.specs.Literals.{opposite}
+use Rattle.conflict_theory.specs.Trails.{Steps, size_of, literal_at, reason_at}
 
 -- the negation of the literal at a place
 abbrev pub negation_at : Steps → ℕ → ℕ

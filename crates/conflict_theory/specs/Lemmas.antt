@@ -3,7 +3,8 @@ use Rattle.std.specs.Prelude.{◌≡◌, ◌≢◌, ◌⊎◌, ℕ, ◌<◌, ◌
 use Rattle.std.specs.List.{All, AllPairs, Contains}
 use Rattle.clauses.specs.Live.{Numbered, clause_of}
 use Rattle.clauses.specs.Passing.{Passes, AddsPropagation}
-use Rattle.conflict_theory.specs.Trails.{Steps, opposite, size_of, literal_at}
+use Rattle.trail.specs.Literals.{opposite}
+use Rattle.conflict_theory.specs.Trails.{Steps, size_of, literal_at}
 
 -- The literals of a lemma are false by places that fall: the first is of the current level, the others are of lower
 -- levels, but none is of level 0.

@@ -1,13 +1,10 @@
 -- The trail of a solver as the analysis of a conflict reads it. A literal is a number: that of the variable v,
 -- counted from 0, is 2v, and its negation 2v + 1.
-use Rattle.std.specs.Prelude.{◌≡◌, ◌≢◌, ◌⊎◌, ℕ, ◌+◌, ◌-◌, ◌*◌, ◌/◌, ◌%◌, ◌<◌, ◌≤◌, List, length, take, slice_index, Some}
+use Rattle.std.specs.Prelude.{◌≡◌, ◌≢◌, ◌⊎◌, ℕ, ◌/◌, ◌<◌, ◌≤◌, List, length, take, slice_index, Some}
 use Rattle.std.specs.List.{All, Contains}
+use Rattle.trail.specs.Literals.{opposite}
 use Rattle.clauses.specs.Live.{Numbered, clause_of}
 use Rattle.clauses.specs.Passing.{IsOpen}
-
--- the negation of a literal
-abbrev pub opposite : ℕ → ℕ
-opposite literal = literal / 2 * 2 + (1 - literal % 2)
 
 -- the true literals in the order in which they came to be; by place, the number of the clause that made a literal
 -- true, 0 for a decision; how many literals are of level 0; where the current level begins, with its decision

@@ -2,7 +2,8 @@
 ghost use Rattle.std.specs.Prelude.{ℕ, ◌<◌, ◌≤◌, List, [], take};
 ghost use Rattle.std.specs.List.{All, Contains};
 ghost use Rattle.clauses.specs.Live.{Numbered};
-ghost use Rattle.conflict_theory.specs.Trails.{Steps, IsTrail, HasEnded, opposite, size_of};
+ghost use Rattle.trail.specs.Literals.{opposite};
+ghost use Rattle.conflict_theory.specs.Trails.{Steps, IsTrail, HasEnded, size_of};
 ghost use Rattle.conflict_theory.specs.Lemmas.{IsAsserting, IsLearned, IsRefuted, IsUnit};
 ghost use Rattle.conflict_theory.specs.Closing.{negation_at, lemma_of, hints_of, IsClosed, IsKeeping};
 

@@ -2,7 +2,7 @@ use Rattle.std.proofs.Common.{◌≡◌, leb, true, false, arith, rules}
 use Rattle.std.specs.List.Sorted.{IsPartitionPoint}
 use Rattle.std.proofs.lemmas.Bool.{leb-true, leb-false}
 use Rattle.std.proofs.lemmas.List.Sorted.{IsPartitionPoint-from_clause, IsPartitionedBy-leb}
-use Rattle.conflict_analysis.proofs.trail.level_of.Goals as goal
+use Rattle.conflict_analysis.proofs.view.level_of.Goals as goal
 
 parted : (c : goal.After-partition_point) →
     IsPartitionPoint (λ limit. leb limit c.args.place ≡ true) (λ limit. leb limit c.args.place ≡ false) c.args.limits.now c.partition_point.result
