@@ -1,5 +1,5 @@
 -- Going back to the level where a lemma asserts its first literal.
-use Rattle.std.proofs.Common.{◌≡◌, ◌≢◌, ℕ, ◌-◌, ◌<◌, ◌≤◌, List, [], ◌∷◌, length, map, take, get_or, refl, sym, ap, ◌∙◌, subst, arith}
+use Rattle.std.proofs.Common.{◌≡◌, ◌≢◌, ℕ, ◌-◌, ◌<◌, ◌≤◌, List, [], ◌∷◌, length, map, take, get_or, slice_index_or, refl, sym, ap, ◌∙◌, subst, arith}
 use Rattle.std.specs.List.{All, AllPairs, Contains}
 use Rattle.std.proofs.lemmas.List.{get_or-take, length-take, take-take}
 use Rattle.std.proofs.lemmas.List.Elements.{All-cons, All-weaker, All-head}
@@ -13,6 +13,17 @@ use Rattle.conflict_theory.proofs.Members.{pairs-head, contains-tail, contains-h
 use Rattle.conflict_theory.proofs.Returning.{not_false_before, unit_after}
 use Rattle.cdcl.specs.Turns.{steps_at, begin_of, CanAttach, IsLower, IsLevelOf}
 use Rattle.cdcl.proofs.Trails.{trail_of, begin_inside, begin_rising}
+
+-- a list of one item, and one of several
+pub one_item : (xs : List ℕ) → 1 ≤ length xs → length xs < 2 → xs ≡ slice_index_or xs 0 0 ∷ []
+one_item [] some few = absurd (omega (arith, some))
+one_item (x ∷ []) some few = refl
+one_item (x ∷ (y ∷ rest)) some few = absurd (omega (arith, few))
+
+pub two_items : (xs : List ℕ) → 2 ≤ length xs → (rest : List ℕ) × (xs ≡ slice_index_or xs 0 0 ∷ (slice_index_or xs 1 0 ∷ rest))
+two_items [] some = absurd (omega (arith, some))
+two_items (x ∷ []) some = absurd (omega (arith, some))
+two_items (x ∷ (y ∷ rest)) some = (rest, refl)
 
 -- the first literal of a lemma, and the second
 cons_head : {X : Type 0} (x y : X) (xs ys : List X) → x ∷ xs ≡ y ∷ ys → x ≡ y

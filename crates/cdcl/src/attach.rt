@@ -8,7 +8,8 @@ use conflict_analysis::level_of;
 use propagation::Propagator;
 use psl_base::NoMemory;
 
-/// Goes back to the level where a lemma asserts its first literal, adds the lemma, and makes that literal true.
+/// Goes back to the level where a lemma asserts its first literal, adds the lemma, and makes that literal true. At a
+/// restart a lemma of several literals is added at the lowest level, where none of them is false, and asserts nothing.
 pub(crate) fn attach_lemma(
     propagator: &mut Propagator,
     decider: &mut Decider,
@@ -21,46 +22,20 @@ pub(crate) fn attach_lemma(
 {
     match lemma {
         [] => unreachable!(),
-        [first] => attach_one(propagator, decider, lemma, *first),
-        [first, second, ..] if restarts => restart_with(
-            propagator, decider, lemma, *first, *second,
-        ),
-        [first, second, ..] => attach_two(propagator, decider, lemma, *first, *second),
+        [first] => {
+            go_back(propagator, decider, 0);
+            propagator.attach_unit(lemma, *first)
+        }
+        [first, second, ..] if restarts => {
+            go_back(propagator, decider, 0);
+            propagator.attach(lemma, *first, *second)
+        }
+        [first, second, ..] => {
+            let level = level_below(propagator, *second);
+            go_back(propagator, decider, level);
+            propagator.learn(lemma, *first, *second)
+        }
     }
-}
-
-/// Adds a lemma of one literal, at the lowest level.
-fn attach_one(
-    propagator: &mut Propagator,
-    decider: &mut Decider,
-    lemma: &[u32],
-    first: u32,
-) -> Result<(), NoMemory>
-    requires can { CanAttach propagator.old lemma.now }
-    requires is { lemma.now ≡ first ∷ [] }
-    ensures clauses { OnOk result (propagator.new.clauses ≡ propagator.old.clauses ++ Some lemma.now ∷ []) }
-    ensures variables { OnOk result (propagator.new.path.variables ≡ propagator.old.path.variables) }
-{
-    go_back(propagator, decider, 0);
-    propagator.attach_unit(lemma, first)
-}
-
-/// Adds a lemma of several literals, at the level of the second.
-fn attach_two(
-    propagator: &mut Propagator,
-    decider: &mut Decider,
-    lemma: &[u32],
-    first: u32,
-    second: u32,
-) -> Result<(), NoMemory>
-    requires can { CanAttach propagator.old lemma.now }
-    requires is { (rest : List ℕ) × (lemma.now ≡ first ∷ (second ∷ rest)) }
-    ensures clauses { OnOk result (propagator.new.clauses ≡ propagator.old.clauses ++ Some lemma.now ∷ []) }
-    ensures variables { OnOk result (propagator.new.path.variables ≡ propagator.old.path.variables) }
-{
-    let level = level_below(propagator, second);
-    go_back(propagator, decider, level);
-    propagator.learn(lemma, first, second)
 }
 
 /// The level of a false literal of a lower level than the current one.
@@ -71,23 +46,6 @@ fn level_below(propagator: &Propagator, literal: u32) -> usize
     let trail = propagator.trail();
     let place = trail.places()[(literal / 2) as usize];
     level_of(place, trail.limits())
-}
-
-/// Adds a lemma of several literals at the lowest level, where none of them is false, and asserts nothing.
-fn restart_with(
-    propagator: &mut Propagator,
-    decider: &mut Decider,
-    lemma: &[u32],
-    first: u32,
-    second: u32,
-) -> Result<(), NoMemory>
-    requires can { CanAttach propagator.old lemma.now }
-    requires is { (rest : List ℕ) × (lemma.now ≡ first ∷ (second ∷ rest)) }
-    ensures clauses { OnOk result (propagator.new.clauses ≡ propagator.old.clauses ++ Some lemma.now ∷ []) }
-    ensures variables { OnOk result (propagator.new.path.variables ≡ propagator.old.path.variables) }
-{
-    go_back(propagator, decider, 0);
-    propagator.attach(lemma, first, second)
 }
 
 /// Takes back all above a level.

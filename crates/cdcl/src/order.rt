@@ -11,6 +11,9 @@ const NOWHERE: usize = usize::MAX;
 /// Where an activity passes this, all are made smaller.
 const MOST_ACTIVITY: u64 = 1 << 60;
 
+/// Each conflict counts for more than the one before it, by one part in so many.
+const DECAY: u64 = 24;
+
 /// Variables by activity: those that conflicts named of late come first.
 ///
 /// No proof rests on the order: a variable at a wrong place costs time alone.
@@ -93,7 +96,7 @@ impl Order {
 
     /// Lets the next variables gain more than the last ones did.
     pub(crate) fn decay(&mut self) {
-        self.gain = self.gain.saturating_add(self.gain / 19);
+        self.gain = self.gain.saturating_add(self.gain / DECAY);
     }
 
     /// Makes all activities smaller.
