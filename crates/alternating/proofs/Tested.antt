@@ -306,10 +306,9 @@ module _ (P : Atom → Type 0) where
       at true u = (t.0, u)
       at false u = u
 
-unmerged-has : (f : Formula) → KeepsAtoms (unmerged f) f
-unmerged-has f test t =
+unmerged-has : (P : Atom → Type 0) (f : Formula) → AtomsOfFormula P f → AtomsOfObligations P (unmerged f).obligations
+unmerged-has P f t =
     let part = part_of 0 f in
-    let P : Atom → Type 0 = λ atom. IsTrue (test atom) in
     let u = part-has P 0 f t in
     let os = part.rest ++ part.start ∷ [] in
     obligations-map P (λ obligation. renumbered_obligation (λ number. count_below number (is_reached os (length part.rest))) obligation)
@@ -327,5 +326,9 @@ merged-has P a class u = at (fits a class)
         (kept (is_first class) a.obligations) (kept-has P (is_first class) a.obligations u)
     at false = u
 
+-- each atom of the automaton has what all atoms of the formula have
+pub built-has : (P : Atom → Type 0) (f : Formula) → AtomsOfFormula P f → AtomsOfObligations P (built f).obligations
+built-has P f t = merged-has P (unmerged f) (class_in (classes_upto (unmerged f).obligations (unmerged f).start)) (unmerged-has P f t)
+
 pub keeps-atoms : (f : Formula) → KeepsAtoms (built f) f
-keeps-atoms f test t = merged-has (λ atom. IsTrue (test atom)) (unmerged f) (class_in (classes_upto (unmerged f).obligations (unmerged f).start)) (unmerged-has f test t)
+keeps-atoms f test t = built-has (λ atom. IsTrue (test atom)) f t

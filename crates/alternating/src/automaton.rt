@@ -203,8 +203,8 @@ pub fn of(alloc: Global, f: &Fl) -> Result<Alternating, AltFault>
     }
 }
 
-// Whether some sequence of the formula counts too many states.
-fn has_large_sequence(f: &Fl) -> bool
+/// Whether some sequence of the formula counts more than 1,024 states, so that there is no automaton of it.
+pub fn has_large_sequence(f: &Fl) -> bool
     ensures { IsTrue result ↔ HasLargeSequence (formula_of f.now) }
 {
     match f {

@@ -1,0 +1,5 @@
+pub mod Larges
+pub mod Links
+pub mod Readings
+pub mod SignalsOf
+pub mod Starts

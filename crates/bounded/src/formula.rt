@@ -1,0 +1,55 @@
+// The formula of a search.
+ghost use Rattle.std.specs.Prelude.{◌≡◌, ◌↔◌, IfErr, IfOk};
+ghost use Rattle.clauses.specs.declared.flat.CnfFault.{CnfFault};
+ghost use Rattle.circuit_theory.specs.Sizes.{IsTooLarge};
+ghost use Rattle.run_terms.specs.Automata.{TestsSignals};
+ghost use Rattle.run_terms.specs.Formulas.{HasModel};
+ghost use Rattle.search_theory.specs.Found.{SomeFound};
+ghost use Rattle.search_theory.specs.Searches.{search_clauses, search_variables};
+
+use crate::beginning::add_first;
+use crate::circuit::search_circuit;
+use crate::closing::{Places, add_loops};
+use crate::facts::{automaton_is_sound, formula_is_few};
+use crate::layout::Layout;
+use alternating::Alternating;
+use clauses::{Cnf, CnfFault};
+use netlist::{Netlist, soundness_law};
+use run_formulas::held_to;
+use std::alloc::Global;
+
+/// The formula that has a model exactly where some run of so many valuations has a word that the automaton accepts.
+///
+/// # Errors
+///
+/// `TooLarge` only where there would be too many variables or words, and `NoMemory` if memory is refused.
+pub fn search_formula(
+    alloc: Global,
+    netlist: &Netlist,
+    violation: &Alternating,
+    n: u32,
+) -> Result<Cnf, CnfFault>
+    requires tests { TestsSignals netlist.now violation.now }
+    ensures variables { IfOk result (λ cnf. cnf.variables ≡ search_variables netlist.now violation.now n) }
+    ensures clauses { IfOk result (λ cnf. cnf.clauses ≡ search_clauses netlist.now violation.now n) }
+    ensures models { IfOk result (λ cnf. HasModel cnf.variables cnf.clauses ↔ SomeFound netlist.now violation.now n) }
+    ensures fits { IfOk result (λ cnf. IsTooLarge (search_variables netlist.now violation.now n)
+        (search_clauses netlist.now violation.now n) → ⊥) }
+    ensures large { IfErr result (λ fault. fault ≡ CnfFault.TooLarge
+        → IsTooLarge (search_variables netlist.now violation.now n) (search_clauses netlist.now violation.now n)) }
+{
+    soundness_law(netlist);
+    automaton_is_sound(violation);
+    let layout = Layout::of(netlist.signals(), violation.len())?;
+    let circuit = search_circuit(alloc, netlist, violation, layout)?;
+    let mut cnf = held_to(alloc, &circuit, n)?;
+    let places = Places {
+        layout,
+        size: circuit.gates.len() as u32,
+        last: n,
+    };
+    add_first(alloc, &mut cnf, netlist, violation, layout)?;
+    add_loops(alloc, &mut cnf, places)?;
+    formula_is_few(&cnf);
+    Ok(cnf)
+}

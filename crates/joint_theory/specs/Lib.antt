@@ -1,0 +1,5 @@
+pub mod Bits
+pub mod Paths
+pub mod Queries
+pub mod Relation
+pub mod States

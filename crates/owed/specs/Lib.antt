@@ -1,0 +1,5 @@
+pub mod Boxed
+pub mod Laws
+pub mod Owed
+pub mod Sizes
+pub mod Violations

@@ -1,0 +1,34 @@
+-- What each finding says, and by which evidence.
+use Rattle.std.specs.Prelude.{◌≤◌, ℕ, suc, List}
+use Rattle.cdcl.specs.Answers.{IsSpent, IsFull}
+use Rattle.clauses.specs.declared.cnf.Cnf.{Cnf}
+use Rattle.circuit_theory.specs.Sizes.{IsTooLarge}
+use Rattle.netlist.specs.Design.{Design}
+use Rattle.netlist.specs.declared.run.Run.{Run}
+use Rattle.psl_tree.specs.declared.directive.Directive.{Directive}
+use Rattle.search_theory.specs.Found.{run_size}
+use Rattle.prover.specs.Queries.{ComesUp, IsFormulaOf, clauses_of, variables_of}
+use Rattle.prover.specs.Violating.{NoneBelow, Violates}
+use Rattle.prover.specs.declared.finding.Finding.{Finding}
+use Rattle.prover.specs.declared.finding.Finding.TheVariants as findings
+use Rattle.prover.specs.declared.options.Options.{Options}
+
+-- a shortest run that violates what is owed, within the depth
+pub record IsShortest (design : Design) (unit : List Directive) (assertion : Directive) (depth : ℕ) (run : Run) : Type 0 where
+  pub is : Violates design unit assertion run
+  pub within : run_size run ≤ depth
+  pub none_below : NoneBelow design unit assertion (run_size run)
+
+-- a finding with its evidence
+abbrev pub IsFinding : Design → List Directive → Directive → Options → Finding → Type 0
+IsFinding design unit assertion options (findings.Violated run) = IsShortest design unit assertion options.depth run
+IsFinding design unit assertion options findings.Depth = NoneBelow design unit assertion (suc options.depth)
+IsFinding design unit assertion options (findings.Steps query log) =
+    ComesUp design unit assertion options.depth query
+    × (formula : Cnf) × IsFormulaOf design unit assertion query formula × IsSpent formula options.steps log
+IsFinding design unit assertion options (findings.LogFull query log) =
+    ComesUp design unit assertion options.depth query
+    × (formula : Cnf) × IsFormulaOf design unit assertion query formula × IsFull formula options.steps log
+IsFinding design unit assertion options (findings.Large query) =
+    ComesUp design unit assertion options.depth query
+    × IsTooLarge (variables_of design unit assertion query) (clauses_of design unit assertion query)

@@ -1,0 +1,5 @@
+pub mod Findings
+pub mod Queries
+pub mod Sized
+pub mod Tasks
+pub mod Violating

@@ -1,0 +1,11 @@
+use Rattle.std.proofs.Common.{drop, IsTrue}
+use Rattle.clauses.specs.Literals.{clause_within}
+use Rattle.circuit_theory.specs.Unrolled.{units}
+use Rattle.run_formulas.proofs.Additions.{AddsSoFar}
+use Rattle.run_formulas.proofs.adding.add_units.Given as goal
+
+abbrev pub invariant-loop-i : goal.invariant-loop-i
+invariant-loop-i l = record {
+  so_far : AddsSoFar l.initial.cnf l.cnf (units l.base (drop l.i l.literals)) (units l.base l.literals);
+  within : IsTrue (clause_within l.variables (drop l.i l.literals));
+}

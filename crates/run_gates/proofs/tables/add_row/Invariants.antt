@@ -1,0 +1,15 @@
+use Rattle.std.proofs.Common.{drop, map, true}
+use Rattle.circuit_theory.specs.Terms.{with_conjunction}
+use Rattle.circuit_theory.specs.Terms.Term.{Literal, Conjunction}
+use Rattle.run_terms.specs.Booleans.{constant}
+use Rattle.run_terms.specs.Tables.{row_literals}
+use Rattle.run_gates.specs.Building.{place_at}
+use Rattle.run_gates.proofs.Folds.{JoinedSoFar}
+use Rattle.run_gates.proofs.tables.add_row.Given as goal
+
+abbrev pub invariant-loop-i : goal.invariant-loop-i
+invariant-loop-i l = record {
+  so_far : JoinedSoFar Conjunction with_conjunction (constant true) l.initial.gates l.gates l.found
+      (map Literal (row_literals (drop l.i l.marks) (map (place_at l.offset) (drop l.i l.inputs))))
+      (map Literal (row_literals l.marks (map (place_at l.offset) l.inputs)));
+}

@@ -1,0 +1,16 @@
+pub mod Asked
+pub mod BooleanValues
+pub mod Driven
+pub mod FormulaSizes
+pub mod LetterRuns
+pub mod Logic
+pub mod MoveSizes
+pub mod MoveValues
+pub mod Netlists
+pub mod NumberValues
+pub mod Positions
+pub mod PositiveValues
+pub mod Ranges
+pub mod TableSizes
+pub mod TableValues
+pub mod Wholes

@@ -1,0 +1,10 @@
+pub mod Automata
+pub mod Booleans
+pub mod Combinations
+pub mod Formulas
+pub mod Letters
+pub mod Moves
+pub mod Numbers
+pub mod Positions
+pub mod Sizes
+pub mod Tables

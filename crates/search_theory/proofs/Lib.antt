@@ -1,0 +1,11 @@
+pub mod Closes
+pub mod Debts
+pub mod Digits
+pub mod Finds
+pub mod Joins
+pub mod Makes
+pub mod Models
+pub mod Ranges
+pub mod Ranks
+pub mod Readings
+pub mod Sizes

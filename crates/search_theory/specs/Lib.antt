@@ -1,0 +1,4 @@
+pub mod Bulk
+pub mod Found
+pub mod Numbers
+pub mod Searches
