@@ -2,12 +2,14 @@
 ghost use Rattle.std.specs.Prelude.{◌≡◌, ◌≤◌, length, IfOk, IfErr};
 ghost use Rattle.psl_base.specs.Places.{file_limit};
 ghost use Rattle.psl_base.specs.Shelf.{OnlyReads};
+ghost use Rattle.dimacs.specs.Formulas.{StandsFor};
 ghost use Rattle.sat_command.specs.Requests.{asked_by};
 ghost use Rattle.sat_command.specs.Running.{IsSolved, IsReadingFault, IsAnswerFor, IsTextFault, limit_of};
 
 use crate::Fault;
 use crate::words::Request;
 use cdcl::{Answer, solve};
+use clauses::Cnf;
 use dimacs::{DimacsFault, read_dimacs};
 use psl_base::{Bytes, FILE_LIMIT, Shelf, read_all};
 use std::alloc::Global;
@@ -23,7 +25,7 @@ pub(crate) fn solved<F: Shelf>(
     ensures rest { OnlyReads (F.state files.old) (F.state files.new) }
 {
     let text = read_all(alloc, files, request.file, FILE_LIMIT)?;
-    answer(alloc, &text, steps_of(request))
+    answer(alloc, text, steps_of(request))
 }
 
 /// How many lemmas may be learned.
@@ -36,17 +38,26 @@ fn steps_of(request: &Request<'_>) -> u64
     }
 }
 
-/// The answer for the formula of a text.
-fn answer(alloc: Global, text: &Bytes, steps: u64) -> Result<Answer, Fault>
-    requires { length text.now ≤ file_limit }
-    ensures ok { IfOk result (IsAnswerFor text.now steps) }
-    ensures err { IfErr result (IsTextFault text.now) }
+/// The answer for the formula of a text. The text is gone when the formula is solved.
+fn answer(alloc: Global, text: Bytes, steps: u64) -> Result<Answer, Fault>
+    requires { length text ≤ file_limit }
+    ensures ok { IfOk result (IsAnswerFor text steps) }
+    ensures err { IfErr result (IsTextFault text) }
 {
-    let cnf = match read_dimacs(alloc, text.as_slice()) {
-        Ok(cnf) => cnf,
-        Err(DimacsFault::NoMemory) => return Err(Fault::NoMemory),
-        Err(fault) => return Err(Fault::Format(fault)),
-    };
+    let cnf = formula(alloc, text)?;
     let answer = solve(alloc, &cnf, steps)?;
     Ok(answer)
+}
+
+/// The formula that a text stands for.
+fn formula(alloc: Global, text: Bytes) -> Result<Cnf, Fault>
+    requires { length text ≤ file_limit }
+    ensures ok { IfOk result (λ cnf. StandsFor text cnf.variables cnf.clauses) }
+    ensures err { IfErr result (IsTextFault text) }
+{
+    match read_dimacs(alloc, text.as_slice()) {
+        Ok(cnf) => Ok(cnf),
+        Err(DimacsFault::NoMemory) => Err(Fault::NoMemory),
+        Err(fault) => Err(Fault::Format(fault)),
+    }
 }
