@@ -36,7 +36,8 @@ impl Places {
 fn add_closing(cnf: &mut Cnf, places: Places, position: u32) -> Result<(), CnfFault>
     requires fits { suc places.last * places.size ≡ cnf.old.variables }
     requires below { position < places.last }
-    ensures { Adds cnf.old cnf.new (under (pos (position * places.size + suc (places.layout.width + places.layout.width)))
+    ensures { Adds cnf.old cnf.new (under
+        (pos (position * places.size + suc (places.layout.width + places.layout.width)))
         (closing_clauses places.layout.signals places.layout.obligations places.size places.last position)) result }
 {
     let (signals, width) = (places.layout.signals, places.layout.width);

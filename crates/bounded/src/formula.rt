@@ -1,9 +1,12 @@
 // The formula of a search.
-ghost use Rattle.std.specs.Prelude.{◌≡◌, ◌↔◌, IfErr, IfOk};
+ghost use Rattle.std.specs.Prelude.{◌≡◌, ◌↔◌, ◌*◌, ◌≤◌, suc, length, IfErr, IfOk};
 ghost use Rattle.clauses.specs.declared.flat.CnfFault.{CnfFault};
+ghost use Rattle.clauses.specs.Literals.{clause_words};
 ghost use Rattle.circuit_theory.specs.Sizes.{IsTooLarge};
+ghost use Rattle.psl_tree.specs.declared.counts.TheConstants.{MOST_OBLIGATIONS};
 ghost use Rattle.run_terms.specs.Automata.{TestsSignals};
 ghost use Rattle.run_terms.specs.Formulas.{HasModel};
+ghost use Rattle.search_theory.specs.Bulk.{search_bulk};
 ghost use Rattle.search_theory.specs.Found.{SomeFound};
 ghost use Rattle.search_theory.specs.Searches.{search_clauses, search_variables};
 
@@ -35,6 +38,10 @@ pub fn search_formula(
     ensures models { IfOk result (λ cnf. HasModel cnf.variables cnf.clauses ↔ SomeFound netlist.now violation.now n) }
     ensures fits { IfOk result (λ cnf. IsTooLarge (search_variables netlist.now violation.now n)
         (search_clauses netlist.now violation.now n) → ⊥) }
+    ensures words { IfOk result (λ cnf. length violation.now.obligations ≤ MOST_OBLIGATIONS
+        → clause_words cnf.clauses ≤ 1000 * suc n * suc n * search_bulk netlist.now violation.now) }
+    ensures few { IfOk result (λ cnf. length violation.now.obligations ≤ MOST_OBLIGATIONS
+        → cnf.variables ≤ 1000 * suc n * suc n * search_bulk netlist.now violation.now) }
     ensures large { IfErr result (λ fault. fault ≡ CnfFault.TooLarge
         → IsTooLarge (search_variables netlist.now violation.now n) (search_clauses netlist.now violation.now n)) }
 {

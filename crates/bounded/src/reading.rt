@@ -15,8 +15,8 @@ use netlist::{Netlist, Run, Valuations, soundness_law};
 use psl_base::{Bits, NoMemory};
 use std::alloc::Global;
 
-/// The run that a model of a search gives. Its loop begins with the first valuation of which the model says so; the word
-/// of the run is one that the automaton accepts.
+/// The run that a model of a search gives. Its loop begins with the first valuation of which the model says so; the
+/// word of the run is one that the automaton accepts.
 pub fn read_run(
     alloc: Global,
     netlist: &Netlist,

@@ -24,7 +24,8 @@ impl Owing for Serving<'_> {
 
     ghost count = { λ serving. length serving.violation.now.obligations };
 
-    ghost term = { λ serving. served_term serving.layout.signals serving.violation.now serving.layout.width serving.obligation };
+    ghost term = { λ serving. served_term serving.layout.signals serving.violation.now serving.layout.width
+        serving.obligation };
 
     fn add_owed(&self, gates: &mut Builder, number: u32) -> Result<i32, CnfFault> {
         let layout = self.layout;

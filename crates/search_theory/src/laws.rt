@@ -10,7 +10,7 @@ ghost use Rattle.netlist.specs.Sound as netlists;
 ghost use Rattle.psl_tree.specs.declared.counts.TheConstants.{MOST_OBLIGATIONS};
 ghost use Rattle.psl_tree.specs.declared.letter.Word.{Word};
 ghost use Rattle.run_terms.specs.Automata.{IsSound, TestsSignals};
-ghost use Rattle.run_terms.specs.Formulas.{values_of, HasModel};
+ghost use Rattle.run_terms.specs.Formulas.{HasModel};
 ghost use Rattle.search_theory.specs.Bulk.{search_bulk};
 ghost use Rattle.search_theory.specs.Found.{run_of, IsFound, SomeFound};
 ghost use Rattle.search_theory.specs.Numbers.{AreSmall, IsSearched};

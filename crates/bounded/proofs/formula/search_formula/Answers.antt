@@ -7,6 +7,7 @@ use Rattle.run_terms.specs.Formulas.{whole}
 use Rattle.search_theory.specs.Searches.{first_clauses, loops_clauses, search, search_clauses, search_size, search_variables, search_width}
 use Rattle.search_theory.proofs.Closes.{search-closed}
 use Rattle.search_theory.proofs.Models.{models-runs}
+use Rattle.search_theory.proofs.Sizes.{variables-most, words-most}
 use Rattle.bounded.proofs.Larges.{back-large, front-large, middle-large, size-fits, wide-large, width-fits}
 use Rattle.bounded.proofs.formula.search_formula.Goals as goal
 
@@ -130,3 +131,39 @@ returns-clause-fits c =
       | inl many ↦ omega (arith, many, count, few)
       | inr many ↦ omega (arith, many, c.formula_is_few.ensures, ap clause_words all)
     ]
+
+pub returns-clause-words : goal.returns-clause-words
+returns-clause-words c =
+    let d = c.args.netlist.now in
+    let a = c.args.violation.now in
+    let n = c.args.n in
+    let layout = c.in_ok-layout.layout in
+    let signals = c.in_ok-layout.ensures.signals ∙ c.signals.ensures in
+    let obligations = c.in_ok-layout.ensures.obligations ∙ c.len.ensures in
+    let width : layout.width ≡ search_width d.signals (length a.obligations) =
+    layout.width_is ∙ ap (λ s. search_width s layout.obligations) signals ∙ ap (λ m. search_width d.signals m) obligations in
+    let size : c.len-2.result ≡ search_size d a = c.len-2.ensures ∙ ap (λ (x : Circuit). length x.gates) c.in_ok-circuit.ensures.circuit in
+    let clauses : c.in_ok-cnf.cnf.clauses ≡ whole (search d a) n = rw c.in_ok-circuit.ensures.circuit at c.in_ok-cnf.ensures.clauses in
+    let variables : c.in_ok-cnf.cnf.variables ≡ search_variables d a n = rw c.in_ok-circuit.ensures.circuit at c.in_ok-cnf.ensures.variables in
+    let added : c.add_first.new.cnf.clauses ≡ whole (search d a) n ++ first_clauses d a = c.in_ok-add_first.ensures.ok ∙ ap (λ xs. xs ++ first_clauses d a) clauses in
+    let all : c.add_loops.new.cnf.clauses ≡ search_clauses d a n = rw (added, width, size, signals, obligations) at c.in_ok-add_loops.ensures.ok in
+    let count : c.add_loops.new.cnf.variables ≡ search_variables d a n = c.in_ok-add_loops.ensures.variables ∙ c.in_ok-add_first.ensures.variables ∙ variables in
+    λ small. rw all (words-most d a c.soundness_law.ensures.sound c.automaton_is_sound.ensures c.requires.tests small n)
+
+pub returns-clause-few : goal.returns-clause-few
+returns-clause-few c =
+    let d = c.args.netlist.now in
+    let a = c.args.violation.now in
+    let n = c.args.n in
+    let layout = c.in_ok-layout.layout in
+    let signals = c.in_ok-layout.ensures.signals ∙ c.signals.ensures in
+    let obligations = c.in_ok-layout.ensures.obligations ∙ c.len.ensures in
+    let width : layout.width ≡ search_width d.signals (length a.obligations) =
+    layout.width_is ∙ ap (λ s. search_width s layout.obligations) signals ∙ ap (λ m. search_width d.signals m) obligations in
+    let size : c.len-2.result ≡ search_size d a = c.len-2.ensures ∙ ap (λ (x : Circuit). length x.gates) c.in_ok-circuit.ensures.circuit in
+    let clauses : c.in_ok-cnf.cnf.clauses ≡ whole (search d a) n = rw c.in_ok-circuit.ensures.circuit at c.in_ok-cnf.ensures.clauses in
+    let variables : c.in_ok-cnf.cnf.variables ≡ search_variables d a n = rw c.in_ok-circuit.ensures.circuit at c.in_ok-cnf.ensures.variables in
+    let added : c.add_first.new.cnf.clauses ≡ whole (search d a) n ++ first_clauses d a = c.in_ok-add_first.ensures.ok ∙ ap (λ xs. xs ++ first_clauses d a) clauses in
+    let all : c.add_loops.new.cnf.clauses ≡ search_clauses d a n = rw (added, width, size, signals, obligations) at c.in_ok-add_loops.ensures.ok in
+    let count : c.add_loops.new.cnf.variables ≡ search_variables d a n = c.in_ok-add_loops.ensures.variables ∙ c.in_ok-add_first.ensures.variables ∙ variables in
+    λ small. rw count (variables-most d a c.soundness_law.ensures.sound c.automaton_is_sound.ensures c.requires.tests small n)

@@ -1,0 +1,7 @@
+pub mod Asked
+pub mod Bases
+pub mod Circuits
+pub mod Frames
+pub mod Pushes
+pub mod Soundness
+pub mod Tests

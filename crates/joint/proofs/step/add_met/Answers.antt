@@ -1,0 +1,33 @@
+use Rattle.std.proofs.Common.{ℕ, List, ◌++◌, ◌∙◌, Ok, map, subst}
+use Rattle.netlist.specs.declared.latch.Latch.{Latch}
+use Rattle.std.specs.List.{range_with_len}
+use Rattle.joint_theory.specs.Bits.{numbers_of}
+use Rattle.joint_theory.specs.Relation.{owed_term, put_off_term}
+use Rattle.run_terms.specs.Moves.{move_terms}
+use Rattle.run_gates.specs.Building.{BuildsAll}
+use Rattle.run_gates.proofs.Terms.{all-then}
+use Rattle.joint.proofs.step.add_met.Goals as goal
+
+pub returns : goal.returns
+returns c =
+    let design = c.args.product.netlist.now in
+    let automaton = c.args.product.violation.now in
+    let width = c.args.product.width in
+    let moves = move_terms design.signals 0 width design.latches in
+    let owed = map (owed_term design automaton width) (numbers_of automaton) in
+    let put_off = map (put_off_term design automaton width) (numbers_of automaton) in
+    let first : BuildsAll c.args.gates.now c.add_moves.new.gates c.args.held.now c.add_moves.new.held moves (Ok tt) =
+    subst (λ (l : List Latch). BuildsAll c.args.gates.now c.add_moves.new.gates c.args.held.now c.add_moves.new.held (move_terms c.args.product.netlist.now.signals 0 c.args.product.width l) (Ok tt))
+    (c.as_slice.ensures ∙ c.latches.ensures)
+    (subst (λ (b : ℕ). BuildsAll c.args.gates.now c.add_moves.new.gates c.args.held.now c.add_moves.new.held (move_terms c.args.product.netlist.now.signals b c.args.product.width c.as_slice.result.now) (Ok tt))
+    c.position.ensures.base
+    (subst (λ (n : ℕ). BuildsAll c.args.gates.now c.add_moves.new.gates c.args.held.now c.add_moves.new.held (move_terms n c.position.result.base c.args.product.width c.as_slice.result.now) (Ok tt))
+    c.position.ensures.signals c.in_ok-add_moves.ensures)) in
+    let second : BuildsAll c.add_moves.new.gates c.add_each.new.gates c.add_moves.new.held c.add_each.new.held owed (Ok tt) =
+    subst (λ (n : ℕ). BuildsAll c.add_moves.new.gates c.add_each.new.gates c.add_moves.new.held c.add_each.new.held (map (owed_term design automaton width) (range_with_len 0 n)) (Ok tt))
+    c.obligations-obligations.ensures c.in_ok-add_each.ensures in
+    let third : BuildsAll c.add_each.new.gates c.add_each-2.new.gates c.add_each.new.held c.add_each-2.new.held put_off c.add_each-2.result =
+    subst (λ (n : ℕ). BuildsAll c.add_each.new.gates c.add_each-2.new.gates c.add_each.new.held c.add_each-2.new.held (map (put_off_term design automaton width) (range_with_len 0 n)) c.add_each-2.result)
+    c.obligations-obligations.ensures c.add_each-2.ensures in
+    all-then c.args.gates.now c.add_each.new.gates c.add_each-2.new.gates c.args.held.now c.add_each.new.held c.add_each-2.new.held (moves ++ owed) put_off c.add_each-2.result
+    (all-then c.args.gates.now c.add_moves.new.gates c.add_each.new.gates c.args.held.now c.add_moves.new.held c.add_each.new.held moves owed (Ok tt) first second) third
