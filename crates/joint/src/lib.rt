@@ -11,6 +11,7 @@ mod literals;
 mod making;
 mod product;
 mod queries;
+mod reading;
 mod starts;
 mod state;
 mod step;

@@ -4,7 +4,7 @@ ghost use Rattle.circuit_theory.specs.Sizes.{IsTooLarge};
 ghost use Rattle.clauses.specs.declared.flat.CnfFault.{CnfFault};
 ghost use Rattle.clauses.specs.declared.flat.TheConstants.{MOST_VARIABLES};
 ghost use Rattle.joint_theory.specs.Queries as spec;
-ghost use Rattle.joint_theory.specs.Queries.{base_variables, joint_circuit};
+ghost use Rattle.joint_theory.specs.Queries.{base_variables, induction_variables, joint_circuit};
 ghost use Rattle.run_terms.specs.Automata.{TestsSignals};
 
 use crate::facts::circuit_is_sound;
@@ -15,6 +15,7 @@ use clauses::{Cnf, CnfFault};
 use psl_base::NoMemory;
 use run_formulas::{add_somewhere, add_units, held_to};
 use std::alloc::Global;
+use window_formulas::induction;
 
 /// Without a position no values are a model.
 pub(crate) fn never(alloc: Global) -> Result<Cnf, CnfFault>
@@ -57,4 +58,29 @@ pub(crate) fn base_of(
     add_units(&mut cnf, 0, size, start.as_slice())?;
     add_somewhere(alloc, &mut cnf, size, window, bad)?;
     Ok(cnf)
+}
+
+/// So many different states as the window that are not bad, and then a bad one.
+pub(crate) fn induction_of(
+    alloc: Global,
+    product: Product<'_>,
+    circuit: &Circuit,
+    window: u32,
+) -> Result<Cnf, CnfFault>
+    requires tests { TestsSignals product.netlist.now product.violation.now }
+    requires circuit { circuit.now ≡ joint_circuit product.netlist.now product.violation.now product.visits }
+    ensures variables { IfOk result (λ cnf. cnf.variables
+        ≡ induction_variables product.entry.netlist.now product.entry.violation.now product.entry.visits window) }
+    ensures clauses { IfOk result (λ cnf. cnf.clauses
+        ≡ spec.induction product.entry.netlist.now product.entry.violation.now product.entry.visits window) }
+    ensures large { IfErr result (λ fault. fault ≡ CnfFault.TooLarge → IsTooLarge
+        (induction_variables product.entry.netlist.now product.entry.violation.now product.entry.visits window)
+        (spec.induction product.entry.netlist.now product.entry.violation.now product.entry.visits window)) }
+{
+    circuit_is_sound(product, circuit);
+    let bad = product.bad_variable();
+    match induction(alloc, circuit, bad, window) {
+        Ok(cnf) => Ok(cnf),
+        Err(fault) => Err(fault),
+    }
 }

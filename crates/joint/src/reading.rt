@@ -1,0 +1,42 @@
+ghost use Rattle.std.specs.Prelude.{◌≡◌, length, IfOk};
+ghost use Rattle.clauses.specs.Models.{IsModel};
+ghost use Rattle.joint_theory.specs.Paths.{IsOpen};
+ghost use Rattle.joint_theory.specs.Queries.{path_of, query, query_variables};
+ghost use Rattle.run_terms.specs.Formulas.{values_of};
+
+use crate::facts::automaton_is_sound;
+use crate::joined::Joint;
+use joint_paths::{Shape, read_path as path_of_model};
+use joint_theory::JointPath;
+use psl_base::{Bits, NoMemory};
+use std::alloc::Global;
+
+impl<'a> Joint<'a> {
+    /// The open path that a model of `base` stands for where `initial` is true, and else one of `induction`.
+    pub fn read_path(
+        &self,
+        alloc: Global,
+        window: u32,
+        initial: bool,
+        model: &Bits,
+    ) -> Result<JointPath, NoMemory>
+        requires values { length model.now
+            ≡ query_variables self.now.design self.now.automaton self.now.visits window initial }
+        requires model { IsModel (values_of model.now)
+            (query self.now.design self.now.automaton self.now.visits window initial) }
+        ensures is { IfOk result (λ path. path
+            ≡ path_of self.now.design self.now.automaton self.now.visits window initial (values_of model.now)) }
+        ensures open { IfOk result (λ path.
+            IsOpen self.now.design self.now.automaton self.now.visits window initial path) }
+    {
+        automaton_is_sound(self.product.violation);
+        let shape = Shape {
+            netlist: self.product.netlist,
+            violation: self.product.violation,
+            visits: self.product.visits,
+            size: self.circuit.gates.len(),
+        };
+        let path = path_of_model(alloc, shape, window, initial, model)?;
+        Ok(path)
+    }
+}
