@@ -8,7 +8,6 @@ ghost use Rattle.run_gates.specs.Building.{BuildsAll};
 ghost use Rattle.run_terms.specs.Automata.{TestsSignals};
 ghost use Rattle.search_theory.specs.Searches.{search, search_size};
 
-use crate::facts::automaton_is_sound;
 use crate::layout::Layout;
 use crate::obligations::add_obligations;
 use alternating::Alternating;
@@ -17,7 +16,7 @@ use clauses::CnfFault;
 use netlist::{Netlist, soundness_law};
 use psl_base::NoMemory;
 use run_formulas::following;
-use run_gates::{Builder, Held, Position, add_moves, add_tables, netlist_law};
+use run_gates::{Builder, Held, Position, add_moves, add_tables, automaton_law, netlist_law};
 use std::alloc::Global;
 
 // The gates of the terms of a search, whose literals are held.
@@ -70,7 +69,7 @@ pub fn search_circuit(
         → MOST_VARIABLES < search_size netlist.now violation.now) }
 {
     soundness_law(netlist);
-    automaton_is_sound(violation);
+    automaton_law(violation);
     let mut gates = Builder::new(alloc);
     let mut held = Held::new(alloc);
     gates.free(layout.width + layout.width + 2)?;

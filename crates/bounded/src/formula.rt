@@ -6,19 +6,20 @@ ghost use Rattle.circuit_theory.specs.Sizes.{IsTooLarge};
 ghost use Rattle.psl_tree.specs.declared.counts.TheConstants.{MOST_OBLIGATIONS};
 ghost use Rattle.run_terms.specs.Automata.{TestsSignals};
 ghost use Rattle.run_terms.specs.Formulas.{HasModel};
-ghost use Rattle.search_theory.specs.Bulk.{search_bulk};
+ghost use Rattle.run_terms.specs.Sizes.{formula_bulk as search_bulk};
 ghost use Rattle.search_theory.specs.Found.{SomeFound};
 ghost use Rattle.search_theory.specs.Searches.{search_clauses, search_variables};
 
 use crate::beginning::add_first;
 use crate::circuit::search_circuit;
 use crate::closing::{Places, add_loops};
-use crate::facts::{automaton_is_sound, formula_is_few};
+use crate::facts::formula_is_few;
 use crate::layout::Layout;
 use alternating::Alternating;
 use clauses::{Cnf, CnfFault};
 use netlist::{Netlist, soundness_law};
 use run_formulas::held_to;
+use run_gates::automaton_law;
 use std::alloc::Global;
 
 /// The formula that has a model exactly where some run of so many valuations has a word that the automaton accepts.
@@ -46,7 +47,7 @@ pub fn search_formula(
         → IsTooLarge (search_variables netlist.now violation.now n) (search_clauses netlist.now violation.now n)) }
 {
     soundness_law(netlist);
-    automaton_is_sound(violation);
+    automaton_law(violation);
     let layout = Layout::of(netlist.signals(), violation.len())?;
     let circuit = search_circuit(alloc, netlist, violation, layout)?;
     let mut cnf = held_to(alloc, &circuit, n)?;

@@ -8,11 +8,11 @@ ghost use Rattle.search_theory.specs.Found as spec;
 ghost use Rattle.search_theory.specs.Found.{run_of, IsFound};
 ghost use Rattle.search_theory.specs.Searches.{search_clauses, search_variables};
 
-use crate::facts::automaton_is_sound;
 use crate::layout::search_width;
 use alternating::Alternating;
 use netlist::{Netlist, Run, Valuations, soundness_law};
 use psl_base::{Bits, NoMemory};
+use run_gates::automaton_law;
 use std::alloc::Global;
 
 /// The run that a model of a search gives. Its loop begins with the first valuation of which the model says so; the
@@ -31,7 +31,7 @@ pub fn read_run(
     ensures found { IfOk result (λ run. IsFound netlist.now violation.now n run) }
 {
     soundness_law(netlist);
-    automaton_is_sound(violation);
+    automaton_law(violation);
     let size = model.len() / (n as usize + 1);
     let width = search_width(netlist.signals(), violation.len()) as usize;
     let values = model.as_slice();

@@ -21,7 +21,7 @@ pub use builder::{Builder, negated};
 pub use combinations::{Owing, add_positive};
 pub use conjunctions::add_all;
 pub use held::Held;
-pub use laws::netlist_law;
+pub use laws::{automaton_law, netlist_law};
 pub use netlists::{add_moves, add_tables, add_tables_before};
 pub use numbers::add_at_most;
 pub use position::Position;

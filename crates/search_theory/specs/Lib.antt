@@ -1,4 +1,3 @@
-pub mod Bulk
 pub mod Found
 pub mod Numbers
 pub mod Searches

@@ -11,7 +11,7 @@ ghost use Rattle.psl_tree.specs.declared.counts.TheConstants.{MOST_OBLIGATIONS};
 ghost use Rattle.psl_tree.specs.declared.letter.Word.{Word};
 ghost use Rattle.run_terms.specs.Automata.{IsSound, TestsSignals};
 ghost use Rattle.run_terms.specs.Formulas.{HasModel};
-ghost use Rattle.search_theory.specs.Bulk.{search_bulk};
+ghost use Rattle.run_terms.specs.Sizes.{formula_bulk as search_bulk};
 ghost use Rattle.search_theory.specs.Found.{run_of, IsFound, SomeFound};
 ghost use Rattle.search_theory.specs.Numbers.{AreSmall, IsSearched};
 ghost use Rattle.search_theory.specs.Searches.{search_clauses, search_variables};

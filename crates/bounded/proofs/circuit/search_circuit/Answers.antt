@@ -12,7 +12,7 @@ returns-in_err-add_terms-clause-large c =
     let design = c.args.netlist.now in
     let automaton = c.args.violation.now in
     let layout = c.args.layout in
-    let size = relation-size (search design automaton) (search-closed design automaton c.soundness_law.ensures.sound c.automaton_is_sound.ensures c.requires.tests) in
+    let size = relation-size (search design automaton) (search-closed design automaton c.soundness_law.ensures.sound c.automaton_law.ensures c.requires.tests) in
     let width : layout.width ≡ search_width design.signals (length automaton.obligations) =
     layout.width_is ∙ ap (λ s. search_width s layout.obligations) c.requires.signals ∙ ap (λ m. search_width design.signals m) c.requires.obligations in
     let frees = rw c.new-gates.ensures at c.in_ok-free.ensures.ok in

@@ -15,19 +15,19 @@ pub returns-in_err-layout-clause-large : goal.returns-in_err-layout-clause-large
 returns-in_err-layout-clause-large c =
     let many = rw (c.signals.ensures, c.len.ensures) at c.in_err-layout.ensures.large in
     let p = err_from_is_err_and c.from_residual.result c.from_residual.ensures.1 in
-    rw (p.1, p.2) (λ e. wide-large c.args.netlist.now c.args.violation.now c.soundness_law.ensures.sound c.automaton_is_sound.ensures c.requires.tests c.args.n many)
+    rw (p.1, p.2) (λ e. wide-large c.args.netlist.now c.args.violation.now c.soundness_law.ensures.sound c.automaton_law.ensures c.requires.tests c.args.n many)
 
 pub held_to-requires-clause-sound : goal.held_to-requires-clause-sound
 held_to-requires-clause-sound c =
     let d = c.args.netlist.now in
     let a = c.args.violation.now in
-    rw c.in_ok-circuit.ensures.circuit (relation-sound (search d a) (search-closed d a c.soundness_law.ensures.sound c.automaton_is_sound.ensures c.requires.tests))
+    rw c.in_ok-circuit.ensures.circuit (relation-sound (search d a) (search-closed d a c.soundness_law.ensures.sound c.automaton_law.ensures c.requires.tests))
 
 pub held_to-requires-clause-some : goal.held_to-requires-clause-some
 held_to-requires-clause-some c =
     let d = c.args.netlist.now in
     let a = c.args.violation.now in
-    rw c.in_ok-circuit.ensures.circuit (omega (arith, width-fits d a c.soundness_law.ensures.sound c.automaton_is_sound.ensures c.requires.tests c.args.n))
+    rw c.in_ok-circuit.ensures.circuit (omega (arith, width-fits d a c.soundness_law.ensures.sound c.automaton_law.ensures c.requires.tests c.args.n))
 
 pub returns-in_err-cnf-clause-large : goal.returns-in_err-cnf-clause-large
 returns-in_err-cnf-clause-large c =
@@ -50,8 +50,8 @@ add_first-requires-clause-fits c =
     let variables : c.in_ok-cnf.cnf.variables ≡ search_variables d a n = rw c.in_ok-circuit.ensures.circuit at c.in_ok-cnf.ensures.variables in
     rw (width, variables) (omega (
       arith,
-      width-fits d a c.soundness_law.ensures.sound c.automaton_is_sound.ensures c.requires.tests n,
-      size-fits d a c.soundness_law.ensures.sound c.automaton_is_sound.ensures c.requires.tests n,
+      width-fits d a c.soundness_law.ensures.sound c.automaton_law.ensures c.requires.tests n,
+      size-fits d a c.soundness_law.ensures.sound c.automaton_law.ensures c.requires.tests n,
     ))
 
 pub returns-in_err-add_first-clause-large : goal.returns-in_err-add_first-clause-large
@@ -73,7 +73,7 @@ invariant_of-places c =
     layout.width_is ∙ ap (λ s. search_width s layout.obligations) (c.in_ok-layout.ensures.signals ∙ c.signals.ensures)
     ∙ ap (λ m. search_width d.signals m) (c.in_ok-layout.ensures.obligations ∙ c.len.ensures) in
     let size : c.len-2.result ≡ search_size d a = c.len-2.ensures ∙ ap (λ (x : Circuit). length x.gates) c.in_ok-circuit.ensures.circuit in
-    record { room = omega (arith, width, size, width-fits d a c.soundness_law.ensures.sound c.automaton_is_sound.ensures c.requires.tests c.args.n) }
+    record { room = omega (arith, width, size, width-fits d a c.soundness_law.ensures.sound c.automaton_law.ensures c.requires.tests c.args.n) }
 
 pub returns-in_err-add_loops-clause-large : goal.returns-in_err-add_loops-clause-large
 returns-in_err-add_loops-clause-large c =
@@ -108,7 +108,7 @@ returns-clause-models c =
     let added : c.add_first.new.cnf.clauses ≡ whole (search d a) n ++ first_clauses d a = c.in_ok-add_first.ensures.ok ∙ ap (λ xs. xs ++ first_clauses d a) clauses in
     let all : c.add_loops.new.cnf.clauses ≡ search_clauses d a n = rw (added, width, size, signals, obligations) at c.in_ok-add_loops.ensures.ok in
     let count : c.add_loops.new.cnf.variables ≡ search_variables d a n = c.in_ok-add_loops.ensures.variables ∙ c.in_ok-add_first.ensures.variables ∙ variables in
-    rw (all, count) (models-runs d a c.soundness_law.ensures.sound c.automaton_is_sound.ensures c.requires.tests n)
+    rw (all, count) (models-runs d a c.soundness_law.ensures.sound c.automaton_law.ensures c.requires.tests n)
 
 pub returns-clause-fits : goal.returns-clause-fits
 returns-clause-fits c =
@@ -148,7 +148,7 @@ returns-clause-words c =
     let added : c.add_first.new.cnf.clauses ≡ whole (search d a) n ++ first_clauses d a = c.in_ok-add_first.ensures.ok ∙ ap (λ xs. xs ++ first_clauses d a) clauses in
     let all : c.add_loops.new.cnf.clauses ≡ search_clauses d a n = rw (added, width, size, signals, obligations) at c.in_ok-add_loops.ensures.ok in
     let count : c.add_loops.new.cnf.variables ≡ search_variables d a n = c.in_ok-add_loops.ensures.variables ∙ c.in_ok-add_first.ensures.variables ∙ variables in
-    λ small. rw all (words-most d a c.soundness_law.ensures.sound c.automaton_is_sound.ensures c.requires.tests small n)
+    λ small. rw all (words-most d a c.soundness_law.ensures.sound c.automaton_law.ensures c.requires.tests small n)
 
 pub returns-clause-few : goal.returns-clause-few
 returns-clause-few c =
@@ -166,4 +166,4 @@ returns-clause-few c =
     let added : c.add_first.new.cnf.clauses ≡ whole (search d a) n ++ first_clauses d a = c.in_ok-add_first.ensures.ok ∙ ap (λ xs. xs ++ first_clauses d a) clauses in
     let all : c.add_loops.new.cnf.clauses ≡ search_clauses d a n = rw (added, width, size, signals, obligations) at c.in_ok-add_loops.ensures.ok in
     let count : c.add_loops.new.cnf.variables ≡ search_variables d a n = c.in_ok-add_loops.ensures.variables ∙ c.in_ok-add_first.ensures.variables ∙ variables in
-    λ small. rw count (variables-most d a c.soundness_law.ensures.sound c.automaton_is_sound.ensures c.requires.tests small n)
+    λ small. rw count (variables-most d a c.soundness_law.ensures.sound c.automaton_law.ensures c.requires.tests small n)

@@ -1,7 +1,7 @@
 use Rattle.std.proofs.Common.{ℕ, ◌<◌, length}
 use Rattle.alternating_theory.specs.Obligations.{obligation_at}
 use Rattle.alternating_theory.specs.Positive.{OwesWithin}
-use Rattle.bounded.proofs.facts.automaton_is_sound.Given as goal
+use Rattle.run_gates.proofs.laws.automaton_law.Given as goal
 
 abbrev pub invariant-loop-obligation : goal.invariant-loop-obligation
 invariant-loop-obligation l = (k : ℕ) → k < l.obligation
