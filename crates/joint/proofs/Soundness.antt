@@ -1,14 +1,11 @@
--- What holds of the circuit of the joint states, and formulas that are too large with a part of them.
-use Rattle.std.proofs.Common.{◌≡◌, inl, inr, ℕ, ◌+◌, ◌<◌, ◌≤◌, ℤ, List, ◌++◌, length, sym, subst, arith}
+-- What holds of the circuit of the joint states.
+use Rattle.std.proofs.Common.{◌≡◌, ℕ, ◌≤◌, length, sym, subst, arith}
 use Rattle.std.specs.Prelude.{IsTrue}
 use Rattle.alternating_theory.specs.Obligations.{Automaton}
 use Rattle.circuit_theory.specs.declared.circuit.Circuit.{Circuit}
 use Rattle.circuit_theory.specs.Circuits as circuits
-use Rattle.circuit_theory.specs.Sizes.{IsTooLarge}
 use Rattle.circuit_theory.proofs.Chains.{relation-sound}
-use Rattle.circuit_theory.proofs.Sizes.{words-append}
-use Rattle.clauses.specs.declared.flat.TheConstants.{MOST_WORDS}
-use Rattle.clauses.specs.Literals.{clause_within, clause_words}
+use Rattle.clauses.specs.Literals.{clause_within}
 use Rattle.netlist.specs.Design.{Design}
 use Rattle.netlist.specs.Sound as netlists
 use Rattle.run_terms.specs.Automata as automata
@@ -31,10 +28,3 @@ module _ (design : Design) (automaton : Automaton) (visits : ℕ) (sound : netli
   start-is_within =
       subst (λ (c : Circuit). IsTrue (clause_within (length c.gates) (start_literals design automaton visits))) (sym is)
       (start-within design automaton visits sound right tests (joint_size design automaton visits) (width-fits design automaton visits sound right tests))
-
-pub large-late : (variables : ℕ) (clauses more : List (List ℤ)) → IsTooLarge variables clauses → IsTooLarge variables (clauses ++ more)
-large-late variables clauses more (inl much) = inl much
-large-late variables clauses more (inr much) = inr (omega (arith, words-append clauses more))
-
-pub large-words : (variables : ℕ) (clauses more : List (List ℤ)) → MOST_WORDS < clause_words clauses + clause_words more → IsTooLarge variables (clauses ++ more)
-large-words variables clauses more much = inr (omega (arith, words-append clauses more))

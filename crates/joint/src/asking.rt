@@ -8,7 +8,7 @@ ghost use Rattle.run_terms.specs.Formulas.{HasModel};
 
 use crate::facts::circuit_is_sound;
 use crate::joined::Joint;
-use crate::queries::{base_of, induction_of, never};
+use crate::queries::{base_of, induction_of};
 use clauses::{Cnf, CnfFault};
 use std::alloc::Global;
 
@@ -31,11 +31,7 @@ impl<'a> Joint<'a> {
             (spec.base self.now.design self.now.automaton self.now.visits window)) }
     {
         circuit_is_sound(self.product, &self.circuit);
-        if window == 0 {
-            never(alloc)
-        } else {
-            base_of(alloc, self.product, &self.circuit, window)
-        }
+        base_of(alloc, self.product, &self.circuit, window)
     }
 
     /// The formula that looks for so many different joint states as the window that are not bad, each of which may follow

@@ -8,19 +8,9 @@ ghost use Rattle.netlist.specs.Sound as netlists;
 ghost use Rattle.run_terms.specs.Automata.{IsSound, TestsSignals};
 
 use crate::product::Product;
-use alternating::Alternating;
 use circuit_theory::Circuit;
 use netlist::soundness_law;
-
-/// The start of an automaton is one of its obligations, and so is all that its obligations owe.
-pub(crate) fn automaton_is_sound(violation: &Alternating)
-    ensures { IsSound violation.now }
-{
-    let _start = violation.start();
-    for obligation in 0..violation.len() {
-        let _asked = violation.delta(obligation);
-    }
-}
+use run_gates::automaton_law;
 
 /// The circuit of the joint states is sound, and the literals of an initial and of a bad state are of its gates.
 pub(crate) fn circuit_is_sound(product: Product<'_>, circuit: &Circuit)
@@ -35,5 +25,5 @@ pub(crate) fn circuit_is_sound(product: Product<'_>, circuit: &Circuit)
     ensures width { product.entry.width ≤ length circuit.entry.now.gates }
 {
     soundness_law(product.netlist);
-    automaton_is_sound(product.violation);
+    automaton_law(product.violation);
 }

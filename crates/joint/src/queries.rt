@@ -1,8 +1,7 @@
 // The formulas that look for an open path of a window.
-ghost use Rattle.std.specs.Prelude.{◌≡◌, ◌<◌, ◌≤◌, [], ◌∷◌, length, IfOk, IfErr};
+ghost use Rattle.std.specs.Prelude.{◌≡◌, IfOk, IfErr};
 ghost use Rattle.circuit_theory.specs.Sizes.{IsTooLarge};
 ghost use Rattle.clauses.specs.declared.flat.CnfFault.{CnfFault};
-ghost use Rattle.clauses.specs.declared.flat.TheConstants.{MOST_VARIABLES};
 ghost use Rattle.joint_theory.specs.Queries as spec;
 ghost use Rattle.joint_theory.specs.Queries.{base_variables, induction_variables, joint_circuit};
 ghost use Rattle.run_terms.specs.Automata.{TestsSignals};
@@ -13,32 +12,18 @@ use crate::starts::start_literals;
 use circuit_theory::Circuit;
 use clauses::{Cnf, CnfFault};
 use psl_base::NoMemory;
-use run_formulas::{add_somewhere, add_units, held_to};
 use std::alloc::Global;
-use window_formulas::induction;
+use window_formulas::{base, induction};
 
-/// Without a position no values are a model.
-pub(crate) fn never(alloc: Global) -> Result<Cnf, CnfFault>
-    ensures variables { IfOk result (λ cnf. cnf.variables ≡ 0) }
-    ensures clauses { IfOk result (λ cnf. cnf.clauses ≡ [] ∷ []) }
-    ensures large { IfErr result (λ fault. fault ≡ CnfFault.TooLarge → ⊥) }
-{
-    let mut cnf = Cnf::new(alloc, 0);
-    cnf.push(&[])?;
-    Ok(cnf)
-}
-
-/// An initial state, and a bad one among so many positions as the window, of which there are some.
+/// An initial state, and a bad one among so many positions as the window.
 pub(crate) fn base_of(
     alloc: Global,
     product: Product<'_>,
     circuit: &Circuit,
     window: u32,
 ) -> Result<Cnf, CnfFault>
-    requires some { 0 < window }
     requires tests { TestsSignals product.netlist.now product.violation.now }
     requires circuit { circuit.now ≡ joint_circuit product.netlist.now product.violation.now product.visits }
-    requires few { length circuit.now.gates ≤ MOST_VARIABLES }
     ensures variables { IfOk result (λ cnf. cnf.variables
         ≡ base_variables product.entry.netlist.now product.entry.violation.now product.entry.visits window) }
     ensures clauses { IfOk result (λ cnf. cnf.clauses
@@ -48,16 +33,15 @@ pub(crate) fn base_of(
         (spec.base product.entry.netlist.now product.entry.violation.now product.entry.visits window)) }
 {
     circuit_is_sound(product, circuit);
-    let size = circuit.gates.len() as u32;
     let bad = product.bad_variable();
     let start = match start_literals(alloc, product) {
         Ok(start) => start,
         Err(NoMemory) => return Err(CnfFault::NoMemory),
     };
-    let mut cnf = held_to(alloc, circuit, window - 1)?;
-    add_units(&mut cnf, 0, size, start.as_slice())?;
-    add_somewhere(alloc, &mut cnf, size, window, bad)?;
-    Ok(cnf)
+    match base(alloc, circuit, start.as_slice(), bad, window) {
+        Ok(cnf) => Ok(cnf),
+        Err(fault) => Err(fault),
+    }
 }
 
 /// So many different states as the window that are not bad, and then a bad one.

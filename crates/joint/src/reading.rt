@@ -4,11 +4,11 @@ ghost use Rattle.joint_theory.specs.Paths.{IsOpen};
 ghost use Rattle.joint_theory.specs.Queries.{path_of, query, query_variables};
 ghost use Rattle.run_terms.specs.Formulas.{values_of};
 
-use crate::facts::automaton_is_sound;
 use crate::joined::Joint;
 use joint_paths::{Shape, read_path as path_of_model};
 use joint_theory::JointPath;
 use psl_base::{Bits, NoMemory};
+use run_gates::automaton_law;
 use std::alloc::Global;
 
 impl<'a> Joint<'a> {
@@ -29,7 +29,7 @@ impl<'a> Joint<'a> {
         ensures open { IfOk result (λ path.
             IsOpen self.now.design self.now.automaton self.now.visits window initial path) }
     {
-        automaton_is_sound(self.product.violation);
+        automaton_law(self.product.violation);
         let shape = Shape {
             netlist: self.product.netlist,
             violation: self.product.violation,

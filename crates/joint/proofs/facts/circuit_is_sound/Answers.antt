@@ -6,7 +6,7 @@ pub returns : goal.returns
 returns c =
     let product = c.args.product in
     let sound = c.soundness_law.ensures.sound in
-    let right = c.automaton_is_sound.ensures in
+    let right = c.automaton_law.ensures in
     let wide = is-wide product.netlist.now product.violation.now product.visits sound right c.requires.tests c.args.circuit.now c.requires.circuit in
     let width = product.width_is in
     record {

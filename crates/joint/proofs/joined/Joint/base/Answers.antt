@@ -1,12 +1,27 @@
-use Rattle.std.proofs.Common.{true}
+use Rattle.std.proofs.Common.{◌≡◌, subst, true}
+use Rattle.std.specs.Prelude.{IfOk, IfErr}
+use Rattle.circuit_theory.specs.Sizes.{IsTooLarge}
+use Rattle.clauses.specs.declared.flat.CnfFault.{CnfFault}
+use Rattle.joint.specs.Joined.{Joined}
 use Rattle.joint_theory.specs.Paths.{SomeOpen}
 use Rattle.joint_theory.specs.Queries.{base, base_variables}
 use Rattle.joint_theory.proofs.Queries.{query-models}
 use Rattle.joint.proofs.Asked.{models-of}
 use Rattle.joint.proofs.joined.Joint.base.Goals as goal
 
-pub returns-else-window-eq0-clause-models : goal.returns-else-window-eq0-clause-models
-returns-else-window-eq0-clause-models c =
+pub returns-clause-clauses : goal.returns-clause-clauses
+returns-clause-clauses c =
+    subst (λ (j : Joined). IfOk c.base_of.result (λ cnf. cnf.clauses ≡ base j.design j.automaton j.visits c.args.window))
+    c.self.view_is c.base_of.ensures.clauses
+
+pub returns-clause-large : goal.returns-clause-large
+returns-clause-large c =
+    subst (λ (j : Joined). IfErr c.base_of.result (λ fault. fault ≡ CnfFault.TooLarge
+    → IsTooLarge (base_variables j.design j.automaton j.visits c.args.window) (base j.design j.automaton j.visits c.args.window)))
+    c.self.view_is c.base_of.ensures.large
+
+pub returns-clause-models : goal.returns-clause-models
+returns-clause-models c =
     let product = c.self.inside.product in
     let design = product.netlist.now in
     let automaton = product.violation.now in
