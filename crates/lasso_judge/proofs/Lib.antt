@@ -8,6 +8,7 @@ pub mod Charted
 pub mod Drawn
 pub mod Edges
 pub mod Followed
+pub mod Fresh
 pub mod Starts
 pub mod Untils
 pub mod Visiting

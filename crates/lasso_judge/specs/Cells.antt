@@ -70,6 +70,20 @@ cells_back states letter arrows [] numbers = []
 cells_back states letter arrows (place ∷ places) numbers =
     cells_at states letter arrows place numbers ++ cells_back states letter arrows places numbers
 
+-- the same without the cells that are marked
+abbrev pub fresh_at : List State → (ℕ → Letter) → List Arrow → List Truth → ℕ → List ℕ → List ℕ
+fresh_at states letter arrows marks place [] = []
+fresh_at states letter arrows marks place (number ∷ numbers) =
+    (if not (value_at marks (cell_of (length states) place (arrow_at arrows number).state))
+    && holds (letter place) (label_of states (arrow_at arrows number))
+    then cell_of (length states) place (arrow_at arrows number).state ∷ [] else [])
+    ++ fresh_at states letter arrows marks place numbers
+
+abbrev pub fresh_back : List State → (ℕ → Letter) → List Arrow → List Truth → List ℕ → List ℕ → List ℕ
+fresh_back states letter arrows marks [] numbers = []
+fresh_back states letter arrows marks (place ∷ places) numbers =
+    fresh_at states letter arrows marks place numbers ++ fresh_back states letter arrows marks places numbers
+
 -- each state is marked from which no final state is reached, over letters Top
 pub record AreDead (states : List State) (cells : ℕ) (marks : List Truth) : Type 0 where
   pub same_length : length marks ≡ cells

@@ -1,29 +1,33 @@
-ghost use Rattle.std.specs.Prelude.{◌≡◌, ◌/◌, ◌%◌, ◌<◌, ◌++◌, All, [], ◌∷◌, length};
+ghost use Rattle.std.specs.Prelude.{◌≡◌, ◌/◌, ◌%◌, ◌<◌, ◌++◌, ◌&&◌, All, [], ◌∷◌, not, length};
 ghost use Rattle.std.specs.Prelude.{if◌then◌else◌, slice_index_or, OnOk};
 ghost use Rattle.psl_tree.specs.Holds.{holds};
 ghost use Rattle.lasso_judge.specs.Arrows.{arrow_at, label_of, IsChart, IsDrawn};
-ghost use Rattle.lasso_judge.specs.Cells.{cells_at, cells_back, cell_of};
+ghost use Rattle.lasso_judge.specs.Cells.{cell_of, fresh_at, fresh_back};
 ghost use Rattle.lasso_judge.specs.Seen.{seen_at};
+ghost use Rattle.lasso_judge.specs.Tables.{value_at};
 
 use crate::chart::Chart;
 use crate::places::holds_at;
 use psl_base::NoMemory;
 use psl_tree::Word;
 
-/// Lists the cells from which one letter leads to a cell, in place of what is listed there.
+/// Lists the cells that are not marked and from which one letter leads to a cell, in place of what is listed
+/// there.
 #[inline(never)]
 pub(crate) fn cells_before(
     chart: &Chart,
     word: &Word,
     next: &[usize],
     flipped: bool,
+    marks: &[bool],
     cell: u32,
     found: &mut Vec<u32>,
 ) -> Result<(), NoMemory>
     requires chart { IsChart next.now chart.now }
+    requires marks { length marks.now ≡ chart.now.cells }
     requires within { cell < chart.now.cells }
     ensures { OnOk result (found.new.items ≡
-        cells_back chart.now.nfa.states (λ place. seen_at word.now flipped place) chart.now.arrows.items
+        fresh_back chart.now.nfa.states (λ place. seen_at word.now flipped place) chart.now.arrows.items marks.now
         (slice_index_or chart.now.before.items (cell / length chart.now.nfa.states) [])
         (slice_index_or chart.now.into.items (cell % length chart.now.nfa.states) [])) }
 {
@@ -31,77 +35,106 @@ pub(crate) fn cells_before(
     let before = chart.before[cell as usize / states].as_slice();
     let into = chart.into[cell as usize % states].as_slice();
     found.clear();
-    add_back(chart, word, flipped, before, into, found)
+    add_back(chart, word, flipped, marks, before, into, found)
 }
 
-// Adds the cells of some places from which these arrows can be taken.
+// Adds the cells of some places that are not marked and from which these arrows can be taken.
 fn add_back(
     chart: &Chart,
     word: &Word,
     flipped: bool,
+    marks: &[bool],
     places: &[usize],
     arrows: &[usize],
     found: &mut Vec<u32>,
 ) -> Result<(), NoMemory>
     requires chart { IsDrawn chart.now }
+    requires marks { length marks.now ≡ chart.now.cells }
     requires places { All (λ place. place < length chart.now.before.items) places.now }
     requires arrows { All (λ number. number < length chart.now.arrows.items) arrows.now }
     ensures { OnOk result (found.new.items ≡
         found.old.items
-        ++ cells_back chart.now.nfa.states (λ place. seen_at word.now flipped place) chart.now.arrows.items places.now
-        arrows.now) }
+        ++ fresh_back chart.now.nfa.states (λ place. seen_at word.now flipped place) chart.now.arrows.items marks.now
+        places.now arrows.now) }
 {
     for place in places {
-        add_at(chart, word, flipped, *place, arrows, found)?;
+        add_at(chart, word, flipped, marks, *place, arrows, found)?;
     }
     Ok(())
 }
 
-// Adds the cells of a place from which these arrows can be taken.
+// Adds the cells of a place that are not marked and from which these arrows can be taken.
 fn add_at(
     chart: &Chart,
     word: &Word,
     flipped: bool,
+    marks: &[bool],
     place: usize,
     arrows: &[usize],
     found: &mut Vec<u32>,
 ) -> Result<(), NoMemory>
     requires chart { IsDrawn chart.now }
+    requires marks { length marks.now ≡ chart.now.cells }
     requires place { place < length chart.now.before.items }
     requires arrows { All (λ number. number < length chart.now.arrows.items) arrows.now }
     ensures { OnOk result (found.new.items ≡
         found.old.items
-        ++ cells_at chart.now.nfa.states (λ place. seen_at word.now flipped place) chart.now.arrows.items place
-        arrows.now) }
+        ++ fresh_at chart.now.nfa.states (λ place. seen_at word.now flipped place) chart.now.arrows.items marks.now
+        place arrows.now) }
 {
     for number in arrows {
-        add_one(chart, word, flipped, place, *number, found)?;
+        add_one(chart, word, flipped, marks, place, *number, found)?;
     }
     Ok(())
 }
 
-// Adds the cell of a place from which an arrow leads, where it can be taken there.
+// Adds the cell of a place from which an arrow leads, where it is not marked and the arrow can be taken.
 fn add_one(
     chart: &Chart,
     word: &Word,
     flipped: bool,
+    marks: &[bool],
     place: usize,
     number: usize,
     found: &mut Vec<u32>,
 ) -> Result<(), NoMemory>
     requires chart { IsDrawn chart.now }
+    requires marks { length marks.now ≡ chart.now.cells }
     requires place { place < length chart.now.before.items }
     requires arrow { number < length chart.now.arrows.items }
     ensures { OnOk result (found.new.items ≡
         found.old.items
-        ++ (if holds (seen_at word.now flipped place)
+        ++ (if not (value_at marks.now (cell_of (length chart.now.nfa.states) place
+        (arrow_at chart.now.arrows.items number).state))
+        && holds (seen_at word.now flipped place)
         (label_of chart.now.nfa.states (arrow_at chart.now.arrows.items number))
         then cell_of (length chart.now.nfa.states) place (arrow_at chart.now.arrows.items number).state ∷ [] else [])) }
 {
-    if is_taken(chart, word, flipped, place, number) {
-        found.push(source(chart, place, number))?;
+    let cell = source(chart, place, number);
+    if is_fresh(chart, word, flipped, marks, cell, place, number) {
+        found.push(cell)?;
     }
     Ok(())
+}
+
+// Whether a cell is not marked, and an arrow can be taken at its place. A marked cell is passed over before
+// a label is evaluated.
+fn is_fresh(
+    chart: &Chart,
+    word: &Word,
+    flipped: bool,
+    marks: &[bool],
+    cell: u32,
+    place: usize,
+    number: usize,
+) -> bool
+    requires chart { IsDrawn chart.now }
+    requires cell { cell < length marks.now }
+    requires arrow { number < length chart.now.arrows.items }
+    ensures { result ≡ (not (value_at marks.now cell) && holds (seen_at word.now flipped place)
+        (label_of chart.now.nfa.states (arrow_at chart.now.arrows.items number))) }
+{
+    !marks[cell as usize] && is_taken(chart, word, flipped, place, number)
 }
 
 // Whether an arrow can be taken at a place.
@@ -121,7 +154,8 @@ fn source(chart: &Chart, place: usize, number: usize) -> u32
     requires chart { IsDrawn chart.now }
     requires place { place < length chart.now.before.items }
     requires arrow { number < length chart.now.arrows.items }
-    ensures { result ≡ cell_of (length chart.now.nfa.states) place (arrow_at chart.now.arrows.items number).state }
+    ensures source { result ≡ cell_of (length chart.now.nfa.states) place (arrow_at chart.now.arrows.items number).state }
+    ensures within { result < chart.now.cells }
 {
     let arrow = &chart.arrows[number];
     (place * chart.nfa.len() + arrow.state) as u32

@@ -34,7 +34,7 @@ pub(crate) fn hit_cells(
     let mut marking = ended(alloc, chart, word, flipped, hits)?;
     let mut found = Vec::new(alloc);
     while let Some(cell) = marking.waiting.pop() {
-        cells_before(chart, word, next, flipped, cell, &mut found)?;
+        cells_before(chart, word, next, flipped, &marking.marks, cell, &mut found)?;
         marking.visit_each(&found)?;
     }
     let Marking { marks, waiting: _ } = marking;

@@ -31,7 +31,7 @@ pub(crate) fn fallen_cells(
     let mut marking = first_fallen(alloc, chart, word, next, flipped)?;
     let mut found = Vec::new(alloc);
     while let Some(cell) = marking.waiting.pop() {
-        cells_before(chart, word, next, flipped, cell, &mut found)?;
+        cells_before(chart, word, next, flipped, &marking.marks, cell, &mut found)?;
         fall_each(chart, word, next, flipped, &found, &mut marking)?;
     }
     let Marking { marks, waiting: _ } = marking;

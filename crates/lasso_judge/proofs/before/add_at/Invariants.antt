@@ -1,9 +1,9 @@
 use Rattle.std.proofs.Common.{◌≡◌, ◌++◌, drop}
-use Rattle.lasso_judge.specs.Cells.{cells_at}
+use Rattle.lasso_judge.specs.Cells.{fresh_at}
 use Rattle.lasso_judge.specs.Seen.{seen_at}
 use Rattle.lasso_judge.proofs.before.add_at.Given as goal
 
 abbrev pub invariant-loop-number : goal.invariant-loop-number
 invariant-loop-number l =
-    l.found.items ++ cells_at l.chart.nfa.states (λ place. seen_at l.word l.flipped place) l.chart.arrows.items l.place (drop l.number-index l.arrows)
-    ≡ l.initial.found.items ++ cells_at l.chart.nfa.states (λ place. seen_at l.word l.flipped place) l.chart.arrows.items l.place l.arrows
+    l.found.items ++ fresh_at l.chart.nfa.states (λ place. seen_at l.word l.flipped place) l.chart.arrows.items l.marks l.place (drop l.number-index l.arrows)
+    ≡ l.initial.found.items ++ fresh_at l.chart.nfa.states (λ place. seen_at l.word l.flipped place) l.chart.arrows.items l.marks l.place l.arrows

@@ -1,4 +1,4 @@
-use Rattle.std.proofs.Common.{◌≡◌, ◌∙◌, ◌<◌, [], sym, rules}
+use Rattle.std.proofs.Common.{◌≡◌, ◌∙◌, ◌<◌, [], sym, ap, Bool as Truth, List, length, rules}
 use Rattle.sere_nfa.proofs.Reach.{work}
 use Rattle.sere_nfa.specs.MarkingView.{marking_of}
 use Rattle.lasso_judge.proofs.Charted.{cells-are, falls-begin, falls-below, found-below, falls-more, falls-end}
@@ -12,19 +12,23 @@ pub cells_before-requires-clause-within : goal.cells_before-requires-clause-with
 cells_before-requires-clause-within c =
     falls-below c.args.word.now c.args.flipped c.args.next.now c.args.chart.now c.requires.chart c.requires.whole (marking_of c.loop-cell.marking) c.pop.new.self.items c.in-Some.cell c.loop-cell.invariant c.in-Some.ensures.items
 
+pub cells_before-requires-clause-marks : goal.cells_before-requires-clause-marks
+cells_before-requires-clause-marks c = ap (λ (ms : List Truth). length ms) c.deref.ensures.value
+    ∙ (c.loop-cell.invariant.same_length ∙ sym (cells-are c.args.word.now c.args.flipped c.args.next.now c.args.chart.now c.requires.chart))
+
 pub fall_each-requires-clause-cells : goal.fall_each-requires-clause-cells
 fall_each-requires-clause-cells c =
     let below = falls-below c.args.word.now c.args.flipped c.args.next.now c.args.chart.now c.requires.chart c.requires.whole (marking_of c.loop-cell.marking) c.pop.new.self.items c.in-Some.cell c.loop-cell.invariant c.in-Some.ensures.items in
-    found-below c.args.word.now c.args.flipped c.args.next.now c.args.chart.now c.requires.chart c.in-Some.cell c.args.chart.now.cells c.cells_before.new.found.items c.deref.result.now (cells-are c.args.word.now c.args.flipped c.args.next.now c.args.chart.now c.requires.chart) below
-    c.in_ok-cells_before.ensures c.deref.ensures.value
+    found-below c.args.word.now c.args.flipped c.args.next.now c.args.chart.now c.requires.chart c.in-Some.cell c.args.chart.now.cells c.deref.result.now c.cells_before.new.found.items c.deref-in-Some.result.now (cells-are c.args.word.now c.args.flipped c.args.next.now c.args.chart.now c.requires.chart) below
+    c.in_ok-cells_before.ensures c.deref-in-Some.ensures.value
 
 pub fall_each-requires-clause-marks : goal.fall_each-requires-clause-marks
 fall_each-requires-clause-marks c = c.loop-cell.invariant.same_length ∙ sym (cells-are c.args.word.now c.args.flipped c.args.next.now c.args.chart.now c.requires.chart)
 
 stepped : (c : goal.In_ok-fall_each) → IsFallSearch c.args.word.now c.args.flipped c.args.next.now c.args.chart.now.nfa.states [] (marking_of c.fall_each.new.marking)
     × (work (marking_of c.fall_each.new.marking) < work (marking_of c.loop-cell.marking))
-stepped c = falls-more c.args.word.now c.args.flipped c.args.next.now c.args.chart.now c.requires.chart c.requires.whole (marking_of c.loop-cell.marking) c.pop.new.self.items c.in-Some.cell c.cells_before.new.found.items c.deref.result.now
-    (marking_of c.fall_each.new.marking) c.loop-cell.invariant c.in-Some.ensures.items c.in_ok-cells_before.ensures c.deref.ensures.value c.in_ok-fall_each.ensures
+stepped c = falls-more c.args.word.now c.args.flipped c.args.next.now c.args.chart.now c.requires.chart c.requires.whole (marking_of c.loop-cell.marking) c.pop.new.self.items c.in-Some.cell c.deref.result.now c.cells_before.new.found.items c.deref-in-Some.result.now
+    (marking_of c.fall_each.new.marking) c.loop-cell.invariant c.in-Some.ensures.items c.deref.ensures.value c.in_ok-cells_before.ensures c.deref-in-Some.ensures.value c.in_ok-fall_each.ensures
 
 pub loop-cell-preserved : goal.loop-cell-preserved
 loop-cell-preserved c = (stepped c).0
