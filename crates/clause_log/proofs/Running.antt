@@ -63,10 +63,10 @@ lemmas_push taken entry =
 words_push : (taken : List LogEntry) (entry : LogEntry) → log_words (taken ++ entry ∷ []) ≡ log_words taken + entry_words entry
 words_push taken entry = omega (arith, sum_by-append entry_words taken (entry ∷ []), sum_by-cons entry_words entry [])
 
-literals_push : (live : Numbered ℤ) (new : List ℤ) → live_literals (live ++ Some new ∷ []) ≡ live_literals live + length new
+pub literals_push : (live : Numbered ℤ) (new : List ℤ) → live_literals (live ++ Some new ∷ []) ≡ live_literals live + length new
 literals_push live new = omega (arith, sum_by-append lemma_literals live (Some new ∷ []), sum_by-cons lemma_literals (Some new) [])
 
-literals_set : (live : Numbered ℤ) (gone : ℕ) → live_literals (set live gone None) ≤ live_literals live
+pub literals_set : (live : Numbered ℤ) (gone : ℕ) → live_literals (set live gone None) ≤ live_literals live
 literals_set [] gone = omega arith
 literals_set (first ∷ live) zero = omega (arith, sum_by-cons lemma_literals None live, sum_by-cons lemma_literals first live)
 literals_set (first ∷ live) (suc gone) =
@@ -119,7 +119,7 @@ take_lemma variables formula log left live lemma literals hints progress passes 
 abbrev pub lemmas_after : ℕ → Numbered ℤ → ℕ → Numbered ℤ
 lemmas_after size live number = cond (leb number size) live (set live (number - suc size) None)
 
-drop_clauses : (formula : List (List ℤ)) (live : Numbered ℤ) (number : ℕ) (kept : Bool) → leb number (length formula) ≡ kept →
+pub drop_clauses : (formula : List (List ℤ)) (live : Numbered ℤ) (number : ℕ) (kept : Bool) → leb number (length formula) ≡ kept →
     all_live formula ++ cond kept live (set live (number - suc (length formula)) None)
     ≡ cond kept (all_live formula ++ live) (set (all_live formula ++ live) (number - 1) None)
 drop_clauses formula live number true is = refl

@@ -3,6 +3,7 @@
 
 mod fault;
 mod laws;
+mod lines;
 mod numbers;
 mod printing;
 mod reading;
@@ -12,6 +13,7 @@ mod words;
 
 pub use fault::{LogFault, MOST_READ_WORDS};
 pub use laws::one_log_law;
+pub use lines::{LineRoom, next_line, read_entry};
 pub use numbers::{literal, number};
-pub use printing::{print_log, print_log2};
+pub use printing::{add_log, add_log2, print_log, print_log2};
 pub use reading::{read_log, read_log2};

@@ -13,12 +13,7 @@ pub fn print_log(alloc: Global, log: &Log) -> Result<Bytes, NoMemory>
     ensures { IfOk result (λ text. text ≡ lines_of (lemmas_alone log.now)) }
 {
     let mut text = Vec::new(alloc);
-    let mut entries = log.entries();
-    while let Some(entry) = entries.next() {
-        if let Entry::Lemma { literals, hints } = entry {
-            add_lemma_line(&mut text, literals, hints)?;
-        }
-    }
+    add_log(&mut text, log)?;
     Ok(Bytes::from_vec(text))
 }
 
@@ -27,14 +22,41 @@ pub fn print_log2(alloc: Global, log: &Log) -> Result<Bytes, NoMemory>
     ensures { IfOk result (λ text. text ≡ lines_of log.now) }
 {
     let mut text = Vec::new(alloc);
+    add_log2(&mut text, log)?;
+    Ok(Bytes::from_vec(text))
+}
+
+/// Adds the lemma lines of a log at the end of a text. Its drops have none.
+///
+/// # Errors
+/// `NoMemory` where the allocator refuses memory.
+pub fn add_log(text: &mut Vec<u8>, log: &Log) -> Result<(), NoMemory>
+    ensures { OnOk result (text.new.items ≡ text.old.items ++ lines_of (lemmas_alone log.now)) }
+{
+    let mut entries = log.entries();
+    while let Some(entry) = entries.next() {
+        if let Entry::Lemma { literals, hints } = entry {
+            add_lemma_line(text, literals, hints)?;
+        }
+    }
+    Ok(())
+}
+
+/// Adds the lines of a log, of its lemmas and its drops, at the end of a text.
+///
+/// # Errors
+/// `NoMemory` where the allocator refuses memory.
+pub fn add_log2(text: &mut Vec<u8>, log: &Log) -> Result<(), NoMemory>
+    ensures { OnOk result (text.new.items ≡ text.old.items ++ lines_of log.now) }
+{
     let mut entries = log.entries();
     while let Some(entry) = entries.next() {
         match entry {
-            Entry::Lemma { literals, hints } => add_lemma_line(&mut text, literals, hints)?,
-            Entry::Forget(number) => add_drop_line(&mut text, number)?,
+            Entry::Lemma { literals, hints } => add_lemma_line(text, literals, hints)?,
+            Entry::Forget(number) => add_drop_line(text, number)?,
         }
     }
-    Ok(Bytes::from_vec(text))
+    Ok(())
 }
 
 fn add_lemma_line(text: &mut Vec<u8>, literals: &[i32], hints: &[u32]) -> Result<(), NoMemory>

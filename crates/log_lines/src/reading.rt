@@ -8,7 +8,7 @@ ghost use Rattle.log_lines.specs.declared.fault.TheConstants.{MOST_READ_WORDS};
 ghost use Rattle.log_lines.specs.Adding.{Adds, AddsLine};
 ghost use Rattle.log_lines.specs.Readings.{StandsFor, IsFirstFault};
 
-use crate::words::{ReadLemma, length_before, read_drop, read_lemma};
+use crate::lines::{LineRoom, next_line, read_entry};
 use crate::{LogFault, MOST_READ_WORDS};
 use clauses::{Entry, Log};
 use psl_base::NoMemory;
@@ -39,15 +39,14 @@ fn read_lines(alloc: Global, bytes: &[u8], drops: bool) -> Result<Log, LogFault>
     ensures fault { IfErr result (IsFirstFault drops bytes.now) }
 {
     let mut log = Log::new(alloc);
-    let mut lemma = ReadLemma::new(alloc);
+    let mut room = LineRoom::new(alloc);
     let mut rest = bytes;
     let mut line: u64 = 1;
     while !rest.is_empty() {
-        let (text, behind) = rest.split_at(length_before(b'\n', rest));
-        let Some((_, next)) = behind.split_first() else {
+        let Some((text, next)) = next_line(rest) else {
             return Err(LogFault::Truncated(line));
         };
-        match add_line(&mut log, text, drops, &mut lemma)? {
+        match add_line(&mut log, text, drops, &mut room)? {
             Added::Added => {}
             Added::NoEntry => return Err(LogFault::BadLine(line)),
             Added::TooLong => return Err(LogFault::TooLong(line)),
@@ -70,48 +69,12 @@ enum Added {
 }
 
 /// Adds the entry of a line.
-fn add_line(
-    log: &mut Log,
-    line: &[u8],
-    drops: bool,
-    lemma: &mut ReadLemma,
-) -> Result<Added, NoMemory>
+fn add_line(log: &mut Log, line: &[u8], drops: bool, room: &mut LineRoom) -> Result<Added, NoMemory>
     requires { log_words log.old ≤ MOST_READ_WORDS }
     ensures { IfOk result (λ added. AddsLine drops log.old line.now added log.new) }
 {
-    match drop_of(drops, line) {
-        Some(number) => {
-            let added = add(log, Entry::Forget(number))?;
-            Ok(added)
-        }
-        None => {
-            let added = add_lemma(log, line, lemma)?;
-            Ok(added)
-        }
-    }
-}
-
-/// The number that a drop line names, where drops have lines.
-fn drop_of(drops: bool, line: &[u8]) -> Option<u32>
-    ensures some { IfSome result (λ number. (has_line drops (Forget number) ≡ true)
-        × (line.now ≡ entry_text (Forget number))) }
-    ensures none { IfNone result ((number : ℕ) → has_line drops (Forget number) ≡ true
-        → line.now ≡ entry_text (Forget number) → ⊥) }
-{
-    if drops { read_drop(line) } else { None }
-}
-
-/// Adds the lemma of a line.
-fn add_lemma(log: &mut Log, line: &[u8], lemma: &mut ReadLemma) -> Result<Added, NoMemory>
-    requires { log_words log.old ≤ MOST_READ_WORDS }
-    ensures { IfOk result (λ added. AddsLine false log.old line.now added log.new) }
-{
-    if !read_lemma(line, lemma)? {
+    let Some(entry) = read_entry(line, drops, room)? else {
         return Ok(Added::NoEntry);
-    }
-    let entry = Entry::Lemma {
-        literals: &lemma.literals,
-        hints: &lemma.hints,
     };
     let added = add(log, entry)?;
     Ok(added)

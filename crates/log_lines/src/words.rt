@@ -9,28 +9,9 @@ ghost use Rattle.clauses.specs.declared.flat.TheConstants.{MOST_VARIABLES};
 ghost use Rattle.log_lines.specs.Lines.{lacks, entry_text};
 ghost use Rattle.log_lines.specs.Words.{IsList, AreNumbers, AreHints, IsLemmaLine};
 
+use crate::lines::LineRoom;
 use crate::numbers::{clause_number, literal};
 use psl_base::NoMemory;
-use std::alloc::Global;
-
-/// The lemma of a line, in room that the next line uses again.
-#[derive(Drop)]
-pub(crate) struct ReadLemma {
-    pub(crate) literals: Vec<i32>,
-    pub(crate) hints: Vec<u32>,
-    // The hints as they are read.
-    numbers: Vec<i32>,
-}
-
-impl ReadLemma {
-    pub(crate) fn new(alloc: Global) -> ReadLemma {
-        ReadLemma {
-            literals: Vec::new(alloc),
-            hints: Vec::new(alloc),
-            numbers: Vec::new(alloc),
-        }
-    }
-}
 
 /// The literals up to a 0 with which a line begins, and what stands behind that 0. Each of them has a blank behind it,
 /// and a blank or the end of the line stands behind the 0. None where the line does not begin so.
@@ -80,7 +61,7 @@ pub(crate) fn length_before(mark: u8, text: &[u8]) -> usize
 }
 
 /// Whether a line is a lemma's, whose literals and hints are then those.
-pub(crate) fn read_lemma(line: &[u8], lemma: &mut ReadLemma) -> Result<bool, NoMemory>
+pub(crate) fn read_lemma(line: &[u8], lemma: &mut LineRoom) -> Result<bool, NoMemory>
     ensures { IfOk result (λ is. IsLemmaLine line.now lemma.new.literals.items lemma.new.hints.items is) }
 {
     let Some(behind) = read_literals(line, &mut lemma.literals)? else {

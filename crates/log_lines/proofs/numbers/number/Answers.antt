@@ -1,4 +1,4 @@
-use Rattle.std.proofs.Common.{sym, ◌∙◌, ap, Some, None, arith}
+use Rattle.std.proofs.Common.{sym, ◌∙◌, ap, arith}
 use Rattle.std.proofs.lemmas.Option.{none-some}
 use Rattle.psl_base.specs.Decimals.{plain_upto}
 use Rattle.clauses.specs.declared.flat.TheConstants.{MOST_VARIABLES}

@@ -1,53 +1,43 @@
-use Rattle.std.proofs.Common.{◌≡◌, ◌++◌, ◌∷◌, List, ℕ, ap, sym, ◌∙◌, true, arith}
-use Rattle.log_lines.specs.Lines.{lacks}
+use Rattle.std.proofs.Common.{◌∷◌, ap, length, arith, length-append}
 use Rattle.log_lines.specs.Adding.{AddsLine}
 use Rattle.log_lines.specs.declared.reading.Added.TheVariants as added
-use Rattle.log_lines.proofs.ReadLines.{ReadTo, bad_line, too_long, read_more, feed_next}
+use Rattle.log_lines.proofs.ReadLines.{ReadTo, bad_line, too_long, read_more}
 use Rattle.log_lines.proofs.reading.read_lines.Goals as goal
 
 pub returns-in-NoEntry-clause-fault : goal.returns-in-NoEntry-clause-fault
 returns-in-NoEntry-clause-fault c =
     let i = c.loop-rest.invariant in
     let rest = c.loop-rest.rest.now in
-    let text = c.split_at.result.0.now in
+    let text = c.in-Some.text.now in
     let next = c.in-Some.next.now in
     let read : ReadTo c.args.drops c.args.bytes.now rest c.loop-rest.log c.loop-rest.line = record { text = i.text; entries = i.entries; few = i.few; at_line = i.line } in
-    let split = c.in-Some.ensures.cases.0 in
-    let feed = feed_next rest c.length_before.result c.in-Some.field-0-0.now next c.length_before.ensures.behind (sym c.split_at.ensures.back ∙ split) in
-    let parts : rest ≡ text ++ 10 ∷ next = c.split_at.ensures.by_index.0 ∙ ap (λ (bs : List ℕ). text ++ bs) (split ∙ ap (λ b. b ∷ next) feed) in
-    let whole : lacks 10 text ≡ true = rw c.split_at.ensures.front c.length_before.ensures.before in
     let added : AddsLine c.args.drops c.loop-rest.log text added.NoEntry c.add_line.new.log = rw c.in-NoEntry.is at c.in_ok-add_line.ensures in
-    bad_line c.args.drops c.args.bytes.now rest text next c.loop-rest.log c.add_line.new.log c.loop-rest.line read parts whole added
+    bad_line c.args.drops c.args.bytes.now rest text next c.loop-rest.log c.add_line.new.log c.loop-rest.line read c.in-Some.ensures.some.0 c.in-Some.ensures.some.1 added
 
 pub returns-in-TooLong-clause-fault : goal.returns-in-TooLong-clause-fault
 returns-in-TooLong-clause-fault c =
     let i = c.loop-rest.invariant in
     let rest = c.loop-rest.rest.now in
-    let text = c.split_at.result.0.now in
+    let text = c.in-Some.text.now in
     let next = c.in-Some.next.now in
     let read : ReadTo c.args.drops c.args.bytes.now rest c.loop-rest.log c.loop-rest.line = record { text = i.text; entries = i.entries; few = i.few; at_line = i.line } in
-    let split = c.in-Some.ensures.cases.0 in
-    let feed = feed_next rest c.length_before.result c.in-Some.field-0-0.now next c.length_before.ensures.behind (sym c.split_at.ensures.back ∙ split) in
-    let parts : rest ≡ text ++ 10 ∷ next = c.split_at.ensures.by_index.0 ∙ ap (λ (bs : List ℕ). text ++ bs) (split ∙ ap (λ b. b ∷ next) feed) in
     let added : AddsLine c.args.drops c.loop-rest.log text added.TooLong c.add_line.new.log = rw c.in-TooLong.is at c.in_ok-add_line.ensures in
-    too_long c.args.drops c.args.bytes.now rest text next c.loop-rest.log c.add_line.new.log c.loop-rest.line read parts added
+    too_long c.args.drops c.args.bytes.now rest text next c.loop-rest.log c.add_line.new.log c.loop-rest.line read c.in-Some.ensures.some.0 added
 
 pub loop-rest-preserved : goal.loop-rest-preserved
 loop-rest-preserved c =
     let i = c.loop-rest.invariant in
     let rest = c.loop-rest.rest.now in
-    let text = c.split_at.result.0.now in
+    let text = c.in-Some.text.now in
     let next = c.in-Some.next.now in
     let read : ReadTo c.args.drops c.args.bytes.now rest c.loop-rest.log c.loop-rest.line = record { text = i.text; entries = i.entries; few = i.few; at_line = i.line } in
-    let split = c.in-Some.ensures.cases.0 in
-    let feed = feed_next rest c.length_before.result c.in-Some.field-0-0.now next c.length_before.ensures.behind (sym c.split_at.ensures.back ∙ split) in
-    let parts : rest ≡ text ++ 10 ∷ next = c.split_at.ensures.by_index.0 ∙ ap (λ (bs : List ℕ). text ++ bs) (split ∙ ap (λ b. b ∷ next) feed) in
     let added : AddsLine c.args.drops c.loop-rest.log text added.Added c.add_line.new.log = rw c.in-Added.is at c.in_ok-add_line.ensures in
+    let parts = c.in-Some.ensures.some.0 in
     let more = read_more c.args.drops c.args.bytes.now rest text next c.loop-rest.log c.add_line.new.log c.loop-rest.line read parts added in
     record {
       text = more.text;
       entries = more.entries;
       few = more.few;
       line = more.at_line;
-      room = omega (arith, i.room, c.in-Some.ensures.cases.1, c.split_at.ensures.back_len);
+      room = omega (arith, i.room, ap length parts, length-append text (10 ∷ next));
     }
