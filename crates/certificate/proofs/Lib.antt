@@ -1,0 +1,7 @@
+pub mod Entries
+mod ExamplesHold
+pub mod Fields
+pub mod HeaderLines
+pub mod Once
+pub mod OneAnswer
+pub mod Passed

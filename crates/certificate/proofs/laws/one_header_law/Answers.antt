@@ -1,0 +1,5 @@
+use Rattle.certificate.proofs.HeaderLines.{header_once}
+use Rattle.certificate.proofs.laws.one_header_law.Goals as goal
+
+pub returns : goal.returns
+returns c = record { header = λ asked text header other one two. header_once asked text header other one two }

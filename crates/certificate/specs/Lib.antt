@@ -1,0 +1,9 @@
+pub use Rattle.clauses.specs.Logs
+pub mod Examples
+pub mod Headers
+pub mod Lines
+pub mod Phases
+pub mod Printed
+pub mod Sections
+pub mod Shown
+pub mod Texts

@@ -1,0 +1,83 @@
+-- The sections of a certificate: logs, line by line, of which each refutes a formula.
+use Rattle.std.specs.Prelude.{◌≡◌, ◌⊎◌, ℕ, ◌<◌, ◌≤◌, ℤ, Bool, true, false, List, length, drop, count_by, is_some, IsSome}
+use Rattle.std.specs.List.{list_any}
+use Rattle.clauses.specs.Live.{clause_of}
+use Rattle.clauses.specs.Logs.{LogEntry, LemmaPasses, clauses_after, is_empty_lemma}
+use Rattle.clauses.specs.Logs.LogEntry.{Lemma, Forget}
+use Rattle.log_lines.specs.Lines.{entry_text, has_line}
+use Rattle.certificate.specs.Lines.{end_line}
+use Rattle.certificate.specs.declared.answer.CertReason.{CertReason}
+use Rattle.certificate.specs.declared.answer.CertReason.TheVariants.{BadHeader, BadLine, WrongAssertion, LemmaFails, NoEmptyClause, EndsInside, TrailingBytes, TooManyLive, BadDrop}
+use Rattle.certificate.specs.declared.header.Header.{Header}
+use Rattle.certificate.specs.declared.header.Section.{Section}
+use Rattle.certificate.specs.declared.header.Version.{Version}
+use Rattle.certificate.specs.declared.header.Version.TheVariants.{One, Two}
+
+-- a formula that a section refutes: how many variables it has, and its clauses
+pub record Query : Type 0 where
+  pub variables : ℕ
+  pub clauses : List (List ℤ)
+
+-- the formula of each section, for so many visits and a window
+abbrev pub Queries : Type 0
+Queries = Section → ℕ → ℕ → Query
+
+-- whether drops have lines
+abbrev pub drops_in : Version → Bool
+drops_in One = false
+drops_in Two = true
+
+-- a line is that of an entry
+pub record IsEntryLine (version : Version) (line : List ℕ) (entry : LogEntry) : Type 0 where
+  pub is : line ≡ entry_text entry
+  pub has : has_line (drops_in version) entry ≡ true
+
+-- the empty lemma stands among some entries
+abbrev pub has_empty : List LogEntry → Bool
+has_empty entries = list_any is_empty_lemma entries
+
+-- how many lemmas of a log are live
+abbrev pub live_lemmas : Query → List LogEntry → ℕ
+live_lemmas query entries =
+    count_by (λ clause. is_some clause) (drop (length query.clauses) (clauses_after query.clauses entries))
+
+-- a number names a lemma of a log that is live
+abbrev pub NamesLive : Query → List LogEntry → ℕ → Type 0
+NamesLive query entries number =
+    (length query.clauses < number) × IsSome (clause_of (clauses_after query.clauses entries) number)
+
+-- a lemma passes behind the entries of a log
+abbrev pub PassesBehind : Query → List LogEntry → List ℤ → List ℕ → Type 0
+PassesBehind query entries literals hints = LemmaPasses query.variables query.clauses entries literals hints
+
+-- An entry is taken behind those of a log: a lemma that passes and with which no more lemmas are live than may be, or the
+-- drop of a live lemma before the empty one.
+abbrev pub IsTaken : Header → Query → List LogEntry → LogEntry → Type 0
+IsTaken header query entries (Lemma literals hints) =
+    PassesBehind query entries literals hints × (live_lemmas query entries < header.live)
+IsTaken header query entries (Forget number) = (has_empty entries ≡ false) × NamesLive query entries number
+
+-- the line of an entry is wanted, or the word that ends the section
+abbrev pub IsBadLine : Version → Section → List LogEntry → List ℕ → Type 0
+IsBadLine version section entries line =
+    ((line ≡ end_line section → ⊥) × ((entry : LogEntry) → IsEntryLine version line entry → ⊥))
+    ⊎ ((has_empty entries ≡ true) × (entry : LogEntry) × IsEntryLine version line entry)
+
+-- why a whole line is refused behind the entries of a section: the first reason that stands
+abbrev pub IsSectionRefused : Header → Section → Query → List LogEntry → List ℕ → CertReason → Type 0
+IsSectionRefused header section query entries line BadHeader = ⊥
+IsSectionRefused header section query entries line BadLine = IsBadLine header.version section entries line
+IsSectionRefused header section query entries line WrongAssertion = ⊥
+IsSectionRefused header section query entries line LemmaFails =
+    (has_empty entries ≡ false) × (literals : List ℤ) × (hints : List ℕ)
+    × IsEntryLine header.version line (Lemma literals hints) × (PassesBehind query entries literals hints → ⊥)
+IsSectionRefused header section query entries line NoEmptyClause =
+    (line ≡ end_line section) × (has_empty entries ≡ false)
+IsSectionRefused header section query entries line EndsInside = ⊥
+IsSectionRefused header section query entries line TrailingBytes = ⊥
+IsSectionRefused header section query entries line TooManyLive =
+    (literals : List ℤ) × (hints : List ℕ) × IsEntryLine header.version line (Lemma literals hints)
+    × PassesBehind query entries literals hints × (header.live ≤ live_lemmas query entries)
+IsSectionRefused header section query entries line BadDrop =
+    (has_empty entries ≡ false) × (number : ℕ)
+    × IsEntryLine header.version line (Forget number) × (NamesLive query entries number → ⊥)

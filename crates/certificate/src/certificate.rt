@@ -1,0 +1,17 @@
+use clauses::Log;
+
+/// The evidence that each run of a netlist satisfies what is owed of an assertion: for a number of visits and a window,
+/// that no joint path is open. Whoever has the text and the netlist can check it without the prover.
+#[derive(Debug, Drop)]
+pub struct Certificate {
+    /// The number of the assertion in its text, counted from 1.
+    pub assertion: u32,
+    /// How many visits the joint states count.
+    pub visits: u32,
+    /// How many joint states a path of the base has at most.
+    pub window: u32,
+    /// It refutes the formula of the base.
+    pub base: Log,
+    /// It refutes the formula of the induction.
+    pub induction: Log,
+}

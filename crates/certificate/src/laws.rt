@@ -1,0 +1,51 @@
+// What follows from the definitions alone.
+ghost use Rattle.std.specs.Prelude.{◌≡◌, ℕ, List};
+ghost use Rattle.certificate.specs.declared.answer.CertAnswer.{CertAnswer};
+ghost use Rattle.certificate.specs.declared.header.Asked.{Asked};
+ghost use Rattle.certificate.specs.declared.header.Header.{Header};
+ghost use Rattle.certificate.specs.Examples.{Passes, FirstVersionPasses, ThirdVersion, OfAnother, NoWindow, CutBehindLine};
+ghost use Rattle.certificate.specs.Examples.{CutInsideLine, NoHints, NoneMayLive, DropOfFormula, NothingShown};
+ghost use Rattle.certificate.specs.Examples.{LemmaBehindEmpty, OneMoreByte};
+ghost use Rattle.certificate.specs.Headers.{HasHeader};
+ghost use Rattle.certificate.specs.Sections.{Queries};
+ghost use Rattle.certificate.specs.Shown.{IsShown};
+ghost use Rattle.certificate.specs.Texts.{IsAnswer, IsPassed};
+
+/// Worked examples of the definitions, as laws: texts of certificates, and what is answered to them.
+#[tactic(auto, using(crate::proofs::ExamplesHold::examples))]
+pub fn worked_examples()
+    ensures passes { Passes }
+    ensures first { FirstVersionPasses }
+    ensures third { ThirdVersion }
+    ensures another { OfAnother }
+    ensures window { NoWindow }
+    ensures cut { CutBehindLine }
+    ensures inside { CutInsideLine }
+    ensures hints { NoHints }
+    ensures live { NoneMayLive }
+    ensures formula { DropOfFormula }
+    ensures nothing { NothingShown }
+    ensures behind { LemmaBehindEmpty }
+    ensures more { OneMoreByte }
+{}
+
+/// A law of the definitions: a text has one answer. So it is passed only where no line of it is refused, and where some
+/// line is, the first refusal is one line's, for one reason.
+#[tactic(auto, using(crate::proofs::OneAnswer::one_answer))]
+pub fn one_answer_law()
+    ensures answer { (asked : Asked) (queries : Queries) (text : List ℕ) (answer other : CertAnswer)
+        → IsAnswer asked queries text answer → IsAnswer asked queries text other → answer ≡ other }
+{}
+
+/// A law of the definitions: a text begins with one header at most.
+pub fn one_header_law()
+    ensures header { (asked : Asked) (text : List ℕ) (header other : Header) → HasHeader asked text header
+        → HasHeader asked text other → header ≡ other }
+{}
+
+/// A law of the definitions: where the text of a certificate is passed, what was asked for is an assertion, and both
+/// formulas are refuted, for some visits and some window.
+pub fn shown_law()
+    ensures shown { (asked : Asked) (queries : Queries) (text : List ℕ) → IsPassed asked queries text
+        → IsShown asked queries }
+{}
