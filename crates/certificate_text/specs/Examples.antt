@@ -1,0 +1,32 @@
+-- A worked example: a certificate whose logs refute, one of them with a drop, and its text in both versions.
+use Rattle.std.specs.Prelude.{◌≡◌, pos, [], ◌∷◌, ◌++◌, codes}
+use Rattle.certificate.specs.declared.certificate.Certificate.{Certificate}
+use Rattle.certificate.specs.declared.header.Version.TheVariants.{One, Two}
+use Rattle.certificate.specs.Examples.{assertion, contradictions}
+use Rattle.certificate.specs.Printed.{cert_text}
+use Rattle.clauses.specs.Logs.LogEntry.{Lemma, Forget}
+use Rattle.certificate_text.specs.Evidence.{IsEvidence}
+
+abbrev pub certificate : Certificate
+certificate = record {
+  assertion = 1;
+  visits = 0;
+  window = 1;
+  base = Lemma (pos 1 ∷ []) (1 ∷ []) ∷ Forget 3 ∷ Lemma [] (1 ∷ 2 ∷ []) ∷ [];
+  induction = Lemma [] (1 ∷ 2 ∷ []) ∷ [];
+}
+
+abbrev pub IsEvident : Type 0
+IsEvident = IsEvidence (assertion 1) contradictions certificate
+
+abbrev pub HasText : Type 0
+HasText =
+    cert_text Two certificate
+    ≡ codes "pslc-cert 2\nassertion 1\nvisits 0\nwindow 1\nlive 1\n"
+    ++ codes "base\n1 0 1 0\nd 3\n0 1 2 0\ninduction\n0 1 2 0\nend\n"
+
+abbrev pub HasFirstText : Type 0
+HasFirstText =
+    cert_text One certificate
+    ≡ codes "pslc-cert 1\nassertion 1\nvisits 0\nwindow 1\n"
+    ++ codes "base\n1 0 1 0\n0 1 2 0\ninduction\n0 1 2 0\nend\n"

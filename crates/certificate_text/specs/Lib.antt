@@ -1,0 +1,3 @@
+pub use Rattle.certificate.specs.Printed
+pub mod Evidence
+pub mod Examples

@@ -1,0 +1,35 @@
+// What follows from the definitions alone.
+ghost use Rattle.std.specs.Prelude.{ℕ, List};
+ghost use Rattle.certificate.specs.Printed.{cert_text, most_live};
+ghost use Rattle.certificate.specs.Sections.{Queries, Query};
+ghost use Rattle.certificate.specs.Texts.{IsAnswer, IsRefusal};
+ghost use Rattle.certificate.specs.declared.answer.CertAnswer.TheVariants.{Passed};
+ghost use Rattle.certificate.specs.declared.answer.CertReason.{CertReason};
+ghost use Rattle.certificate.specs.declared.certificate.Certificate.{Certificate};
+ghost use Rattle.certificate.specs.declared.header.Asked.{Asked};
+ghost use Rattle.certificate.specs.declared.header.Version.{Version};
+ghost use Rattle.certificate_text.specs.Evidence.{DropsLive, IsEvidence, IsMostLive};
+ghost use Rattle.certificate_text.specs.Examples.{HasFirstText, HasText, IsEvident};
+ghost use Rattle.clauses.specs.Logs.{LogEntry};
+
+/// A law of the texts: where a certificate is of the assertion that is asked for and its logs refute the two formulas,
+/// its text is passed in either version, and has no refusal. And the number of live lemmas that a header says of a log is
+/// the greatest at any moment, where each drop is of a live lemma.
+pub fn printed_law()
+    ensures passes { (asked : Asked) (queries : Queries) (version : Version) (certificate : Certificate)
+        → IsEvidence asked queries certificate → IsAnswer asked queries (cert_text version certificate) Passed }
+    ensures refused { (asked : Asked) (queries : Queries) (version : Version) (certificate : Certificate)
+        → IsEvidence asked queries certificate → (reason : CertReason) (number : ℕ)
+        → IsRefusal asked queries (cert_text version certificate) reason number → ⊥ }
+    ensures live { (query : Query) (log : List LogEntry)
+        → DropsLive query log → IsMostLive query log (most_live log) }
+{}
+
+/// A worked example of the definitions, as a law: a certificate whose logs refute two formulas, and its text in both
+/// versions.
+#[tactic(auto, using(crate::proofs::ExampleHolds::example))]
+pub fn worked_example()
+    ensures evidence { IsEvident }
+    ensures text { HasText }
+    ensures first { HasFirstText }
+{}
