@@ -1,0 +1,7 @@
+mod Becoming
+mod Blocking
+mod Heads
+mod Holding
+mod Moving
+mod NumberLines
+mod Sectioning

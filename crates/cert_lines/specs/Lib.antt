@@ -1,0 +1,4 @@
+pub use Rattle.clauses.specs.Logs
+pub mod Fields
+pub mod Readings
+pub mod Sections
