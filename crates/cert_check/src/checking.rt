@@ -1,0 +1,102 @@
+// A certificate, from its first byte to its last.
+ghost use Rattle.std.specs.Prelude.{◌≡◌, ◌≤◌, Ok, Some, length, All, IfOk, IfErr, OnOk};
+ghost use Rattle.certificate.specs.declared.answer.CertAnswer.{CertAnswer};
+ghost use Rattle.certificate.specs.declared.header.Header.{Header};
+ghost use Rattle.certificate.specs.Headers.{HasHeader};
+ghost use Rattle.certificate.specs.Texts.{IsAnswer};
+ghost use Rattle.owed.specs.Violations.{violation_of};
+ghost use Rattle.psl_base.specs.Places.{file_limit};
+ghost use Rattle.psl_tree.specs.Atoms.{AtomsOfFormula};
+ghost use Rattle.psl_tree.specs.Names.{AtomInRange};
+ghost use Rattle.psl_tree.specs.Trees.{formula_of};
+ghost use Rattle.psl_tree.specs.declared.directive.Directive.{Directive};
+ghost use Rattle.run_terms.specs.Automata.{IsSound, TestsSignals};
+ghost use Rattle.cert_check.specs.Claims.{AnswersBehind, IsProved, asked_of as asked_for, directive_of as directive_at, queries_of};
+ghost use Rattle.cert_check.specs.Limits.{FitsLimits, IsFault, IsFaultBehind};
+
+use crate::CertFault;
+use crate::claim::{Claim, asked_of, directive_of};
+use crate::formulas::check_lines;
+use crate::soundness::{automaton_is_sound, claim_holds};
+use cert_lines::{Reading, read_header};
+use certificate::{CertAnswer, Header};
+use netlist::Netlist;
+use owed::{assumed_size, violation};
+use psl_tree::Unit;
+use std::alloc::Global;
+use work_limits::check_sizes;
+
+/// Whether a text is a certificate that each run of a netlist satisfies what is owed of the assertion of a number: the
+/// numbers of a text's directives count from 1. No line is refused, or the first one that is counts, with its number from
+/// 1. The text has at most `FILE_LIMIT` bytes, and the unit's atoms are in range of the netlist.
+///
+/// # Errors
+///
+/// The header's lines are read first. Where none of them is refused, the first of the limits is told that what is owed or
+/// one of the formulas passes, in the order of the faults; then come the other lines. `NoMemory` if memory is refused.
+pub fn check_cert(
+    alloc: Global,
+    unit: &Unit,
+    assertion: u32,
+    netlist: &Netlist,
+    bytes: &[u8],
+) -> Result<CertAnswer, CertFault>
+    requires in_range { All (λ directive. AtomsOfFormula (AtomInRange netlist.now.names) (formula_of directive.formula)) unit.now }
+    requires few { length bytes.now ≤ file_limit }
+    ensures answer { IfOk result (IsAnswer (asked_for unit.now assertion)
+        (queries_of netlist.now unit.now assertion) bytes.now) }
+    ensures fits { OnOk result ((header : Header) (directive : Directive)
+        → HasHeader (asked_for unit.now assertion) bytes.now header
+        → directive_at unit.now assertion ≡ Some directive → FitsLimits netlist.now unit.now directive header) }
+    ensures fault { IfErr result (IsFault netlist.now unit.now assertion bytes.now) }
+    ensures proved { result ≡ Ok CertAnswer.Passed → IsProved netlist.now unit.now assertion }
+{
+    let mut reading = Reading::new(bytes);
+    let header = match read_header(asked_of(unit, assertion), &mut reading) {
+        Ok(header) => header,
+        Err(refusal) => return Ok(CertAnswer::Refused(refusal.reason, refusal.line)),
+    };
+    let Some(directive) = directive_of(unit, assertion) else {
+        unreachable!()
+    };
+    let claim = Claim {
+        netlist,
+        unit,
+        directive,
+    };
+    let answer = check_claim(alloc, claim, header, &mut reading)?;
+    claim_holds(claim);
+    Ok(answer)
+}
+
+/// Checks what stands behind the header, once it is told whether the limits are kept.
+fn check_claim(
+    alloc: Global,
+    claim: Claim<'_>,
+    header: Header,
+    reading: &mut Reading<'_>,
+) -> Result<CertAnswer, CertFault>
+    requires unit { All (λ directive. AtomsOfFormula (AtomInRange claim.netlist.now.names) (formula_of directive.formula)) claim.unit.now }
+    requires directive { AtomsOfFormula (AtomInRange claim.netlist.now.names) (formula_of claim.directive.now.formula) }
+    requires visits { header.visits ≤ 16 }
+    requires least { 1 ≤ header.window }
+    requires most { header.window ≤ 1000 }
+    ensures answer { IfOk result (AnswersBehind claim.entry.netlist.now (violation_of claim.entry.unit.now claim.entry.directive.now) header reading.old) }
+    ensures fits { OnOk result (FitsLimits claim.entry.netlist.now claim.entry.unit.now claim.entry.directive.now header) }
+    ensures fault { IfErr result (IsFaultBehind claim.entry.netlist.now claim.entry.unit.now claim.entry.directive.now header) }
+    ensures sound { OnOk result (IsSound (violation_of claim.entry.unit.now claim.entry.directive.now)) }
+    ensures tests { OnOk result (TestsSignals claim.entry.netlist.now (violation_of claim.entry.unit.now claim.entry.directive.now)) }
+{
+    let assumed = assumed_size(alloc, claim.unit)?;
+    check_sizes(
+        alloc,
+        claim.directive,
+        assumed,
+        claim.netlist,
+        header.window,
+    )?;
+    let violation = violation(alloc, claim.unit, claim.directive)?;
+    automaton_is_sound(&violation);
+    let answer = check_lines(alloc, claim.netlist, &violation, header, reading)?;
+    Ok(answer)
+}

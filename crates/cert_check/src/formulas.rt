@@ -1,0 +1,59 @@
+// The lines of both sections, against their formulas.
+ghost use Rattle.std.specs.Prelude.{◌≤◌, [], IfOk, IfErr, OnOk};
+ghost use Rattle.certificate.specs.declared.header.Section.TheVariants as sections;
+ghost use Rattle.clauses.specs.Literals.{clause_words};
+ghost use Rattle.clauses.specs.declared.flat.TheConstants.{MOST_WORDS};
+ghost use Rattle.run_terms.specs.Automata.{TestsSignals};
+ghost use Rattle.cert_check.specs.Claims.{AnswersBehind};
+ghost use Rattle.cert_check.specs.Limits.{AreTooLarge, IsFormulaFault};
+
+use crate::CertFault;
+use alternating::Alternating;
+use cert_lines::{Reading, check_section};
+use certificate::{CertAnswer, Header, Section};
+use clauses::Cnf;
+use joint::joint;
+use netlist::Netlist;
+use std::alloc::Global;
+
+/// Checks what is left of a certificate behind its header. Both formulas are built before a line is looked at, so that it
+/// is told whether one of them is too large; but only one is there at a time, so the induction's is built twice.
+pub(crate) fn check_lines(
+    alloc: Global,
+    netlist: &Netlist,
+    violation: &Alternating,
+    header: Header,
+    reading: &mut Reading<'_>,
+) -> Result<CertAnswer, CertFault>
+    requires tests { TestsSignals netlist.now violation.now }
+    requires visits { header.visits ≤ 16 }
+    requires window { 1 ≤ header.window }
+    ensures answer { IfOk result (AnswersBehind netlist.now violation.now header reading.old) }
+    ensures fits { OnOk result (AreTooLarge netlist.now violation.now header → ⊥) }
+    ensures fault { IfErr result (IsFormulaFault netlist.now violation.now header) }
+{
+    let joint = joint(alloc, netlist, violation, header.visits)?;
+    let early = joint.induction(alloc, header.window)?;
+    formula_is_small(&early);
+    drop(early);
+
+    let base = joint.base(alloc, header.window)?;
+    formula_is_small(&base);
+    if let Some(refusal) = check_section(alloc, header, Section::Base, &base, reading)? {
+        return Ok(CertAnswer::Refused(refusal.reason, refusal.line));
+    }
+    drop(base);
+
+    let induction = joint.induction(alloc, header.window)?;
+    if let Some(refusal) = check_section(alloc, header, Section::Induction, &induction, reading)? {
+        return Ok(CertAnswer::Refused(refusal.reason, refusal.line));
+    }
+    Ok(reading.end())
+}
+
+/// A formula that was built is not too large.
+fn formula_is_small(formula: &Cnf)
+    ensures { clause_words formula.now.clauses ≤ MOST_WORDS }
+{
+    let _words = formula.clauses.words();
+}

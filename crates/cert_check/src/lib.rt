@@ -1,0 +1,13 @@
+//! The checker of certificates: whether the text of one shows that each run of a netlist satisfies what is owed of an
+//! assertion. It stands on nothing of the solver.
+#![tactic(auto)]
+
+mod checking;
+mod claim;
+mod fault;
+mod formulas;
+mod soundness;
+
+pub use certificate::{CertAnswer, CertReason};
+pub use checking::check_cert;
+pub use fault::CertFault;

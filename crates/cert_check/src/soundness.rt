@@ -1,0 +1,35 @@
+// What holds of each automaton, and of what is claimed of it.
+ghost use Rattle.certificate.specs.Shown.{IsShown};
+ghost use Rattle.certificate.specs.declared.header.Asked.{Asked};
+ghost use Rattle.owed.specs.Violations.{violation_of};
+ghost use Rattle.run_terms.specs.Automata.{IsSound, TestsSignals};
+ghost use Rattle.cert_check.specs.Claims.{EachSatisfies, queries_for};
+
+use crate::claim::Claim;
+use alternating::Alternating;
+use joint_theory::{query_law, size_law};
+use netlist::soundness_law;
+use owed::violating_runs;
+
+/// The start of an automaton is one of its obligations, and so is all that its obligations owe.
+pub(crate) fn automaton_is_sound(violation: &Alternating)
+    ensures { IsSound violation.now }
+{
+    let _start = violation.start();
+    for obligation in 0..violation.len() {
+        let _asked = violation.delta(obligation);
+    }
+}
+
+/// Where both formulas of a claim are refuted, for some visits and some window, it holds.
+pub(crate) fn claim_holds(claim: Claim<'_>)
+    requires sound { IsSound (violation_of claim.unit.now claim.directive.now) }
+    requires tests { TestsSignals claim.netlist.now (violation_of claim.unit.now claim.directive.now) }
+    ensures { (asked : Asked) → IsShown asked (queries_for claim.entry.netlist.now (violation_of claim.entry.unit.now claim.entry.directive.now))
+        → EachSatisfies claim.entry.netlist.now claim.entry.unit.now claim.entry.directive.now }
+{
+    soundness_law(claim.netlist);
+    query_law();
+    size_law();
+    violating_runs(claim.netlist, claim.unit, claim.directive);
+}
