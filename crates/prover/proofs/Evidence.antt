@@ -1,19 +1,18 @@
 -- What a model and a refutation of a search say of the runs of a netlist.
-use Rattle.std.proofs.Common.{◌≡◌, refl, ◌∙◌, ap, ℤ, ◌≤◌, ◌<◌, ℕ, suc, sym, subst, ◌↔◌, List, length, IsTrue, None, Bool as Truth, All}
+use Rattle.std.proofs.Common.{◌≡◌, refl, ◌∙◌, ap, ℤ, ◌≤◌, ℕ, suc, sym, subst, ◌↔◌, List, length, None, Bool as Truth, All}
 use Rattle.std.proofs.Math.Arith.{lt_of_le-ne}
 use Rattle.std.proofs.lemmas.List.Elements.{All-weaker}
 use Rattle.alternating_loops.specs.Acceptance.{Accepts}
 use Rattle.alternating_theory.specs.Obligations.{Automaton}
 use Rattle.clauses.proofs.Soundness.{no_model}
 use Rattle.clauses.specs.declared.cnf.Cnf.{Cnf}
-use Rattle.clauses.specs.Literals.{clauses_within}
 use Rattle.clauses.specs.Logs.{LogEntry, Refutes}
 use Rattle.clauses.specs.Models.{IsModel}
 use Rattle.cdcl.specs.Answers.{IsModelOf}
 use Rattle.circuit_theory.specs.Sizes.{IsTooLarge}
 use Rattle.clock_rewrite.proofs.Meaning.{plain_words}
 use Rattle.netlist.specs.Design.{Design}
-use Rattle.netlist.specs.Runs.{IsRun, word}
+use Rattle.netlist.specs.Runs.{word}
 use Rattle.netlist.specs.Valuations.{IsValuation}
 use Rattle.netlist.specs.declared.run.Run.{Run}
 use Rattle.psl_meaning.specs.Satisfaction.{Sat}
@@ -27,9 +26,10 @@ use Rattle.run_terms.specs.Formulas.{HasModel, values_of}
 use Rattle.search_theory.specs.Found.{IsFound, SomeFound, run_size}
 use Rattle.search_theory.specs.Searches.{search_clauses, search_variables}
 use Rattle.prover.specs.Findings.{IsShortest}
-use Rattle.prover.specs.Queries.{IsAsked, IsFormulaOf, clauses_of, variables_of}
+use Rattle.prover.specs.Queries.{IsSought, IsFormulaOf, clauses_of, variables_of}
 use Rattle.prover.specs.Violating.{NoneBelow, Violates}
 use Rattle.prover.specs.declared.finding.Query.TheVariants.{Search}
+use Rattle.prover.specs.declared.options.Options.{Options}
 
 -- a run that is found violates what is owed
 pub found-violates : (design : Design) (unit : List Directive) (d : Directive) (automaton : Automaton) (n : ℕ) (run : Run)
@@ -104,11 +104,11 @@ pub query-large : (design : Design) (unit : List Directive) (d : Directive) (aut
 query-large design unit d automaton n is large =
     subst (λ (a : Automaton). IsTooLarge (search_variables design a n) (search_clauses design a n)) is large
 
--- a run of the size that was asked for is a shortest one
-pub shortest : (design : Design) (unit : List Directive) (d : Directive) (depth n : ℕ) (run : Run) → IsAsked design unit d depth n
-    → Violates design unit d run → run_size run ≡ n → IsShortest design unit d depth run
-shortest design unit d depth n run asked v size = record {
+-- a run of the size that is sought is a shortest one
+pub shortest : (design : Design) (unit : List Directive) (d : Directive) (options : Options) (n : ℕ) (run : Run) → IsSought design unit d options n
+    → Violates design unit d run → run_size run ≡ n → IsShortest design unit d options.depth run
+shortest design unit d options n run sought v size = record {
   is = v;
-  within = subst (λ (m : ℕ). m ≤ depth) (sym size) asked.within;
-  none_below = subst (λ (m : ℕ). NoneBelow design unit d m) (sym size) asked.none_below;
+  within = subst (λ (m : ℕ). m ≤ options.depth) (sym size) sought.within;
+  none_below = subst (λ (m : ℕ). NoneBelow design unit d m) (sym size) sought.none_below;
 }

@@ -1,2 +1,4 @@
 pub mod Evidence
+pub mod Opened
+pub mod Seen
 pub mod Small

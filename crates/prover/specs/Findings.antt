@@ -7,28 +7,41 @@ use Rattle.netlist.specs.Design.{Design}
 use Rattle.netlist.specs.declared.run.Run.{Run}
 use Rattle.psl_tree.specs.declared.directive.Directive.{Directive}
 use Rattle.search_theory.specs.Found.{run_size}
+use Rattle.prover.specs.Proving.{IsProved}
 use Rattle.prover.specs.Queries.{ComesUp, IsFormulaOf, clauses_of, variables_of}
 use Rattle.prover.specs.Violating.{NoneBelow, Violates}
+use Rattle.prover.specs.Windows.{AreOpenPaths}
 use Rattle.prover.specs.declared.finding.Finding.{Finding}
 use Rattle.prover.specs.declared.finding.Finding.TheVariants as findings
+use Rattle.prover.specs.declared.finding.OpenPath.{OpenPath}
 use Rattle.prover.specs.declared.options.Options.{Options}
 
 -- a shortest run that violates what is owed, within the depth
-pub record IsShortest (design : Design) (unit : List Directive) (assertion : Directive) (depth : ℕ) (run : Run) : Type 0 where
+pub record IsShortest (design : Design) (unit : List Directive) (assertion : Directive) (depth : ℕ)
+    (run : Run) : Type 0 where
   pub is : Violates design unit assertion run
   pub within : run_size run ≤ depth
   pub none_below : NoneBelow design unit assertion (run_size run)
 
+-- no run within the depth violates what is owed, and for each number of visits a path is open at the window of that
+-- depth
+pub record IsUndecided (design : Design) (unit : List Directive) (assertion : Directive)
+    (options : Options) (paths : List OpenPath) : Type 0 where
+  pub none_within : NoneBelow design unit assertion (suc options.depth)
+  pub each_open : AreOpenPaths design unit assertion (suc options.visits) options.depth paths
+
 -- a finding with its evidence
 abbrev pub IsFinding : Design → List Directive → Directive → Options → Finding → Type 0
+IsFinding design unit assertion options (findings.Proved certificate) =
+    IsProved design unit assertion options certificate
 IsFinding design unit assertion options (findings.Violated run) = IsShortest design unit assertion options.depth run
-IsFinding design unit assertion options findings.Depth = NoneBelow design unit assertion (suc options.depth)
+IsFinding design unit assertion options (findings.Depth paths) = IsUndecided design unit assertion options paths
 IsFinding design unit assertion options (findings.Steps query log) =
-    ComesUp design unit assertion options.depth query
+    ComesUp design unit assertion options query
     × (formula : Cnf) × IsFormulaOf design unit assertion query formula × IsSpent formula options.steps log
 IsFinding design unit assertion options (findings.LogFull query log) =
-    ComesUp design unit assertion options.depth query
+    ComesUp design unit assertion options query
     × (formula : Cnf) × IsFormulaOf design unit assertion query formula × IsFull formula options.steps log
 IsFinding design unit assertion options (findings.Large query) =
-    ComesUp design unit assertion options.depth query
+    ComesUp design unit assertion options query
     × IsTooLarge (variables_of design unit assertion query) (clauses_of design unit assertion query)

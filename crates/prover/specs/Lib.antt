@@ -1,5 +1,9 @@
+pub mod Claims
 pub mod Findings
+pub mod Proving
 pub mod Queries
-pub mod Sized
+pub mod Stops
 pub mod Tasks
+pub mod Views
 pub mod Violating
+pub mod Windows

@@ -1,20 +1,45 @@
+use certificate::Certificate;
 use clauses::Log;
+use joint_theory::JointPath;
 use netlist::Run;
+use psl_base::Items;
 
 /// A formula that the solver is asked about.
 #[derive(Clone, Copy, Debug)]
 pub enum Query {
     /// Whether some run of so many valuations, stem and loop together, violates what is owed.
     Search(u32),
+    /// Whether a joint path of at most so many states leads from an initial state to a bad one. First come the visits
+    /// that the joint states count, then the window, which is the number of states.
+    Base(u32, u32),
+    /// Whether a joint path of so many different states that are not bad leads to a bad one. First come the visits,
+    /// then the window, which is the number of states in front of the bad one.
+    Induction(u32, u32),
 }
+
+/// A joint path that keeps a window from being closed.
+#[derive(Debug, Drop)]
+pub struct OpenPath {
+    /// How many visits its states count.
+    pub visits: u32,
+    /// Whether it begins with an initial state, as a model of the base gives it; else it is of the induction.
+    pub initial: bool,
+    pub path: JointPath,
+}
+
+/// Open paths in order.
+pub type OpenPaths = Items<OpenPath>;
 
 /// What is found out about an assertion.
 #[derive(Debug, Drop)]
 pub enum Finding {
+    /// Each run satisfies what is owed, and this is the evidence.
+    Proved(Certificate),
     /// A run violates what is owed, and no shorter one does.
     Violated(Run),
-    /// No run of at most as many valuations as the depth violates what is owed.
-    Depth,
+    /// No run of at most as many valuations as the depth violates what is owed. For each number of visits, from 0 on, a
+    /// joint path is open at the window of that depth.
+    Depth(OpenPaths),
     /// The steps were spent on a query; the log has as many lemmas.
     Steps(Query, Log),
     /// The log of a query is full.

@@ -1,14 +1,20 @@
 //! The prover: whether each run of a netlist satisfies what is owed of an assertion.
 #![tactic(auto)]
 
+mod answering;
+mod claim;
+mod closing;
+mod context;
 mod finding;
 mod options;
 mod proving;
-mod sizes;
+mod searching;
+mod stop;
+mod task;
 #[cfg(test)]
 mod tests;
 
-pub use finding::{Finding, Query};
+pub use finding::{Finding, OpenPath, OpenPaths, Query};
 pub use options::Options;
-pub use proving::{Task, prove};
-pub use sizes::{ProveFault, check_sizes};
+pub use proving::prove;
+pub use task::Task;

@@ -1,11 +1,14 @@
 // What no clause says: that the calls succeed with ample memory.
-use crate::{Finding, Options, Task, check_sizes, prove};
+ghost use Rattle.std.specs.Prelude.{◌<◌, ◌≤◌, ◌-◌, ◌^◌};
+
+use crate::{Finding, Options, Task, prove};
 use netlist::{Latches, Netlist, Signals, Tables};
 use owed::assumed_size;
 use psl_base::{Items, NoMemory, Place, Text, boxed};
 use psl_tree::{Atom, Bool, Directive, Edge, Fl, Kind, Name, Names, are_in_range};
 use std::alloc::Global;
 use std::test::Fail;
+use work_limits::check_sizes;
 
 // An input i, and nothing else.
 fn example(alloc: Global) -> Result<Netlist, NoMemory> {
@@ -43,11 +46,19 @@ fn assertion(alloc: Global, edge: Edge) -> Result<Directive, NoMemory> {
     })
 }
 
-// What is found of an assertion by runs of at most three valuations.
-fn finding(alloc: Global, netlist: &Netlist, assertion: &Directive) -> Result<Finding, Fail> {
+// What is found of an assertion up to a depth.
+fn finding(
+    alloc: Global,
+    netlist: &Netlist,
+    assertion: &Directive,
+    depth: u32,
+) -> Result<Finding, Fail>
+    requires some { 1 ≤ depth }
+    requires few { depth < 2 ^ 32 - 1 }
+{
     let unit = Items::new(alloc);
     let assumed = assumed_size(alloc, &unit)?;
-    let Ok(()) = check_sizes(alloc, assertion, assumed, netlist, 3) else {
+    let Ok(()) = check_sizes(alloc, assertion, assumed, netlist, depth) else {
         return Err("too large".into());
     };
     if !are_in_range(netlist.names(), &assertion.formula) {
@@ -58,7 +69,8 @@ fn finding(alloc: Global, netlist: &Netlist, assertion: &Directive) -> Result<Fi
         assertion,
         netlist,
         options: Options {
-            depth: 3,
+            depth,
+            visits: 1,
             steps: 1000,
         },
     };
@@ -70,7 +82,7 @@ fn finding(alloc: Global, netlist: &Netlist, assertion: &Directive) -> Result<Fi
 fn an_input_may_be_1(rt: HostRuntime) -> Result<(), Fail> {
     let netlist = example(rt.alloc())?;
     let assertion = assertion(rt.alloc(), Edge::Value)?;
-    let Finding::Violated(run) = finding(rt.alloc(), &netlist, &assertion)? else {
+    let Finding::Violated(run) = finding(rt.alloc(), &netlist, &assertion, 3)? else {
         return Err("no run was found".into());
     };
     assert_eq!(rt; run.stem.len() + run.loop_part.len(), 1);
@@ -81,8 +93,20 @@ fn an_input_may_be_1(rt: HostRuntime) -> Result<(), Fail> {
 fn nothing_rises_at_first(rt: HostRuntime) -> Result<(), Fail> {
     let netlist = example(rt.alloc())?;
     let assertion = assertion(rt.alloc(), Edge::Rise)?;
-    let Finding::Depth = finding(rt.alloc(), &netlist, &assertion)? else {
-        return Err("a run was found".into());
+    let Finding::Proved(certificate) = finding(rt.alloc(), &netlist, &assertion, 3)? else {
+        return Err("no proof was found".into());
     };
+    assert_eq!(rt; certificate.visits, 0);
+    Ok(())
+}
+
+#[test]
+fn one_valuation_does_not_tell(rt: HostRuntime) -> Result<(), Fail> {
+    let netlist = example(rt.alloc())?;
+    let assertion = assertion(rt.alloc(), Edge::Rise)?;
+    let Finding::Depth(paths) = finding(rt.alloc(), &netlist, &assertion, 1)? else {
+        return Err("a depth of 1 was enough".into());
+    };
+    assert_eq!(rt; paths.len(), 2);
     Ok(())
 }

@@ -1,4 +1,4 @@
-use Rattle.prover.proofs.proving.claim_of.Goals as goal
+use Rattle.prover.proofs.claim.claim_of.Goals as goal
 
 pub returns : goal.returns
 returns c = record {

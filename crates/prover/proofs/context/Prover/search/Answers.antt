@@ -1,0 +1,43 @@
+use Rattle.std.proofs.Common.{ap, subst, sym, ◌∙◌}
+use Rattle.cdcl.specs.Answers.{IsRefutation}
+use Rattle.netlist.specs.declared.run.Run.{Run}
+use Rattle.prover.proofs.Evidence.{found-violates, none-more, query-formula, query-large, shortest}
+use Rattle.prover.proofs.Seen.{stops}
+use Rattle.prover.proofs.context.Prover.search.Goals as goal
+use Rattle.prover.specs.Stops.{IsSolved, ViolatesFor}
+use Rattle.prover.specs.declared.answering.Solved.{Solved}
+use Rattle.prover.specs.declared.finding.Query.TheVariants.{Search}
+use Rattle.search_theory.specs.Found.{run_size}
+
+pub returns-in-Err-clause-stop : goal.returns-in-Err-clause-stop
+returns-in-Err-clause-stop c = stops c.args.self.task (Search c.args.size) c.in-Err.fault c.without.result c.without.ensures
+    (λ large. (
+      c.requires.sought,
+      query-large c.args.self.task.netlist.now c.args.self.task.unit.now c.args.self.task.assertion.now
+          c.args.self.claim.now.violation c.args.size c.requires.ready.claim.violation (c.in-Err.ensures.large large),
+    ))
+
+pub solved-requires-clause-formula : goal.solved-requires-clause-formula
+solved-requires-clause-formula c = query-formula c.args.self.task.netlist.now c.args.self.task.unit.now c.args.self.task.assertion.now
+    c.args.self.claim.now.violation c.args.size c.in-Ok.formula c.requires.ready.claim.violation c.in-Ok.ensures.variables c.in-Ok.ensures.clauses
+
+pub judged-requires-clause-violates : goal.judged-requires-clause-violates
+judged-requires-clause-violates c = found-violates c.args.self.task.netlist.now c.args.self.task.unit.now c.args.self.task.assertion.now
+    c.args.self.claim.now.violation c.args.size c.in_ok-run-in-Model.run' c.requires.ready.claim.violation c.in_ok-run-in-Model.ensures.found
+
+pub returns-in-Refuted-clause-none : goal.returns-in-Refuted-clause-none
+returns-in-Refuted-clause-none c =
+    let r : IsRefutation c.in-Ok.formula c.args.self.task.options.steps c.in-Refuted._log =
+    subst (λ (s : Solved). IsSolved c.in-Ok.formula c.args.self.task.options.steps s) c.in-Refuted.is c.in_ok-_log.ensures.solved in
+    none-more c.args.self.task.netlist.now c.args.self.task.unit.now c.args.self.task.assertion.now c.args.self.claim.now.violation c.args.size
+    c.in-Ok.formula c.in-Refuted._log c.requires.ready.claim.violation c.requires.sought.none_below c.in-Ok.ensures.models r.refutes
+
+pub returns-in_ok-judged-in-Model-clause-stop : goal.returns-in_ok-judged-in-Model-clause-stop
+returns-in_ok-judged-in-Model-clause-stop c =
+    let v : ViolatesFor c.args.self.task c.in_ok-run-in-Model.run' =
+    found-violates c.args.self.task.netlist.now c.args.self.task.unit.now c.args.self.task.assertion.now
+    c.args.self.claim.now.violation c.args.size c.in_ok-run-in-Model.run' c.requires.ready.claim.violation c.in_ok-run-in-Model.ensures.found in
+    shortest c.args.self.task.netlist.now c.args.self.task.unit.now c.args.self.task.assertion.now c.args.self.task.options c.args.size
+    c.in_ok-judged-in-Model.judged c.requires.sought
+    (subst (λ (r : Run). ViolatesFor c.args.self.task r) (sym c.in_ok-judged-in-Model.ensures) v)
+    (ap run_size c.in_ok-judged-in-Model.ensures ∙ c.in_ok-run-in-Model.ensures.found.size)

@@ -1,0 +1,39 @@
+-- What proves an assertion.
+use Rattle.std.specs.Prelude.{◌≡◌, ◌+◌, ◌≤◌, ℕ, List, None}
+use Rattle.cdcl.specs.Evidence.{IsTidy}
+use Rattle.certificate.specs.declared.certificate.Certificate.{Certificate}
+use Rattle.clauses.specs.Literals.{clause_words}
+use Rattle.clauses.specs.Logs.{LogEntry, Refutes, lemmas, log_words}
+use Rattle.clauses.specs.declared.log.TheConstants.{MOST_LOG_WORDS}
+use Rattle.netlist.specs.Design.{Design}
+use Rattle.netlist.specs.Runs.{IsRun, word}
+use Rattle.netlist.specs.declared.run.Run.{Run}
+use Rattle.owed.specs.Owed.{owed}
+use Rattle.psl_meaning.specs.Satisfaction.{Sat}
+use Rattle.psl_meaning.specs.Trace.{trace_of}
+use Rattle.psl_tree.specs.declared.directive.Directive.{Directive}
+use Rattle.prover.specs.Queries.{clauses_of, variables_of}
+use Rattle.prover.specs.declared.finding.Query.{Query}
+use Rattle.prover.specs.declared.finding.Query.TheVariants.{Base, Induction}
+use Rattle.prover.specs.declared.options.Options.{Options}
+
+-- a log of the solver refutes the formula of a query
+pub record IsRefuted (design : Design) (unit : List Directive) (assertion : Directive) (steps : ℕ)
+    (query : Query) (log : List LogEntry) : Type 0 where
+  pub refutes : Refutes (variables_of design unit assertion query) (clauses_of design unit assertion query) log
+  pub words : clause_words (clauses_of design unit assertion query) + log_words log ≤ MOST_LOG_WORDS
+  pub few : lemmas log ≤ steps
+  pub tidy : IsTidy (clauses_of design unit assertion query) log
+
+-- The certificate refutes the base and the induction for its visits at its window, which are within the options, and
+-- each run of the netlist satisfies what is owed of the assertion.
+pub record IsProved (design : Design) (unit : List Directive) (assertion : Directive) (options : Options)
+    (certificate : Certificate) : Type 0 where
+  pub number : certificate.assertion ≡ assertion.number
+  pub visits : certificate.visits ≤ options.visits
+  pub some : 1 ≤ certificate.window
+  pub within : certificate.window ≤ options.depth
+  pub base : IsRefuted design unit assertion options.steps (Base certificate.visits certificate.window) certificate.base
+  pub induction : IsRefuted design unit assertion options.steps
+      (Induction certificate.visits certificate.window) certificate.induction
+  pub satisfied : (run : Run) → IsRun design run → Sat (trace_of (word design run)) (owed unit assertion) None

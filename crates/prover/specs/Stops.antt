@@ -1,0 +1,62 @@
+-- What is asked and found, of a task; why a search ends at a query; and what the solver tells of its formula where it
+-- does not.
+use Rattle.std.specs.Prelude.{ℕ, List}
+use Rattle.cdcl.specs.Answers.{IsModelOf, IsRefutation}
+use Rattle.clauses.specs.declared.cnf.Cnf.{Cnf}
+use Rattle.clauses.specs.declared.flat.CnfFault.{CnfFault}
+use Rattle.clauses.specs.declared.flat.CnfFault.TheVariants as faults
+use Rattle.prover.specs.Findings.{IsFinding}
+use Rattle.prover.specs.Queries.{ComesUp, IsFormulaOf, IsLookedAt, IsSought}
+use Rattle.prover.specs.Violating.{NoneBelow, Violates}
+use Rattle.prover.specs.Windows.{AreOpenPaths}
+use Rattle.prover.specs.declared.answering.Solved.{Solved}
+use Rattle.prover.specs.declared.answering.Solved.TheVariants.{Model, Refuted}
+use Rattle.prover.specs.declared.finding.Finding.{Finding}
+use Rattle.prover.specs.declared.finding.Finding.TheVariants.{Large}
+use Rattle.prover.specs.declared.finding.OpenPath.{OpenPath}
+use Rattle.prover.specs.declared.finding.Query.{Query}
+use Rattle.prover.specs.declared.stop.Stop.{Stop}
+use Rattle.prover.specs.declared.stop.Stop.TheVariants as stops
+use Rattle.prover.specs.declared.task.Task.{Task}
+use Rattle.netlist.specs.declared.run.Run.{Run}
+
+abbrev pub IsFindingFor : Task → Finding → Type 0
+IsFindingFor task finding = IsFinding task.netlist.now task.unit.now task.assertion.now task.options finding
+
+abbrev pub ComesUpFor : Task → Query → Type 0
+ComesUpFor task query = ComesUp task.netlist.now task.unit.now task.assertion.now task.options query
+
+abbrev pub IsSoughtFor : Task → ℕ → Type 0
+IsSoughtFor task size = IsSought task.netlist.now task.unit.now task.assertion.now task.options size
+
+abbrev pub IsLookedAtFor : Task → ℕ → ℕ → Type 0
+IsLookedAtFor task visits window =
+    IsLookedAt task.netlist.now task.unit.now task.assertion.now task.options visits window
+
+abbrev pub IsFormulaFor : Task → Query → Cnf → Type 0
+IsFormulaFor task query formula = IsFormulaOf task.netlist.now task.unit.now task.assertion.now query formula
+
+abbrev pub ViolatesFor : Task → Run → Type 0
+ViolatesFor task run = Violates task.netlist.now task.unit.now task.assertion.now run
+
+abbrev pub NoneBelowFor : Task → ℕ → Type 0
+NoneBelowFor task size = NoneBelow task.netlist.now task.unit.now task.assertion.now size
+
+abbrev pub AreOpenPathsFor : Task → ℕ → ℕ → List OpenPath → Type 0
+AreOpenPathsFor task count window paths =
+    AreOpenPaths task.netlist.now task.unit.now task.assertion.now count window paths
+
+-- what is found is found with its evidence
+abbrev pub IsStopOf : Task → Stop → Type 0
+IsStopOf task (stops.Found finding) = IsFindingFor task finding
+IsStopOf task stops.NoMemory = Unit {0}
+
+-- why the search ends where there is no formula of a query
+abbrev pub stop_of : Query → CnfFault → Stop
+stop_of query faults.TooLarge = stops.Found (Large query)
+stop_of query faults.NoMemory = stops.NoMemory
+
+-- a model of the formula, or a log that refutes it
+abbrev pub IsSolved : Cnf → ℕ → Solved → Type 0
+IsSolved formula steps (Model values) = IsModelOf formula values
+IsSolved formula steps (Refuted log) = IsRefutation formula steps log

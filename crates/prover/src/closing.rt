@@ -1,0 +1,150 @@
+// Whether a window is closed: no joint path is open there, of either kind.
+ghost use Rattle.std.specs.Prelude.{◌≡◌, ◌↔◌, suc, IfOk, IfErr};
+ghost use Rattle.circuit_theory.specs.Sizes.{IsTooLarge};
+ghost use Rattle.clauses.specs.declared.flat.CnfFault.{CnfFault};
+ghost use Rattle.joint_theory.specs.Paths.{SomeOpen};
+ghost use Rattle.joint_theory.specs.Queries.{query, query_variables};
+ghost use Rattle.prover.specs.Claims.{IsReady};
+ghost use Rattle.prover.specs.Stops.{AreOpenPathsFor, ComesUpFor, IsLookedAtFor, IsStopOf};
+ghost use Rattle.prover.specs.Views.{IsJointOf, IsKindOf, IsPathAt, view_query};
+ghost use Rattle.run_terms.specs.Formulas.{HasModel};
+
+use crate::answering::Solved;
+use crate::context::Prover;
+use crate::finding::{Finding, OpenPath, OpenPaths, Query};
+use crate::stop::Stop;
+use certificate::Certificate;
+use clauses::{Cnf, CnfFault, Log};
+use joint::{Joint, joint};
+use std::alloc::Global;
+
+/// The joint paths of a kind at a window: those of the initial kind, or the others.
+#[derive(Clone, Copy, Debug)]
+pub(crate) struct View {
+    pub visits: u32,
+    pub window: u32,
+    pub initial: bool,
+}
+
+/// What is told of the joint paths of a kind at a window.
+#[derive(Debug, Drop)]
+pub(crate) enum Kind {
+    /// This one is open.
+    Open(OpenPath),
+    /// None is, as the log shows.
+    Closed(Log),
+}
+
+impl View {
+    // The query for these paths.
+    fn query(self) -> Query
+        ensures { result ≡ view_query self }
+    {
+        if self.initial {
+            Query::Base(self.visits, self.window)
+        } else {
+            Query::Induction(self.visits, self.window)
+        }
+    }
+
+    // Its formula, over joint states.
+    fn formula(self, alloc: Global, joint: &Joint) -> Result<Cnf, CnfFault>
+        ensures variables { IfOk result (λ cnf. cnf.variables
+            ≡ query_variables joint.now.design joint.now.automaton joint.now.visits self.window self.initial) }
+        ensures clauses { IfOk result (λ cnf. cnf.clauses
+            ≡ query joint.now.design joint.now.automaton joint.now.visits self.window self.initial) }
+        ensures models { IfOk result (λ cnf. HasModel cnf.variables cnf.clauses
+            ↔ SomeOpen joint.now.design joint.now.automaton joint.now.visits self.window self.initial) }
+        ensures large { IfErr result (λ fault. fault ≡ CnfFault.TooLarge → IsTooLarge
+            (query_variables joint.now.design joint.now.automaton joint.now.visits self.window self.initial)
+            (query joint.now.design joint.now.automaton joint.now.visits self.window self.initial)) }
+    {
+        if self.initial {
+            joint.base(alloc, self.window)
+        } else {
+            joint.induction(alloc, self.window)
+        }
+    }
+}
+
+impl Prover<'_> {
+    /// An open path of the window for each number of visits. It stops where there is none for one of them: then the
+    /// assertion is proved.
+    pub fn close(self, alloc: Global, window: u32) -> Result<OpenPaths, Stop>
+        requires ready { IsReady self }
+        requires looked_at { IsLookedAtFor self.task 0 window }
+        ensures paths { IfOk result (AreOpenPathsFor self.entry.task (suc self.entry.task.options.visits) window) }
+        ensures stop { IfErr result (IsStopOf self.entry.task) }
+    {
+        let mut paths = OpenPaths::new(alloc);
+        for visits in 0..=self.task.options.visits {
+            let path = self.close_at(alloc, visits, window)?;
+            paths.push(path)?;
+        }
+        Ok(paths)
+    }
+
+    // An open path of the window for a number of visits.
+    fn close_at(self, alloc: Global, visits: u32, window: u32) -> Result<OpenPath, Stop>
+        requires ready { IsReady self }
+        requires looked_at { IsLookedAtFor self.task visits window }
+        ensures path { IfOk result (IsPathAt self.entry.task visits window) }
+        ensures stop { IfErr result (IsStopOf self.entry.task) }
+    {
+        let joint = match joint(alloc, self.task.netlist, &self.claim.violation, visits) {
+            Ok(joint) => joint,
+            Err(fault) => return Err(Stop::without(Query::Base(visits, window), fault)),
+        };
+        let initial = View {
+            visits,
+            window,
+            initial: true,
+        };
+        let base = match self.look(alloc, &joint, initial)? {
+            Kind::Open(path) => return Ok(path),
+            Kind::Closed(log) => log,
+        };
+        let other = View {
+            visits,
+            window,
+            initial: false,
+        };
+        let induction = match self.look(alloc, &joint, other)? {
+            Kind::Open(path) => return Ok(path),
+            Kind::Closed(log) => log,
+        };
+        Err(Stop::Found(Finding::Proved(Certificate {
+            assertion: self.task.assertion.number,
+            visits,
+            window,
+            base,
+            induction,
+        })))
+    }
+
+    // An open path of a kind, or the log that shows that there is none.
+    fn look(self, alloc: Global, joint: &Joint, view: View) -> Result<Kind, Stop>
+        requires ready { IsReady self }
+        requires joint { IsJointOf self.task view.visits joint.now }
+        requires comes_up { ComesUpFor self.task (view_query view) }
+        ensures kind { IfOk result (IsKindOf self.entry.task view) }
+        ensures stop { IfErr result (IsStopOf self.entry.task) }
+    {
+        let query = view.query();
+        let formula = match view.formula(alloc, joint) {
+            Ok(formula) => formula,
+            Err(fault) => return Err(Stop::without(query, fault)),
+        };
+        match self.solved(alloc, query, formula)? {
+            Solved::Refuted(log) => Ok(Kind::Closed(log)),
+            Solved::Model(values) => {
+                let path = joint.read_path(alloc, view.window, view.initial, &values)?;
+                Ok(Kind::Open(OpenPath {
+                    visits: view.visits,
+                    initial: view.initial,
+                    path,
+                }))
+            }
+        }
+    }
+}
