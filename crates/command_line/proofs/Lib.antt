@@ -1,4 +1,6 @@
-pub mod Clap
+pub mod Chains
 pub mod Meanings
 pub mod Numbers
 pub mod Plain
+pub mod Runs
+pub mod Told

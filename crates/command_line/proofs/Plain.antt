@@ -1,25 +1,19 @@
 -- Words that `clap` reads as they stand.
-use Rattle.std.proofs.Common.{◌≡◌, ◌<◌, ◌≤◌, ◌^◌, refl, ℕ, true, false, ◌==◌, List, [], ◌∷◌, Some, None, codes, arith}
+use Rattle.std.proofs.Common.{◌≡◌, ◌<◌, ◌≤◌, ◌^◌, ap, refl, sym, subst, ℕ, List, [], ◌∷◌, Option, Some, codes, arith}
+use Rattle.std.specs.Fmt.{digits}
 use Rattle.std.specs.Prelude.{decimal}
-use Rattle.std.specs.Str.{bytes_eq}
 use Rattle.std.specs.Str.Parse.{AllDigits}
-use Rattle.std.proofs.lemmas.Bool.{ne_eqb}
 use Rattle.std.proofs.lemmas.Fmt.{decimal_is_IsNumeral}
 use Rattle.std.proofs.lemmas.Str.Parse.{digit_from_value}
-use Rattle.clap.specs.Lexer.{strip_byte}
 use Rattle.clap.proofs.OnLiterals.{clap_on_literals}
-use Rattle.command_line.specs.Clap.{Takes, given, two_words, two_words_and_flag}
-use Rattle.command_line.specs.Commands.{IsCommand, ReadsWords, has_netlist, most_seed, show_app}
-use Rattle.command_line.specs.Commands.Meaning.{wave, gen, show, show_netlist}
-use Rattle.command_line.specs.Plain.{IsPlain}
-
-no_hyphen : (word : List ℕ) → IsPlain word → strip_byte 45 word ≡ None
-no_hyphen [] plain = refl
-no_hyphen (x ∷ xs) plain = let other : (x == 45) ≡ false = ne_eqb x 45 plain in rw other refl
-
-no_dashes : (word : List ℕ) → IsPlain word → bytes_eq word (45 ∷ 45 ∷ []) ≡ false
-no_dashes [] plain = refl
-no_dashes (x ∷ xs) plain = let other : (x == 45) ≡ false = ne_eqb x 45 plain in rw other refl
+use Rattle.command_line.specs.Clap.{Takes, app, given, is_true}
+use Rattle.command_line.specs.Commands.{AreLimits, IsCommand, Values, most_seed}
+use Rattle.command_line.specs.Commands.Meaning.{wave, gen, show, show_netlist, prove}
+use Rattle.command_line.specs.Numbers.{IsGiven}
+use Rattle.command_line.specs.Plain.{IsPlain, limits_of_depth, usual_limits, with_depth}
+use Rattle.command_line.specs.declared.Limits.{Limits}
+use Rattle.command_line.specs.declared.kinds.Kind.TheVariants.{Wave, Gen, Show, Prove}
+use Rattle.command_line.proofs.Runs.{any_then, behind, behind_any, behind_value, ends, run_given, run_taken, start, value_then, word_then}
 
 -- digits do not begin with a hyphen
 plain_digits : (digits : List ℕ) → AllDigits 10 digits → IsPlain digits
@@ -29,165 +23,140 @@ plain_digits (x ∷ xs) all hyphen = omega (arith, digit_from_value x all.0)
 plain_decimal : (number : ℕ) → number < 2 ^ 64 → IsPlain (decimal number)
 plain_decimal number small = plain_digits (decimal number) (decimal_is_IsNumeral number small).0.1
 
--- two names tell their words apart
-record Names (first second : List ℕ) : Type 0 where
-  one : bytes_eq first first ≡ true
-  two : bytes_eq second second ≡ true
-  apart : bytes_eq first second ≡ false
-  back : bytes_eq second first ≡ false
+given_text : (least most number : ℕ) (value : Option (List ℕ)) (word : List ℕ) → value ≡ Some word → word ≡ decimal number → least ≤ number
+    → number ≤ most → IsGiven least most value number
+given_text least most number value word is form above below =
+    subst (λ (given : Option (List ℕ)). IsGiven least most given number) (sym is) (record { form = form; above = above; below = below })
 
-taken : (name first second a b : List ℕ) → Names first second → IsPlain a → IsPlain b → Takes (two_words name first second) (name ∷ a ∷ b ∷ [])
-unfolding clap_on_literals Takes two_words
-taken name first second a b names plain_a plain_b =
-    simp (no_hyphen a plain_a, no_dashes a plain_a, no_hyphen b plain_b, no_dashes b plain_b, names.one, names.two, names.apart, names.back)
+given_number : (least most number : ℕ) (value : Option (List ℕ)) → value ≡ Some (decimal number) → least ≤ number → number ≤ most
+    → IsGiven least most value number
+given_number least most number value is = given_text least most number value (decimal number) is refl
 
-one_given : (name first second a b : List ℕ) → Names first second → IsPlain a → IsPlain b
-    → given (two_words name first second) (name ∷ a ∷ b ∷ []) first ≡ Some a
-unfolding clap_on_literals given two_words
-one_given name first second a b names plain_a plain_b =
-    simp (no_hyphen a plain_a, no_dashes a plain_a, no_hyphen b plain_b, no_dashes b plain_b, names.one, names.two, names.apart, names.back)
+usual_depth : codes "20" ≡ decimal 20
+unfolding digits
+usual_depth = refl
 
-two_given : (name first second a b : List ℕ) → Names first second → IsPlain a → IsPlain b
-    → given (two_words name first second) (name ∷ a ∷ b ∷ []) second ≡ Some b
-unfolding clap_on_literals given two_words
-two_given name first second a b names plain_a plain_b =
-    simp (no_hyphen a plain_a, no_dashes a plain_a, no_hyphen b plain_b, no_dashes b plain_b, names.one, names.two, names.apart, names.back)
+usual_visits : codes "4" ≡ decimal 4
+unfolding digits
+usual_visits = refl
 
--- words that begin with no hyphen are read as they stand
-plain_reads : (name first second a b : List ℕ) → Names first second → IsPlain a → IsPlain b → ReadsWords name first second (name ∷ a ∷ b ∷ []) a b
-plain_reads name first second a b names plain_a plain_b = record {
-  named = refl;
-  taken = taken name first second a b names plain_a plain_b;
-  one_given = one_given name first second a b names plain_a plain_b;
-  two_given = two_given name first second a b names plain_a plain_b;
-}
+usual_steps : codes "1000000" ≡ decimal 1000000
+unfolding digits
+usual_steps = refl
 
-taken_behind : (name first second a b : List ℕ) → Names first second → Takes (two_words name first second) (name ∷ codes "--" ∷ a ∷ b ∷ [])
-unfolding clap_on_literals Takes two_words
-taken_behind name first second a b names = simp (names.one, names.two, names.apart, names.back)
-
-one_behind : (name first second a b : List ℕ) → Names first second → given (two_words name first second) (name ∷ codes "--" ∷ a ∷ b ∷ []) first ≡ Some a
-unfolding clap_on_literals given two_words
-one_behind name first second a b names = simp (names.one, names.two, names.apart, names.back)
-
-two_behind : (name first second a b : List ℕ) → Names first second → given (two_words name first second) (name ∷ codes "--" ∷ a ∷ b ∷ []) second ≡ Some b
-unfolding clap_on_literals given two_words
-two_behind name first second a b names = simp (names.one, names.two, names.apart, names.back)
-
--- behind `--` all words are read as they stand
-reads_behind : (name first second a b : List ℕ) → Names first second → ReadsWords name first second (name ∷ codes "--" ∷ a ∷ b ∷ []) a b
-reads_behind name first second a b names = record {
-  named = refl;
-  taken = taken_behind name first second a b names;
-  one_given = one_behind name first second a b names;
-  two_given = two_behind name first second a b names;
-}
-
-wave_names : Names (codes "unit") (codes "recording")
-wave_names = record { one = refl; two = refl; apart = refl; back = refl }
-
-gen_names : Names (codes "seed") (codes "samples")
-gen_names = record { one = refl; two = refl; apart = refl; back = refl }
-
--- ---- `show`, with the flag and without it
-
-shown_taken : (a b : List ℕ) → IsPlain a → IsPlain b → Takes show_app (codes "show" ∷ a ∷ b ∷ [])
-unfolding clap_on_literals Takes two_words two_words_and_flag
-shown_taken a b plain_a plain_b = simp (no_hyphen a plain_a, no_dashes a plain_a, no_hyphen b plain_b, no_dashes b plain_b)
-
-shown_unit : (a b : List ℕ) → IsPlain a → IsPlain b → given show_app (codes "show" ∷ a ∷ b ∷ []) (codes "unit") ≡ Some a
-unfolding clap_on_literals given two_words two_words_and_flag
-shown_unit a b plain_a plain_b = simp (no_hyphen a plain_a, no_dashes a plain_a, no_hyphen b plain_b, no_dashes b plain_b)
-
-shown_names : (a b : List ℕ) → IsPlain a → IsPlain b → given show_app (codes "show" ∷ a ∷ b ∷ []) (codes "names") ≡ Some b
-unfolding clap_on_literals given two_words two_words_and_flag
-shown_names a b plain_a plain_b = simp (no_hyphen a plain_a, no_dashes a plain_a, no_hyphen b plain_b, no_dashes b plain_b)
-
-shown_unset : (a b : List ℕ) → IsPlain a → IsPlain b → has_netlist (codes "show" ∷ a ∷ b ∷ []) ≡ false
-unfolding clap_on_literals given two_words two_words_and_flag
-shown_unset a b plain_a plain_b = simp (no_hyphen a plain_a, no_dashes a plain_a, no_hyphen b plain_b, no_dashes b plain_b)
-
-flagged_taken : (a b : List ℕ) → IsPlain a → IsPlain b → Takes show_app (codes "show" ∷ a ∷ b ∷ codes "--netlist" ∷ [])
-unfolding clap_on_literals Takes two_words two_words_and_flag
-flagged_taken a b plain_a plain_b = simp (no_hyphen a plain_a, no_dashes a plain_a, no_hyphen b plain_b, no_dashes b plain_b)
-
-flagged_unit : (a b : List ℕ) → IsPlain a → IsPlain b → given show_app (codes "show" ∷ a ∷ b ∷ codes "--netlist" ∷ []) (codes "unit") ≡ Some a
-unfolding clap_on_literals given two_words two_words_and_flag
-flagged_unit a b plain_a plain_b = simp (no_hyphen a plain_a, no_dashes a plain_a, no_hyphen b plain_b, no_dashes b plain_b)
-
-flagged_names : (a b : List ℕ) → IsPlain a → IsPlain b → given show_app (codes "show" ∷ a ∷ b ∷ codes "--netlist" ∷ []) (codes "names") ≡ Some b
-unfolding clap_on_literals given two_words two_words_and_flag
-flagged_names a b plain_a plain_b = simp (no_hyphen a plain_a, no_dashes a plain_a, no_hyphen b plain_b, no_dashes b plain_b)
-
-flagged_set : (a b : List ℕ) → IsPlain a → IsPlain b → has_netlist (codes "show" ∷ a ∷ b ∷ codes "--netlist" ∷ []) ≡ true
-unfolding clap_on_literals given two_words two_words_and_flag
-flagged_set a b plain_a plain_b = simp (no_hyphen a plain_a, no_dashes a plain_a, no_hyphen b plain_b, no_dashes b plain_b)
-
-behind_taken : (a b : List ℕ) → Takes show_app (codes "show" ∷ codes "--" ∷ a ∷ b ∷ [])
-unfolding clap_on_literals Takes two_words two_words_and_flag
-behind_taken a b = refl
-
-behind_unit : (a b : List ℕ) → given show_app (codes "show" ∷ codes "--" ∷ a ∷ b ∷ []) (codes "unit") ≡ Some a
-unfolding clap_on_literals given two_words two_words_and_flag
-behind_unit a b = refl
-
-behind_names : (a b : List ℕ) → given show_app (codes "show" ∷ codes "--" ∷ a ∷ b ∷ []) (codes "names") ≡ Some b
-unfolding clap_on_literals given two_words two_words_and_flag
-behind_names a b = refl
-
-behind_unset : (a b : List ℕ) → has_netlist (codes "show" ∷ codes "--" ∷ a ∷ b ∷ []) ≡ false
-unfolding clap_on_literals given two_words two_words_and_flag
-behind_unset a b = refl
+-- ---- the laws
 
 pub plain_wave : (most : ℕ) (unit recording : List ℕ) → IsPlain unit → IsPlain recording
     → IsCommand most (codes "wave" ∷ unit ∷ recording ∷ []) (wave unit recording)
-plain_wave most unit recording one two = plain_reads (codes "wave") (codes "unit") (codes "recording") unit recording wave_names one two
-
-pub plain_show : (most : ℕ) (unit names : List ℕ) → IsPlain unit → IsPlain names
-    → IsCommand most (codes "show" ∷ unit ∷ names ∷ []) (show unit names)
-plain_show most unit names one two = (
-  record {
-    named = refl;
-    taken = shown_taken unit names one two;
-    one_given = shown_unit unit names one two;
-    two_given = shown_names unit names one two;
-  },
-  shown_unset unit names one two,
-)
-
-pub plain_netlist : (most : ℕ) (unit netlist : List ℕ) → IsPlain unit → IsPlain netlist
-    → IsCommand most (codes "show" ∷ unit ∷ netlist ∷ codes "--netlist" ∷ []) (show_netlist unit netlist)
-plain_netlist most unit netlist one two = (
-  record {
-    named = refl;
-    taken = flagged_taken unit netlist one two;
-    one_given = flagged_unit unit netlist one two;
-    two_given = flagged_names unit netlist one two;
-  },
-  flagged_set unit netlist one two,
-)
-
-pub wave_behind : (most : ℕ) (unit recording : List ℕ) → IsCommand most (codes "wave" ∷ codes "--" ∷ unit ∷ recording ∷ []) (wave unit recording)
-wave_behind most unit recording = reads_behind (codes "wave") (codes "unit") (codes "recording") unit recording wave_names
-
-pub show_behind : (most : ℕ) (unit names : List ℕ) → IsCommand most (codes "show" ∷ codes "--" ∷ unit ∷ names ∷ []) (show unit names)
-show_behind most unit names = (
-  record {
-    named = refl;
-    taken = behind_taken unit names;
-    one_given = behind_unit unit names;
-    two_given = behind_names unit names;
-  },
-  behind_unset unit names,
-)
+unfolding clap_on_literals app
+plain_wave most a b one two =
+    let words = a ∷ b ∷ [] in
+    let first = behind Wave start a in
+    let end = behind Wave first b in
+    let run = word_then Wave start.held 1 end a (b ∷ []) one refl (word_then Wave first.held 2 end b [] two refl (ends Wave end)) in (
+      record { named = refl; taken = run_taken Wave words end run refl },
+      (run_given Wave words end (codes "unit") run, run_given Wave words end (codes "recording") run),
+    )
 
 pub plain_gen : (most seed samples : ℕ) → most < 2 ^ 32 → seed ≤ most_seed → 1 ≤ samples → samples ≤ most
     → IsCommand most (codes "gen" ∷ decimal seed ∷ decimal samples ∷ []) (gen seed samples)
-plain_gen most seed samples fits low some high = (
-  decimal seed,
-  decimal samples,
-  plain_reads (codes "gen") (codes "seed") (codes "samples") (decimal seed) (decimal samples) gen_names (plain_decimal seed (omega arith))
-      (plain_decimal samples (omega arith)),
-  record { form = refl; above = omega arith; below = low },
-  record { form = refl; above = some; below = high },
-)
+unfolding clap_on_literals app
+plain_gen most seed samples fits low some high =
+    let a = decimal seed in
+    let b = decimal samples in
+    let words = a ∷ b ∷ [] in
+    let first = behind Gen start a in
+    let end = behind Gen first b in
+    let run = word_then Gen start.held 1 end a (b ∷ []) (plain_decimal seed (omega arith)) refl
+    (word_then Gen first.held 2 end b [] (plain_decimal samples (omega arith)) refl (ends Gen end)) in (
+      record { named = refl; taken = run_taken Gen words end run refl },
+      (
+        given_number 0 most_seed seed _ (run_given Gen words end (codes "seed") run) (omega arith) low,
+        given_number 1 most samples _ (run_given Gen words end (codes "samples") run) some high,
+      ),
+    )
+
+pub plain_show : (most : ℕ) (unit names : List ℕ) → IsPlain unit → IsPlain names
+    → IsCommand most (codes "show" ∷ unit ∷ names ∷ []) (show unit names)
+unfolding clap_on_literals app
+plain_show most a b one two =
+    let words = a ∷ b ∷ [] in
+    let first = behind Show start a in
+    let end = behind Show first b in
+    let run = word_then Show start.held 1 end a (b ∷ []) one refl (word_then Show first.held 2 end b [] two refl (ends Show end)) in (
+      record { named = refl; taken = run_taken Show words end run refl },
+      (run_given Show words end (codes "unit") run, run_given Show words end (codes "names") run, ap is_true (run_given Show words end (codes "netlist") run)),
+    )
+
+pub plain_netlist : (most : ℕ) (unit netlist : List ℕ) → IsPlain unit → IsPlain netlist
+    → IsCommand most (codes "show" ∷ unit ∷ netlist ∷ codes "--netlist" ∷ []) (show_netlist unit netlist)
+unfolding clap_on_literals app
+plain_netlist most a b one two =
+    let words = a ∷ b ∷ codes "--netlist" ∷ [] in
+    let first = behind Show start a in
+    let second = behind Show first b in
+    let end = behind_any Show second (codes "--netlist") in
+    let run = word_then Show start.held 1 end a (b ∷ codes "--netlist" ∷ []) one refl
+    (word_then Show first.held 2 end b (codes "--netlist" ∷ []) two refl
+    (any_then Show second end (codes "--netlist") [] refl (ends Show end))) in (
+      record { named = refl; taken = run_taken Show words end run refl },
+      (run_given Show words end (codes "unit") run, run_given Show words end (codes "names") run, ap is_true (run_given Show words end (codes "netlist") run)),
+    )
+
+-- the limits, where two of the options are not given
+usual : (values : Values) (limits : Limits) → IsGiven 1 1000 (values (codes "depth")) limits.depth → values (codes "visits") ≡ Some (codes "4")
+    → values (codes "steps") ≡ Some (codes "1000000") → AreLimits values (limits_of_depth limits.depth)
+usual values limits depth visits steps = record {
+  depth = depth;
+  visits = given_text 0 16 4 _ (codes "4") visits usual_visits (omega arith) (omega arith);
+  steps = given_text 1 10000000 1000000 _ (codes "1000000") steps usual_steps (omega arith) (omega arith);
+}
+
+pub plain_prove : (most : ℕ) (unit netlist : List ℕ) → IsPlain unit → IsPlain netlist
+    → IsCommand most (codes "prove" ∷ unit ∷ netlist ∷ []) (prove unit netlist usual_limits)
+unfolding clap_on_literals app
+plain_prove most a b one two =
+    let words = a ∷ b ∷ [] in
+    let first = behind Prove start a in
+    let end = behind Prove first b in
+    let run = word_then Prove start.held 1 end a (b ∷ []) one refl (word_then Prove first.held 2 end b [] two refl (ends Prove end)) in
+    let depth = given_text 1 1000 20 _ (codes "20") (run_given Prove words end (codes "depth") run) usual_depth (omega arith) (omega arith) in (
+      record { named = refl; taken = run_taken Prove words end run refl },
+      (
+        run_given Prove words end (codes "unit") run,
+        run_given Prove words end (codes "netlist") run,
+        usual _ usual_limits depth (run_given Prove words end (codes "visits") run) (run_given Prove words end (codes "steps") run),
+      ),
+    )
+
+pub plain_depth : (most : ℕ) (unit netlist : List ℕ) (depth : ℕ) → IsPlain unit → IsPlain netlist → 1 ≤ depth → depth ≤ 1000
+    → IsCommand most (with_depth unit netlist depth) (prove unit netlist (limits_of_depth depth))
+unfolding clap_on_literals app
+plain_depth most a b number one two above below =
+    let words = a ∷ b ∷ codes "--depth" ∷ decimal number ∷ [] in
+    let first = behind Prove start a in
+    let second = behind Prove first b in
+    let third = behind_any Prove second (codes "--depth") in
+    let end = behind_value Prove third (codes "depth") (decimal number) in
+    let run = word_then Prove start.held 1 end a (b ∷ codes "--depth" ∷ decimal number ∷ []) one refl
+    (word_then Prove first.held 2 end b (codes "--depth" ∷ decimal number ∷ []) two refl
+    (any_then Prove second end (codes "--depth") (decimal number ∷ []) refl
+    (value_then Prove third.held 3 end (codes "depth") (decimal number) [] (plain_decimal number (omega arith)) (ends Prove end)))) in
+    let depth = given_number 1 1000 number _ (run_given Prove words end (codes "depth") run) above below in (
+      record { named = refl; taken = run_taken Prove words end run refl },
+      (
+        run_given Prove words end (codes "unit") run,
+        run_given Prove words end (codes "netlist") run,
+        usual _ (limits_of_depth number) depth (run_given Prove words end (codes "visits") run) (run_given Prove words end (codes "steps") run),
+      ),
+    )
+
+-- ---- behind `--` all words are read as they stand
+
+pub wave_behind : (most : ℕ) (unit recording : List ℕ) → IsCommand most (codes "wave" ∷ codes "--" ∷ unit ∷ recording ∷ []) (wave unit recording)
+unfolding clap_on_literals Takes given app
+wave_behind most unit recording = (record { named = refl; taken = refl }, (refl, refl))
+
+pub show_behind : (most : ℕ) (unit names : List ℕ) → IsCommand most (codes "show" ∷ codes "--" ∷ unit ∷ names ∷ []) (show unit names)
+unfolding clap_on_literals Takes given app
+show_behind most unit names = (record { named = refl; taken = refl }, (refl, refl, refl))

@@ -1,11 +1,14 @@
 -- The commands, and what the words after the program's name say.
-use Rattle.std.specs.Prelude.{◌≡◌, ◌≢◌, ◌⊎◌, ℕ, Bool, true, false, List, Some, codes, slice_get}
-use Rattle.command_line.specs.Numbers.{IsNumber}
-use Rattle.clap.specs.Simple.{App}
-use Rattle.command_line.specs.Clap.{Takes, given, is_set, two_words, two_words_and_flag}
+use Rattle.std.specs.Prelude.{◌≡◌, ◌≢◌, ℕ, true, false, List, Option, Some, codes, slice_get}
+use Rattle.command_line.specs.Clap.{Takes, given, is_true}
+use Rattle.command_line.specs.Kinds.{app_of, name_of}
+use Rattle.command_line.specs.Numbers.{IsGiven}
 use Rattle.command_line.specs.declared.Command.{Command}
-use Rattle.command_line.specs.declared.Command.TheVariants.{Wave, Gen, Show, ShowNetlist}
-use Rattle.command_line.specs.declared.commands.TheConstants.{MOST_SEED}
+use Rattle.command_line.specs.declared.Command.TheVariants.{Wave, Gen, Show, ShowNetlist, Prove}
+use Rattle.command_line.specs.declared.Limits.{Limits}
+use Rattle.command_line.specs.declared.commands.TheConstants.{MOST_SEED, MOST_DEPTH, MOST_VISITS, MOST_STEPS}
+use Rattle.command_line.specs.declared.kinds.Kind.{Kind}
+use Rattle.command_line.specs.declared.kinds.Kind.TheVariants as kind
 
 -- which command, with which values
 pub data Meaning : Type 0 where
@@ -13,70 +16,80 @@ pub data Meaning : Type 0 where
   gen : ℕ → ℕ → Meaning
   show : List ℕ → List ℕ → Meaning
   show_netlist : List ℕ → List ℕ → Meaning
+  prove : List ℕ → List ℕ → Limits → Meaning
 
--- The words are those of this command: the first is its name, `clap` takes those after it, and finds these two values
--- for the names FIRST and SECOND.
-pub record Reads (name : List ℕ) (app : App) (first second : List ℕ) (words : List (List ℕ)) (one two : List ℕ) : Type 0 where
-  pub named : slice_get words 0 ≡ Some name
-  pub taken : Takes app words
-  pub one_given : given app words first ≡ Some one
-  pub two_given : given app words second ≡ Some two
-
--- `NAME FIRST SECOND` and nothing else
-abbrev pub ReadsWords : List ℕ → List ℕ → List ℕ → List (List ℕ) → List ℕ → List ℕ → Type 0
-ReadsWords name first second = Reads name (two_words name first second) first second
-
--- `show UNIT NAMES`, with the flag `--netlist` or without it
-abbrev pub show_app : App
-show_app = two_words_and_flag (codes "show") (codes "unit") (codes "names") (codes "netlist")
-
-abbrev pub ReadsShow : List (List ℕ) → List ℕ → List ℕ → Type 0
-ReadsShow = Reads (codes "show") show_app (codes "unit") (codes "names")
-
--- whether the flag is given
-abbrev pub has_netlist : List (List ℕ) → Bool
-has_netlist words = is_set show_app words (codes "netlist")
+abbrev pub kind_of : Meaning → Kind
+kind_of (wave unit recording) = kind.Wave
+kind_of (gen seed samples) = kind.Gen
+kind_of (show unit names) = kind.Show
+kind_of (show_netlist unit netlist) = kind.Show
+kind_of (prove unit netlist limits) = kind.Prove
 
 -- the largest seed
 abbrev pub most_seed : ℕ
 most_seed = MOST_SEED
 
--- The words are `wave UNIT RECORDING`, `gen SEED SAMPLES`, `show UNIT NAMES` or `show UNIT NAMES --netlist`. A seed is
--- at most 2^31 - 1, and of samples there is one at least and at most the limit.
+-- what is given for each name of a word, a flag or an option
+abbrev pub Values : Type 0
+Values = List ℕ → Option (List ℕ)
+
+-- The options of `prove` say these limits: a depth from 1 to 1,000, at most 16 visits, and from 1 to 10,000,000 steps.
+pub record AreLimits (values : Values) (limits : Limits) : Type 0 where
+  pub depth : IsGiven 1 MOST_DEPTH (values (codes "depth")) limits.depth
+  pub visits : IsGiven 0 MOST_VISITS (values (codes "visits")) limits.visits
+  pub steps : IsGiven 1 MOST_STEPS (values (codes "steps")) limits.steps
+
+-- What values say: `wave UNIT RECORDING`, `gen SEED SAMPLES`, `show UNIT NAMES`, `show UNIT NAMES --netlist` or
+-- `prove UNIT NETLIST` with its limits. A seed is at most 2^31 - 1, and of samples there is one at least and at most
+-- the limit.
+abbrev pub Says : ℕ → Values → Meaning → Type 0
+Says most values (wave unit recording) =
+    (values (codes "unit") ≡ Some unit) × (values (codes "recording") ≡ Some recording)
+Says most values (gen seed samples) =
+    IsGiven 0 most_seed (values (codes "seed")) seed × IsGiven 1 most (values (codes "samples")) samples
+Says most values (show unit names) =
+    (values (codes "unit") ≡ Some unit) × (values (codes "names") ≡ Some names)
+    × (is_true (values (codes "netlist")) ≡ false)
+Says most values (show_netlist unit netlist) =
+    (values (codes "unit") ≡ Some unit) × (values (codes "names") ≡ Some netlist)
+    × (is_true (values (codes "netlist")) ≡ true)
+Says most values (prove unit netlist limits) =
+    (values (codes "unit") ≡ Some unit) × (values (codes "netlist") ≡ Some netlist) × AreLimits values limits
+
+-- The words are those of such a command: the first is its name, and `clap` takes those after it.
+pub record AreTaken (kind : Kind) (words : List (List ℕ)) : Type 0 where
+  pub named : slice_get words 0 ≡ Some (name_of kind)
+  pub taken : Takes (app_of kind) words
+
+-- what words that are taken give
+abbrev pub values_of : Kind → List (List ℕ) → Values
+values_of kind words = given (app_of kind) words
+
+-- the words are this command, which is what their values say
 abbrev pub IsCommand : ℕ → List (List ℕ) → Meaning → Type 0
-IsCommand most words (wave unit recording) = ReadsWords (codes "wave") (codes "unit") (codes "recording") words unit recording
-IsCommand most words (gen seed samples) = (first second : List ℕ) × ReadsWords (codes "gen") (codes "seed") (codes "samples") words first second
-    × IsNumber 0 most_seed first seed × IsNumber 1 most second samples
-IsCommand most words (show unit names) = ReadsShow words unit names × (has_netlist words ≡ false)
-IsCommand most words (show_netlist unit netlist) = ReadsShow words unit netlist × (has_netlist words ≡ true)
+IsCommand most words meaning =
+    AreTaken (kind_of meaning) words × Says most (values_of (kind_of meaning) words) meaning
 
 -- the words are no command
 abbrev pub IsNoCommand : ℕ → List (List ℕ) → Type 0
 IsNoCommand most words = (meaning : Meaning) → IsCommand most words meaning → ⊥
 
--- the first word is this name, and `clap` does not take those after it for its command
-abbrev pub IsUntaken : List ℕ → App → List (List ℕ) → Type 0
-IsUntaken name app words = (slice_get words 0 ≡ Some name) × (Takes app words → ⊥)
+-- the values of such a command are to be numbers, and one of them is none in its range
+abbrev pub AreUnnumbered : ℕ → Values → Kind → Type 0
+AreUnnumbered most values kind.Wave = ⊥
+AreUnnumbered most values kind.Gen = (seed samples : ℕ)
+    → IsGiven 0 most_seed (values (codes "seed")) seed → IsGiven 1 most (values (codes "samples")) samples → ⊥
+AreUnnumbered most values kind.Show = ⊥
+AreUnnumbered most values kind.Prove = (limits : Limits) → AreLimits values limits → ⊥
 
-abbrev pub AreUntakenWords : List ℕ → List ℕ → List ℕ → List (List ℕ) → Type 0
-AreUntakenWords name first second = IsUntaken name (two_words name first second)
-
--- the words are those of `gen`, and one of them is no number in its range
-abbrev pub IsUnnumbered : ℕ → List (List ℕ) → Type 0
-IsUnnumbered most words = (first second : List ℕ) × ReadsWords (codes "gen") (codes "seed") (codes "samples") words first second
-    × ((seed samples : ℕ) → IsNumber 0 most_seed first seed → IsNumber 1 most second samples → ⊥)
-
--- the first word is no command's name
-abbrev pub IsUnnamed : List (List ℕ) → Type 0
-IsUnnamed words = (slice_get words 0 ≢ Some (codes "wave")) × (slice_get words 0 ≢ Some (codes "gen"))
-    × (slice_get words 0 ≢ Some (codes "show"))
-
--- why words are refused
-abbrev pub IsRefused : ℕ → List (List ℕ) → Type 0
-IsRefused most words = IsUnnamed words
-    ⊎ (AreUntakenWords (codes "wave") (codes "unit") (codes "recording") words
-    ⊎ (AreUntakenWords (codes "gen") (codes "seed") (codes "samples") words
-    ⊎ (IsUntaken (codes "show") show_app words ⊎ IsUnnumbered most words)))
+-- Why words are refused: the first is no command's name, `clap` does not take those after it, or one of them is no
+-- number in its range.
+pub data IsRefused (most : ℕ) (words : List (List ℕ)) : Type 0 where
+  unnamed : ((kind : Kind) → slice_get words 0 ≢ Some (name_of kind)) → IsRefused most words
+  untaken : (kind : Kind) → slice_get words 0 ≡ Some (name_of kind) → (Takes (app_of kind) words → ⊥)
+      → IsRefused most words
+  unnumbered : (kind : Kind) → AreTaken kind words → AreUnnumbered most (values_of kind words) kind
+      → IsRefused most words
 
 -- what a command that was read means
 abbrev pub meaning_of : Command → Meaning
@@ -84,8 +97,8 @@ meaning_of (Wave unit recording) = wave unit.now recording.now
 meaning_of (Gen seed samples) = gen seed samples
 meaning_of (Show unit names) = show unit.now names.now
 meaning_of (ShowNetlist unit netlist) = show_netlist unit.now netlist.now
+meaning_of (Prove unit netlist limits) = prove unit.now netlist.now limits
 
--- the command is `gen` with the numbers that these two words are
-abbrev pub IsGen : ℕ → List ℕ → List ℕ → Command → Type 0
-IsGen most first second (Gen seed samples) = IsNumber 0 most_seed first seed × IsNumber 1 most second samples
-IsGen most first second _ = ⊥
+-- a command of such words was read, and is what their values say
+abbrev pub IsRead : ℕ → Values → Kind → Command → Type 0
+IsRead most values kind command = (kind_of (meaning_of command) ≡ kind) × Says most values (meaning_of command)

@@ -1,4 +1,6 @@
+pub mod Chains
 pub mod Clap
 pub mod Commands
+pub mod Kinds
 pub mod Numbers
 pub mod Plain

@@ -1,66 +1,115 @@
-//! Each command with its words. A command that takes other words has a function here that describes them
-//! to `clap`, and nothing else changes.
+//! Each command, from the values of its words. A command that takes other words has a function here, and
+//! its rows in `kinds`.
 
-ghost use Rattle.std.specs.Prelude.{◌≡◌, ◌⊎◌, ℕ, List, map, codes, IfOk, IfErr, Some, slice_get, string_bytes};
-ghost use Rattle.command_line.specs.Numbers.{IsNumber};
-ghost use Rattle.command_line.specs.Commands.{AreUntakenWords, IsCommand, IsGen, IsUnnumbered, IsUntaken};
-ghost use Rattle.command_line.specs.Commands.{meaning_of, most_seed, show_app};
+ghost use Rattle.std.specs.Prelude.{◌≡◌, ◌≤◌, ℕ, IfOk, IfErr, IfSome, IsNone};
+ghost use Rattle.clap.specs.Words.{first_value, found_of};
+ghost use Rattle.command_line.specs.Chains.{HasRequired};
+ghost use Rattle.command_line.specs.Commands.{AreLimits, AreUnnumbered, IsRead};
+ghost use Rattle.command_line.specs.Kinds.{rules_of};
 
-use crate::number::number;
-use crate::parsing::{show_words, two_words};
-use crate::{Command, WordsFault};
-use std::alloc::Global;
+use crate::kinds::Kind;
+use crate::number::number_of;
+use crate::parsing::{is_set, word};
+use crate::{Command, Limits, WordsFault};
+use clap::ArgMatches;
 
 /// The largest seed.
 const MOST_SEED: u32 = 0x7fff_ffff;
 
-/// `wave UNIT RECORDING`
-pub fn read_wave<'a>(alloc: Global, words: &'a [String]) -> Result<Command<'a>, WordsFault>
-    requires { slice_get (map string_bytes words.now) 0 ≡ Some (codes "wave") }
-    ensures command { IfOk result (λ command. (most : ℕ) → IsCommand most (map string_bytes words.entry.now) (meaning_of command)) }
-    ensures usage { IfErr result (λ fault. fault ≡ WordsFault.Usage → AreUntakenWords (codes "wave") (codes "unit") (codes "recording") (map string_bytes words.entry.now)) }
+/// The largest depth of a proof.
+const MOST_DEPTH: u32 = 1_000;
+
+/// The largest number of visits.
+const MOST_VISITS: u32 = 16;
+
+/// The largest number of steps.
+const MOST_STEPS: u32 = 10_000_000;
+
+/// The command that the values of its words say.
+pub fn read_values<'a>(
+    kind: Kind,
+    matches: &ArgMatches<'a>,
+    most_samples: u32,
+) -> Result<Command<'a>, WordsFault>
+    requires { HasRequired (rules_of kind) (first_value (found_of matches.now)) }
+    ensures command { IfOk result (IsRead most_samples (first_value (found_of matches.now)) kind) }
+    ensures usage { IfErr result (λ _. AreUnnumbered most_samples (first_value (found_of matches.now)) kind) }
 {
-    let (unit, recording) = two_words(alloc, words, "wave", "unit", "recording")?;
-    Ok(Command::Wave { unit, recording })
+    match kind {
+        Kind::Wave => Ok(wave(matches)),
+        Kind::Gen => gen_of(matches, most_samples),
+        Kind::Show => Ok(show(matches)),
+        Kind::Prove => prove(matches),
+    }
 }
 
-/// `show UNIT NAMES`, with `--netlist` or without it
-pub fn read_show<'a>(alloc: Global, words: &'a [String]) -> Result<Command<'a>, WordsFault>
-    requires { slice_get (map string_bytes words.now) 0 ≡ Some (codes "show") }
-    ensures command { IfOk result (λ command. (most : ℕ) → IsCommand most (map string_bytes words.entry.now) (meaning_of command)) }
-    ensures usage { IfErr result (λ fault. fault ≡ WordsFault.Usage → IsUntaken (codes "show") show_app (map string_bytes words.entry.now)) }
+/// `wave UNIT RECORDING`
+fn wave<'a>(matches: &ArgMatches<'a>) -> Command<'a>
+    requires { HasRequired (rules_of Kind.Wave) (first_value (found_of matches.now)) }
+    ensures { (most : ℕ) → IsRead most (first_value (found_of matches.now)) Kind.Wave result }
 {
-    let (unit, names, is_netlist) = show_words(alloc, words)?;
-    if is_netlist {
-        return Ok(Command::ShowNetlist {
-            unit,
-            netlist: names,
-        });
+    Command::Wave {
+        unit: word(matches, "unit"),
+        recording: word(matches, "recording"),
     }
-    Ok(Command::Show { unit, names })
 }
 
 /// `gen SEED SAMPLES`
-pub fn read_gen<'a>(
-    alloc: Global,
-    words: &'a [String],
-    most_samples: u32,
-) -> Result<Command<'a>, WordsFault>
-    requires { slice_get (map string_bytes words.now) 0 ≡ Some (codes "gen") }
-    ensures command { IfOk result (λ command. IsCommand most_samples (map string_bytes words.entry.now) (meaning_of command)) }
-    ensures usage { IfErr result (λ fault. fault ≡ WordsFault.Usage → AreUntakenWords (codes "gen") (codes "seed") (codes "samples") (map string_bytes words.entry.now) ⊎ IsUnnumbered most_samples (map string_bytes words.entry.now)) }
+fn gen_of<'a>(matches: &ArgMatches, most_samples: u32) -> Result<Command<'a>, WordsFault>
+    ensures command { IfOk result (IsRead most_samples (first_value (found_of matches.now)) Kind.Gen) }
+    ensures usage { IfErr result (λ _. AreUnnumbered most_samples (first_value (found_of matches.now)) Kind.Gen) }
 {
-    let (seed, samples) = two_words(alloc, words, "gen", "seed", "samples")?;
-    gen_of(seed, samples, most_samples)
-}
-
-/// The command `gen` with these two words.
-fn gen_of<'a>(seed: &str, samples: &str, most_samples: u32) -> Result<Command<'a>, WordsFault>
-    ensures command { IfOk result (λ command. IsGen most_samples seed.now samples.now command) }
-    ensures usage { IfErr result (λ _. (first second : ℕ) → IsNumber 0 most_seed seed.now first → IsNumber 1 most_samples samples.now second → ⊥) }
-{
-    match (number(seed, 0, MOST_SEED), number(samples, 1, most_samples)) {
+    let seed = number_of(matches, "seed", 0, MOST_SEED);
+    let samples = number_of(matches, "samples", 1, most_samples);
+    match (seed, samples) {
         (Some(seed), Some(samples)) => Ok(Command::Gen { seed, samples }),
         _ => Err(WordsFault::Usage),
     }
+}
+
+/// `show UNIT NAMES`, with `--netlist` or without it
+fn show<'a>(matches: &ArgMatches<'a>) -> Command<'a>
+    requires { HasRequired (rules_of Kind.Show) (first_value (found_of matches.now)) }
+    ensures { (most : ℕ) → IsRead most (first_value (found_of matches.now)) Kind.Show result }
+{
+    let unit = word(matches, "unit");
+    let names = word(matches, "names");
+    if is_set(matches, "netlist") {
+        return Command::ShowNetlist {
+            unit,
+            netlist: names,
+        };
+    }
+    Command::Show { unit, names }
+}
+
+/// `prove UNIT NETLIST` with its options
+fn prove<'a>(matches: &ArgMatches<'a>) -> Result<Command<'a>, WordsFault>
+    requires { HasRequired (rules_of Kind.Prove) (first_value (found_of matches.now)) }
+    ensures command { IfOk result (λ command. (most : ℕ) → IsRead most (first_value (found_of matches.now)) Kind.Prove command) }
+    ensures usage { IfErr result (λ _. (most : ℕ) → AreUnnumbered most (first_value (found_of matches.now)) Kind.Prove) }
+{
+    let Some(limits) = limits_of(matches) else {
+        return Err(WordsFault::Usage);
+    };
+    Ok(Command::Prove {
+        unit: word(matches, "unit"),
+        netlist: word(matches, "netlist"),
+        limits,
+    })
+}
+
+/// The limits that the options of `prove` say.
+fn limits_of(matches: &ArgMatches) -> Option<Limits>
+    ensures some { IfSome result (AreLimits (first_value (found_of matches.now))) }
+    ensures none { IsNone result → (limits : Limits) → AreLimits (first_value (found_of matches.now)) limits → ⊥ }
+{
+    let depth = number_of(matches, "depth", 1, MOST_DEPTH)?;
+    let visits = number_of(matches, "visits", 0, MOST_VISITS)?;
+    let steps = number_of(matches, "steps", 1, MOST_STEPS)?;
+    Some(Limits {
+        depth,
+        visits,
+        steps: u64::from(steps),
+    })
 }

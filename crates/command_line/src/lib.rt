@@ -4,16 +4,19 @@
 
 ghost use Rattle.std.specs.Prelude.{◌≡◌, ◌∷◌, ◌<◌, ◌≤◌, ◌^◌, [], codes, decimal, ℕ, List, map, IfOk, IfErr, string_bytes};
 ghost use Rattle.command_line.specs.Commands.{IsCommand, IsNoCommand, IsRefused, Meaning, meaning_of, most_seed};
-ghost use Rattle.command_line.specs.Commands.Meaning.{wave as a_wave, gen as a_gen, show as a_show, show_netlist as a_netlist};
-ghost use Rattle.command_line.specs.Plain.{IsPlain};
+ghost use Rattle.command_line.specs.Commands.Meaning.{wave as a_wave, gen as a_gen, show as a_show, show_netlist as a_netlist, prove as a_proof};
+ghost use Rattle.command_line.specs.Plain.{IsPlain, limits_of_depth, usual_limits, with_depth};
 
 mod commands;
+mod kinds;
 mod number;
 mod parsing;
 #[cfg(test)]
 mod tests;
 
-use commands::{read_gen, read_show, read_wave};
+use commands::read_values;
+use kinds::kind_named;
+use parsing::parse;
 use std::alloc::{AllocError, Global};
 use thiserror::Error;
 
@@ -21,16 +24,48 @@ use thiserror::Error;
 #[derive(Clone, Copy, Debug, PartialEq, Eq)]
 pub enum Command<'a> {
     /// Judges the assertions of a text on a recording.
-    Wave { unit: &'a str, recording: &'a str },
+    Wave {
+        unit: &'a str,
+        recording: &'a str,
+    },
 
     /// Makes a recording of so many samples from a seed below 2^31, and judges it.
-    Gen { seed: u32, samples: u32 },
+    Gen {
+        seed: u32,
+        samples: u32,
+    },
 
     /// Prints what each directive of a text means over the names of a recording.
-    Show { unit: &'a str, names: &'a str },
+    Show {
+        unit: &'a str,
+        names: &'a str,
+    },
 
     /// Prints what each directive of a text means over the names of a netlist.
-    ShowNetlist { unit: &'a str, netlist: &'a str },
+    ShowNetlist {
+        unit: &'a str,
+        netlist: &'a str,
+    },
+
+    /// Proves the assertions of a text of a netlist, or finds runs that violate them.
+    Prove {
+        unit: &'a str,
+        netlist: &'a str,
+        limits: Limits,
+    },
+}
+
+/// How far the search for proofs and violations goes.
+#[derive(Clone, Copy, Debug, PartialEq, Eq)]
+pub struct Limits {
+    /// The most positions of a run that is looked for, from 1 to 1,000.
+    pub depth: u32,
+
+    /// The most visits that a proof by induction counts, from 0 to 16.
+    pub visits: u32,
+
+    /// The most lemmas of one query, from 1 to 10,000,000.
+    pub steps: u64,
 }
 
 /// Why words give no command.
@@ -58,8 +93,8 @@ impl From<AllocError> for WordsFault {
 /// The command that the words after the program's name say; `most_samples` is the limit on samples.
 ///
 /// # Errors
-/// `Usage` where the words are no command: the first is none of `wave`, `gen` and `show`, `clap` refuses
-/// those after it, or a number is not in its decimal form or not in its range.
+/// `Usage` where the words are no command: the first is none of `wave`, `gen`, `show` and `prove`, `clap`
+/// refuses those after it, or a number is not in its decimal form or not in its range.
 pub fn read_words<'a>(
     alloc: Global,
     words: &'a [String],
@@ -77,12 +112,11 @@ pub fn read_words<'a>(
     let Some(first) = words.first() else {
         return Err(WordsFault::Usage);
     };
-    match first.as_str() {
-        "wave" => read_wave(alloc, words),
-        "gen" => read_gen(alloc, words, most_samples),
-        "show" => read_show(alloc, words),
-        _ => Err(WordsFault::Usage),
-    }
+    let Some(kind) = kind_named(first.as_str()) else {
+        return Err(WordsFault::Usage);
+    };
+    let matches = parse(alloc, kind, first.as_str(), words)?;
+    read_values(kind, &matches, most_samples)
 }
 
 /// Laws of the definitions, which run nothing: words are one command at most, and none where they are
@@ -98,6 +132,8 @@ pub fn plain_words()
     ensures wave { (most : ℕ) (unit recording : List ℕ) → IsPlain unit → IsPlain recording → IsCommand most (codes "wave" ∷ unit ∷ recording ∷ []) (a_wave unit recording) }
     ensures show { (most : ℕ) (unit names : List ℕ) → IsPlain unit → IsPlain names → IsCommand most (codes "show" ∷ unit ∷ names ∷ []) (a_show unit names) }
     ensures netlist { (most : ℕ) (unit netlist : List ℕ) → IsPlain unit → IsPlain netlist → IsCommand most (codes "show" ∷ unit ∷ netlist ∷ codes "--netlist" ∷ []) (a_netlist unit netlist) }
+    ensures prove { (most : ℕ) (unit netlist : List ℕ) → IsPlain unit → IsPlain netlist → IsCommand most (codes "prove" ∷ unit ∷ netlist ∷ []) (a_proof unit netlist usual_limits) }
+    ensures depth { (most : ℕ) (unit netlist : List ℕ) (depth : ℕ) → IsPlain unit → IsPlain netlist → 1 ≤ depth → depth ≤ 1000 → IsCommand most (with_depth unit netlist depth) (a_proof unit netlist (limits_of_depth depth)) }
     ensures wave_behind { (most : ℕ) (unit recording : List ℕ) → IsCommand most (codes "wave" ∷ codes "--" ∷ unit ∷ recording ∷ []) (a_wave unit recording) }
     ensures show_behind { (most : ℕ) (unit names : List ℕ) → IsCommand most (codes "show" ∷ codes "--" ∷ unit ∷ names ∷ []) (a_show unit names) }
     ensures generate { (most seed samples : ℕ) → most < 2 ^ 32 → seed ≤ most_seed → 1 ≤ samples → samples ≤ most → IsCommand most (codes "gen" ∷ decimal seed ∷ decimal samples ∷ []) (a_gen seed samples) }

@@ -1,4 +1,4 @@
-use crate::{Command, WordsFault, one_command, plain_words, read_words};
+use crate::{Command, Limits, WordsFault, one_command, plain_words, read_words};
 use std::alloc::{AllocError, Global};
 use std::test::Fail;
 
@@ -38,6 +38,21 @@ fn netlist<'a>(words: &'a [&'a str], unit: &'a str, netlist: &'a str) -> Row<'a>
     Row {
         words,
         wanted: Some(Command::ShowNetlist { unit, netlist }),
+    }
+}
+
+fn prove<'a>(words: &'a [&'a str], depth: u32, visits: u32, steps: u64) -> Row<'a> {
+    Row {
+        words,
+        wanted: Some(Command::Prove {
+            unit: "u",
+            netlist: "n",
+            limits: Limits {
+                depth,
+                visits,
+                steps,
+            },
+        }),
     }
 }
 
@@ -129,6 +144,76 @@ fn numbers(rt: HostRuntime) -> Result<(), Fail> {
 }
 
 #[test]
+fn options(rt: HostRuntime) -> Result<(), Fail> {
+    let rows = [
+        prove(&["prove", "u", "n"], 20, 4, 1_000_000),
+        prove(&["prove", "u", "n", "--depth", "7"], 7, 4, 1_000_000),
+        prove(&["prove", "u", "n", "--depth=1"], 1, 4, 1_000_000),
+        prove(&["prove", "--depth", "1000", "u", "n"], 1000, 4, 1_000_000),
+        prove(&["prove", "u", "--visits", "0", "n"], 20, 0, 1_000_000),
+        prove(&["prove", "u", "n", "--visits=16"], 20, 16, 1_000_000),
+        prove(&["prove", "u", "n", "--steps", "1"], 20, 4, 1),
+        prove(&["prove", "u", "n", "--steps=10000000"], 20, 4, 10_000_000),
+        prove(
+            &[
+                "prove", "--steps", "5", "u", "--visits", "6", "n", "--depth", "7",
+            ],
+            7,
+            6,
+            5,
+        ),
+        prove(
+            &[
+                "prove",
+                "--depth=20",
+                "--steps=2",
+                "--visits=3",
+                "--",
+                "u",
+                "n",
+            ],
+            20,
+            3,
+            2,
+        ),
+    ];
+    assert_eq!(rt; first_wrong(rt.alloc(), rows.as_slice())?, None);
+    Ok(())
+}
+
+#[test]
+fn refused_options(rt: HostRuntime) -> Result<(), Fail> {
+    let rows = [
+        usage(&["prove", "u"]),
+        usage(&["prove", "u", "n", "n"]),
+        usage(&["prove", "u", "n", "--depth"]),
+        usage(&["prove", "u", "n", "--depth="]),
+        usage(&["prove", "u", "n", "--depth", ""]),
+        usage(&["prove", "u", "n", "--depth", "0"]),
+        usage(&["prove", "u", "n", "--depth", "1001"]),
+        usage(&["prove", "u", "n", "--depth", "007"]),
+        usage(&["prove", "u", "n", "--depth", "+7"]),
+        usage(&["prove", "u", "n", "--depth", "-7"]),
+        usage(&["prove", "u", "n", "--depth=-7"]),
+        usage(&["prove", "u", "n", "--depth", "7", "--depth", "7"]),
+        usage(&["prove", "u", "n", "--depth", "7", "8"]),
+        usage(&["prove", "u", "--depth", "n"]),
+        usage(&["prove", "u", "n", "--", "--depth", "7"]),
+        usage(&["prove", "u", "--", "n", "--depth=7"]),
+        usage(&["prove", "u", "n", "-d", "7"]),
+        usage(&["prove", "u", "n", "--visits", "17"]),
+        usage(&["prove", "u", "n", "--visits", "00"]),
+        usage(&["prove", "u", "n", "--steps", "0"]),
+        usage(&["prove", "u", "n", "--steps", "10000001"]),
+        usage(&["prove", "u", "n", "--steps", "18446744073709551617"]),
+        usage(&["prove", "u", "n", "--netlist"]),
+        usage(&["prove", "u", "n", "--samples", "7"]),
+    ];
+    assert_eq!(rt; first_wrong(rt.alloc(), rows.as_slice())?, None);
+    Ok(())
+}
+
+#[test]
 fn words_that_are_no_command(rt: HostRuntime) -> Result<(), Fail> {
     let rows = [
         usage(&[]),
@@ -138,7 +223,6 @@ fn words_that_are_no_command(rt: HostRuntime) -> Result<(), Fail> {
         usage(&["help"]),
         usage(&["Wave", "u", "r"]),
         usage(&["wave ", "u", "r"]),
-        usage(&["prove", "u", "n"]),
         usage(&["check", "u", "n", "1", "c"]),
         usage(&["wave"]),
         usage(&["wave", "u"]),

@@ -1,5 +1,14 @@
-use Rattle.command_line.proofs.Plain.{plain_gen, plain_netlist, plain_show, plain_wave, show_behind, wave_behind}
+use Rattle.command_line.proofs.Plain.{plain_depth, plain_gen, plain_netlist, plain_prove, plain_show, plain_wave, show_behind, wave_behind}
 use Rattle.command_line.proofs.plain_words.Goals as goal
 
 pub returns : goal.returns
-returns c = record { wave = plain_wave; show = plain_show; netlist = plain_netlist; wave_behind = wave_behind; show_behind = show_behind; generate = plain_gen }
+returns c = record {
+  wave = plain_wave;
+  show = plain_show;
+  netlist = plain_netlist;
+  prove = plain_prove;
+  depth = plain_depth;
+  wave_behind = wave_behind;
+  show_behind = show_behind;
+  generate = plain_gen;
+}

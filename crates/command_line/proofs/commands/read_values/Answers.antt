@@ -1,0 +1,16 @@
+use Rattle.std.proofs.lemmas.Result.{IfErr-weaker, IfOk-weaker}
+use Rattle.command_line.proofs.commands.read_values.Goals as goal
+
+pub returns-in-Wave-clause-command : goal.returns-in-Wave-clause-command
+returns-in-Wave-clause-command c = rw c.in-Wave.is (c.wave.ensures c.args.most_samples)
+
+pub returns-in-Show-clause-command : goal.returns-in-Show-clause-command
+returns-in-Show-clause-command c = rw c.in-Show.is (c.show.ensures c.args.most_samples)
+
+pub returns-in-Prove-clause-command : goal.returns-in-Prove-clause-command
+returns-in-Prove-clause-command c =
+    rw c.in-Prove.is (IfOk-weaker c.prove.result _ _ (λ command is. is c.args.most_samples) c.prove.ensures.command)
+
+pub returns-in-Prove-clause-usage : goal.returns-in-Prove-clause-usage
+returns-in-Prove-clause-usage c =
+    rw c.in-Prove.is (IfErr-weaker c.prove.result _ _ (λ fault is. is c.args.most_samples) c.prove.ensures.usage)

@@ -1,0 +1,29 @@
+use Rattle.std.proofs.Common.{◌≡◌, ◌∙◌, ap, true, []}
+use Rattle.std.proofs.lemmas.Result.{IfOk-weaker}
+use Rattle.clap.specs.Simple.{Shape, app_of, app_of_fields, on_top}
+use Rattle.command_line.specs.Clap.{app}
+use Rattle.command_line.proofs.parsing.command_with.Goals as goal
+
+abbrev without_help : Shape → Shape
+without_help shape = record shape { disable_help_flag = true }
+
+abbrev without_version : Shape → Shape
+without_version shape = record shape { disable_version_flag = true }
+
+pub returns : goal.returns
+unfolding app
+returns c =
+    let help = c.disable_help_flag.ensures in
+    let version = c.disable_version_flag.ensures in
+    let bare : app_of c.disable_version_flag.result ≡ app c.args.name.now [] =
+    ap app_of_fields version ∙ ap (on_top without_version) (ap app_of_fields help ∙ ap (on_top without_help) c.new.ensures.app) in
+    IfOk-weaker c.args-2.result _ _ (λ command chain. record {
+      start = c.disable_version_flag.result;
+      chain = chain;
+      bare = bare;
+      no_args = ap (λ fields. fields.args.items) version ∙ (ap (λ fields. fields.args.items) help ∙ c.new.ensures.empty.0);
+      no_groups = ap (λ fields. fields.groups.items) version ∙ (ap (λ fields. fields.groups.items) help ∙ c.new.ensures.empty.1);
+      no_globals = ap (λ fields. fields.has_globals) version ∙ (ap (λ fields. fields.has_globals) help ∙ c.new.ensures.local);
+      no_negation = ap (λ fields. fields.subcommand_negates_reqs) version
+          ∙ (ap (λ fields. fields.subcommand_negates_reqs) help ∙ c.new.ensures.negates);
+    }) c.args-2.ensures

@@ -1,0 +1,26 @@
+-- The commands: their names, and what `clap` is told of each.
+use Rattle.std.specs.Prelude.{ℕ, List, [], ◌∷◌, codes}
+use Rattle.clap.specs.Walk.{Rule}
+use Rattle.clap.specs.Simple.{App}
+use Rattle.command_line.specs.Clap.{app, flag, option, required}
+use Rattle.command_line.specs.declared.kinds.Kind.{Kind}
+use Rattle.command_line.specs.declared.kinds.Kind.TheVariants.{Wave, Gen, Show, Prove}
+
+-- the first word of a command
+abbrev pub name_of : Kind → List ℕ
+name_of Wave = codes "wave"
+name_of Gen = codes "gen"
+name_of Show = codes "show"
+name_of Prove = codes "prove"
+
+-- the words, flags and options that follow it
+abbrev pub rules_of : Kind → List Rule
+rules_of Wave = required (codes "unit") ∷ required (codes "recording") ∷ []
+rules_of Gen = required (codes "seed") ∷ required (codes "samples") ∷ []
+rules_of Show = required (codes "unit") ∷ required (codes "names") ∷ flag (codes "netlist") ∷ []
+rules_of Prove = required (codes "unit") ∷ required (codes "netlist") ∷ option (codes "depth") (codes "20")
+    ∷ option (codes "visits") (codes "4") ∷ option (codes "steps") (codes "1000000") ∷ []
+
+-- the command as `clap` is told of it
+abbrev pub app_of : Kind → App
+app_of kind = app (name_of kind) (rules_of kind)
