@@ -1,0 +1,15 @@
+use Rattle.std.proofs.Common.{◌≡◌, sym, ◌∙◌}
+use Rattle.findings.proofs.Entries.{with-assertion, with-other}
+use Rattle.findings.proofs.proving.prove_all.Goals as goal
+use Rattle.findings.proofs.proving.prove_all.Goals.{then-is_assertion+in_ok-entry_of+in_ok-push, else-is_assertion}
+
+pub loop-directive-preserved : goal.loop-directive-preserved
+loop-directive-preserved c = elim c.if-is_assertion.branch [
+  | then-is_assertion+in_ok-entry_of+in_ok-push w ↦ rw (w.findings-is, w.in_ok-push.ensures.ok)
+      (with-assertion c.args.netlist.now c.args.unit.now c.args.options c.as_slice-directive-items.result.now c.loop-directive.directive-index c.directive-item.result
+      c.loop-directive.findings w.in_ok-entry_of.field-0 c.loop-directive-test.true c.directive-item.is (sym c.is_assertion.ensures ∙ w.if-is_assertion.true) c.loop-directive.invariant
+      w.in_ok-entry_of.ensures)
+  | else-is_assertion w ↦ rw w.findings-is
+      (with-other c.args.netlist.now c.args.unit.now c.args.options c.as_slice-directive-items.result.now c.loop-directive.directive-index c.directive-item.result
+      c.loop-directive.findings c.loop-directive-test.true c.directive-item.is (sym c.is_assertion.ensures ∙ w.if-is_assertion.false) c.loop-directive.invariant)
+]

@@ -1,0 +1,4 @@
+pub mod Assertions
+pub mod Columns
+pub mod Entries
+pub mod Sizes

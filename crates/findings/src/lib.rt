@@ -1,0 +1,13 @@
+//! What is found out of the assertions of a text on a netlist: the first of them that is too large, and else a finding
+//! for each.
+#![tactic(auto)]
+
+mod entry;
+mod names;
+mod proving;
+mod sizes;
+
+pub use entry::{FindingEntry, Findings};
+pub use names::columns;
+pub use proving::prove_all;
+pub use sizes::{SizeFault, check_all};

@@ -1,0 +1,96 @@
+ghost use Rattle.std.specs.Prelude.{◌≡◌, ◌-◌, ◌^◌, ◌<◌, List, OnOk, IfErr};
+ghost use Rattle.findings.specs.Assertions as spec;
+ghost use Rattle.findings.specs.Sizes.{AreWithin, IsSizeFault, IsWithin, MayRefuse};
+ghost use Rattle.owed.specs.Owed.{plain_assumed};
+ghost use Rattle.owed.specs.Sizes.{AreSizesOf};
+ghost use Rattle.psl_tree.specs.declared.directive.Directive.{Directive};
+
+use netlist::Netlist;
+use owed::{Size, assumed_size};
+use psl_base::{NoMemory, Place};
+use psl_tree::{Directive, Kind, Unit};
+use std::alloc::Global;
+use thiserror::Error;
+use work_limits::{LimitFault, check_sizes};
+
+/// Why the assertions of a text are not proved of a netlist.
+#[derive(Clone, Copy, Debug, PartialEq, Eq, Drop, Error)]
+pub enum SizeFault {
+    /// A sequence of what is owed of the assertion at this place counts more than 1,024 states.
+    #[error("{0:?}: a sequence counts more than 1024 states")]
+    SereTooLarge(Place),
+    /// What is owed of the assertion at this place counts more than 2,048 obligations.
+    #[error("{0:?}: the formula counts more than 2048 obligations")]
+    AutomatonTooLarge(Place),
+    /// The netlist and what is owed of some assertion are too large for so many positions.
+    #[error("too large to be unrolled")]
+    UnrollTooLarge,
+    /// The allocator refused memory.
+    #[error("out of memory")]
+    NoMemory,
+}
+
+impl From<NoMemory> for SizeFault {
+    ghost use Rattle.std.specs.Prelude.{◌≡◌};
+    ghost use Rattle.findings.specs.declared.sizes.SizeFault.{SizeFault};
+
+    ghost from_gives = { λ refused fault. fault ≡ SizeFault.NoMemory };
+
+    fn from(_refused: NoMemory) -> SizeFault {
+        SizeFault::NoMemory
+    }
+}
+
+/// Whether all assertions of a text are within the limits of a search up to a depth.
+///
+/// # Errors
+///
+/// Exactly the first limit that the first of them passes; and `NoMemory` if memory is refused.
+pub fn check_all(alloc: Global, unit: &Unit, netlist: &Netlist, depth: u32) -> Result<(), SizeFault>
+    requires { depth < 2 ^ 32 - 1 }
+    ensures within { OnOk result (AreWithin netlist.now depth unit.now) }
+    ensures fault { IfErr result (IsSizeFault netlist.now depth unit.now) }
+{
+    let assumed = assumed_size(alloc, unit)?;
+    for directive in unit.as_slice() {
+        check_one(alloc, directive, assumed, netlist, depth)?;
+    }
+    Ok(())
+}
+
+// Whether a directive, if it is an assertion of a text, is within the limits, where `assumed_size` has told how large
+// what the text assumes is.
+fn check_one(
+    alloc: Global,
+    directive: &Directive,
+    assumed: Option<Size>,
+    netlist: &Netlist,
+    depth: u32,
+) -> Result<(), SizeFault>
+    requires { depth < 2 ^ 32 - 1 }
+    ensures within { OnOk result ((unit : List Directive) → AreSizesOf assumed (plain_assumed unit)
+        → IsWithin netlist.now depth unit directive.now) }
+    ensures fault { IfErr result (λ fault. (unit : List Directive) → AreSizesOf assumed (plain_assumed unit)
+        → MayRefuse netlist.now depth unit directive.now fault) }
+{
+    if !is_assertion(directive.kind) {
+        return Ok(());
+    }
+    match check_sizes(alloc, directive, assumed, netlist, depth) {
+        Ok(()) => Ok(()),
+        Err(LimitFault::SereTooLarge) => Err(SizeFault::SereTooLarge(directive.place)),
+        Err(LimitFault::AutomatonTooLarge) => Err(SizeFault::AutomatonTooLarge(directive.place)),
+        Err(LimitFault::UnrollTooLarge) => Err(SizeFault::UnrollTooLarge),
+        Err(LimitFault::NoMemory) => Err(SizeFault::NoMemory),
+    }
+}
+
+/// Whether a directive is an assertion.
+pub(crate) fn is_assertion(kind: Kind) -> bool
+    ensures { result ≡ spec.is_assertion kind }
+{
+    match kind {
+        Kind::Assert => true,
+        Kind::Assume | Kind::Cover => false,
+    }
+}
