@@ -1,0 +1,60 @@
+-- One piece, and one file, more.
+use Rattle.std.proofs.Common.{◌≡◌, refl, sym, ◌∙◌, ap, subst, ℕ, ◌+◌, ◌-◌, ◌<◌, ◌≤◌, Bool, true, false, cond, List, [], ◌∷◌, ◌++◌, length, take, drop, Option, None, Some, arith}
+use Rattle.std.specs.Option.{ForSome, option_map}
+use Rattle.std.specs.Str.{bytes_eq}
+use Rattle.std.specs.Prelude.{get_or, string_bytes}
+use Rattle.std.proofs.Math.Seq.{take-add}
+use Rattle.std.proofs.lemmas.List.{length-drop, take_all, take_more}
+use Rattle.psl_base.specs.Shelf.{Contents, ShelfState, OnlyWrites, with_content, with_more}
+use Rattle.saving.specs.Saves.{SavesAll, SavesOne, with_save, with_saves}
+use Rattle.saving.specs.declared.Save.{Save}
+
+-- more bytes behind those that a name was given
+more-at : (name front more : List ℕ) (files : Contents) (other : List ℕ)
+    → with_more name more (with_content name front files) other ≡ with_content name (front ++ more) files other
+more-at name front more files other = by (bytes_eq name other)
+  where
+    by : (b : Bool) → cond b (option_map (λ content. content ++ more) (cond b (Some front) (files other))) (cond b (Some front) (files other))
+        ≡ cond b (Some (front ++ more)) (files other)
+    by true = refl
+    by false = refl
+
+pub added : (name front more : List ℕ) (old mid new : Option Contents) → mid ≡ option_map (with_content name front) old
+    → new ≡ option_map (with_more name more) mid → new ≡ option_map (with_content name (front ++ more)) old
+added name front more None mid new p q = q ∙ ap (option_map (with_more name more)) p
+added name front more (Some files) mid new p q =
+    q ∙ ap (option_map (with_more name more)) p ∙ ap Some (λ k other. more-at name front more files other k)
+
+pub writes-then : (old mid new : ShelfState) → OnlyWrites old mid → OnlyWrites mid new → OnlyWrites old new
+writes-then old mid new p q = record {
+  cursor = q.cursor ∙ p.cursor;
+  read_faults = q.read_faults ∙ p.read_faults;
+  write_faults = omega (arith, p.write_faults, q.write_faults);
+}
+
+saves-behind : (saves : List Save) (save : Save) (files : Contents) → with_saves (saves ++ save ∷ []) files ≡ with_save save (with_saves saves files)
+saves-behind [] save files = refl
+saves-behind (first ∷ saves) save files = saves-behind saves save (with_save first files)
+
+option-behind : (saves : List Save) (save : Save) (told : Option Contents)
+    → option_map (with_save save) (option_map (with_saves saves) told) ≡ option_map (with_saves (saves ++ save ∷ [])) told
+option-behind saves save None = refl
+option-behind saves save (Some files) = ap Some (sym (saves-behind saves save files))
+
+pub saved-more : (saves : List Save) (place : ℕ) (save : Save) (old mid new : ShelfState) → place < length saves → save ≡ get_or saves place save
+    → SavesAll (take place saves) old mid → SavesOne save mid new → SavesAll (take (place + 1) saves) old new
+saved-more saves place save old mid new lt is h one =
+    subst (λ ss. SavesAll ss old new) (sym (take_more saves place save lt ∙ ap (λ s. take place saves ++ s ∷ []) (sym is))) record {
+      told = one.told ∙ ap (option_map (with_save save)) h.told ∙ option-behind (take place saves) save old.told;
+      write_faults = one.write_faults ∙ h.write_faults;
+    }
+
+-- the first bytes of a content, and then the first of its rest
+pub added-more : (name content : List ℕ) (done count : ℕ) (old mid new : Option Contents) (created : Option (List ℕ)) → created ≡ Some name
+    → mid ≡ option_map (with_content name (take done content)) old
+    → ForSome created (λ name. new ≡ option_map (with_more name (take count (take (length content - done) (drop done content)))) mid)
+    → new ≡ option_map (with_content name (take (done + count) content)) old
+added-more name content done count old mid new created is first next =
+    added name (take done content) (take count (drop done content)) old mid new first
+    (next name is ∙ ap (λ bytes. option_map (with_more name (take count bytes)) mid) (take_all (length content - done) (drop done content) (omega (arith, length-drop done content))))
+    ∙ ap (λ bytes. option_map (with_content name bytes) old) (sym (take-add done count content))

@@ -1,0 +1,10 @@
+use Rattle.std.proofs.Common.{take}
+use Rattle.psl_base.specs.Shelf.{OnlyWrites}
+use Rattle.saving.proofs.save_all.Given as goal
+use Rattle.saving.specs.Saves.{SavesAll}
+
+abbrev pub invariant-loop-save : goal.invariant-loop-save
+invariant-loop-save g l = record {
+  saved : SavesAll (take l.save-index l.saves) (g.F.Shelf.state l.fn.files) (g.F.Shelf.state l.files);
+  only : OnlyWrites (g.F.Shelf.state l.fn.files) (g.F.Shelf.state l.files);
+}
