@@ -2,14 +2,16 @@
 use Rattle.std.proofs.Common.{◌≡◌, refl, sym, ◌∙◌, ap, subst, ℕ, List, [], ◌∷◌, Some, inl, inr}
 use Rattle.std.specs.Prelude.{◌≢◌, Result, Ok, Err, IfOk, IfErr}
 use Rattle.command_line.specs.Commands.{Meaning}
-use Rattle.command_line.specs.Commands.Meaning.{wave, show, show_netlist, gen}
+use Rattle.command_line.specs.Commands.Meaning.{wave, show, show_netlist, gen, prove}
+use Rattle.command_line.specs.declared.Limits.{Limits}
 use Rattle.psl_base.specs.Shelf.{Contents, ShelfState}
 use Rattle.commands.proofs.Staging.{cause-moved, same_state, none-unread}
-use Rattle.commands.specs.Commands.{CommandStage, FirstRefusal, IsCommand, IsNoCommand, IsNamed, IsOfCommand, IsOutcomeOf, MeaningStage, MeaningOutcome, files_of}
+use Rattle.commands.specs.Commands.{CommandStage, FirstRefusal, IsCommand, IsNoCommand, IsNamed, IsOfCommand, IsOutcomeOf, MeaningStage, MeaningOutcome, files_of, findings_outcome}
 use Rattle.commands.specs.Endings.{Explained, IsUnwritten}
 use Rattle.commands.specs.Faults.{of_none}
 use Rattle.commands.specs.Generated.{GeneratedStage}
 use Rattle.commands.specs.Planning.{IsAnswer}
+use Rattle.commands.specs.Provings.{ProveStage}
 use Rattle.commands.specs.Rows.{OfWords, OfReading, OfWriting, OfMemory, cause_of}
 use Rattle.commands.specs.Stages.{Then, OfTold, Gives, IsOfFiles, IsOfFilesOrMemory, IsStage, SpeaksOfFile}
 use Rattle.commands.specs.Waves.{WaveStage, ShowStage, ShowNetlistStage}
@@ -18,6 +20,7 @@ use Rattle.commands.specs.declared.outcome.Fault.{Fault}
 use Rattle.commands.specs.declared.outcome.Line.{Line}
 use Rattle.commands.specs.declared.outcome.Outcome.{Outcome}
 use Rattle.commands.specs.declared.outcome.Outcome.TheVariants.{Nothing, Wave, Shown, Made}
+use Rattle.commands.specs.declared.prove.Found.{Found}
 use Rattle.commands.specs.declared.reason.Reason.TheVariants.{Usage, ReadFault, WriteFault, NoMemory}
 use Rattle.wave_judge.specs.declared.verdict.Verdict.{Verdict}
 
@@ -159,6 +162,16 @@ pub netlist-refuses : (words : List (List ℕ)) (unit netlist : List ℕ) (old n
     → IsStage (unit ∷ netlist ∷ []) (ShowNetlistStage unit netlist) old new (Err fault) → IsAnswer itself words old new (Err fault)
 netlist-refuses words unit netlist old new fault is s =
     stage-refuses words (show_netlist unit netlist) is old new (ShowNetlistStage unit netlist) Shown (λ files result h. h) fault s
+
+pub proof-answers : (words : List (List ℕ)) (unit netlist : List ℕ) (limits : Limits) (old new : ShelfState) (found : Found) → IsCommand words (prove unit netlist limits)
+    → IsStage (unit ∷ netlist ∷ []) (ProveStage unit netlist limits) old new (Ok found) → IsAnswer itself words old new (Ok (findings_outcome limits found))
+proof-answers words unit netlist limits old new found is s =
+    stage-answers words (prove unit netlist limits) is old new (ProveStage unit netlist limits) (findings_outcome limits) (λ files result h. h) found (found, refl) (λ e. cc) s
+
+pub proof-refuses : (words : List (List ℕ)) (unit netlist : List ℕ) (limits : Limits) (old new : ShelfState) (fault : Fault) → IsCommand words (prove unit netlist limits)
+    → IsStage (unit ∷ netlist ∷ []) (ProveStage unit netlist limits) old new (Err fault) → IsAnswer itself words old new (Err fault)
+proof-refuses words unit netlist limits old new fault is s =
+    stage-refuses words (prove unit netlist limits) is old new (ProveStage unit netlist limits) (findings_outcome limits) (λ files result h. h) fault s
 
 made-some : (seed samples : ℕ) (outcome : Outcome) → GeneratedStage seed samples (Ok outcome) → outcome ≢ Nothing
 made-some seed samples outcome (verdicts, are, e) is =

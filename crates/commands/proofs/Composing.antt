@@ -106,18 +106,25 @@ module _ {A B C : Type 0} (one two : List ℕ) (First : Contents → Result A Fa
   both-loaded old mid new a b s t =
       stage-then (one ∷ []) (two ∷ []) First After old mid new a (Ok (both a b)) s (stage-value (two ∷ []) Second (both a) mid new b t)
 
--- a reading behind a stage, of its first file
+-- a reading of fewer files is one of more
+pub reading-of-more : {B : Type 0} (names more : List (List ℕ)) (Reading : Result B Fault → Type 0) (result : Result B Fault)
+    → IsReading names Reading result → IsReading (names ++ more) Reading result
+reading-of-more names more Reading (Ok b) r = record { gives = r.gives; refuses = tt }
+reading-of-more names more Reading (Err fault) r = record { gives = tt; refuses = by r.refuses }
+  where
+    by : TextFails names (λ f. Reading (Err f)) fault → TextFails (names ++ more) (λ f. Reading (Err f)) fault
+    by (inl e) = inl e
+    by (inr t) = inr record { cause = t.cause; file = of-more names more fault t.file; refusal = t.refusal }
 
-module _ {A B : Type 0} (name : List ℕ) (names : List (List ℕ)) (First : Contents → Result A Fault → Type 0) (Reading : A → Result B Fault → Type 0) where
-  abbrev Whole : Contents → Result B Fault → Type 0
-  Whole = Then First (λ a files. Reading a)
+-- a reading behind a stage, of its files
 
-  for-all : (a : A) (fault : Fault) → TextFails name (λ f. Reading a (Err f)) fault → TextFails name (λ f. (files : Contents) → Reading a (Err f)) fault
+module _ {A B : Type 0} (names : List (List ℕ)) (First : Contents → Result A Fault → Type 0) (Reading : A → Result B Fault → Type 0) where
+  for-all : (a : A) (fault : Fault) → TextFails names (λ f. Reading a (Err f)) fault → TextFails names (λ f. (files : Contents) → Reading a (Err f)) fault
   for-all a fault (inl e) = inl e
   for-all a fault (inr t) = inr record { cause = t.cause; file = t.file; refusal = λ files. t.refusal }
 
-  pub stage-reading : (old new : ShelfState) (a : A) (result : Result B Fault) → IsStage (name ∷ names) First old new (Ok a) → IsReading name (Reading a) result
-      → IsStage (name ∷ names) (Then First (λ a files. Reading a)) old new result
+  pub stage-reading : (old new : ShelfState) (a : A) (result : Result B Fault) → IsStage names First old new (Ok a) → IsReading names (Reading a) result
+      → IsStage names (Then First (λ a files. Reading a)) old new result
   stage-reading old new a (Ok b) s r = record {
     gives = then-gives First (λ a files. Reading a) old new a b s.gives s.kept (λ files told. r.gives);
     refuses = tt;
@@ -128,13 +135,13 @@ module _ {A B : Type 0} (name : List ℕ) (names : List (List ℕ)) (First : Con
     kept = s.kept;
   }
   stage-reading old new a (Err fault) s r =
-      let named : IsOfFilesOrMemory (name ∷ []) fault = text-named name (λ f. Reading a (Err f)) fault r.refuses in
+      let named : IsOfFilesOrMemory names fault = text-named names (λ f. Reading a (Err f)) fault r.refuses in
       record {
         gives = tt;
-        refuses = next-refuses First (λ a files. Reading a) old new new a fault s.gives s.kept (no-words (name ∷ []) fault named)
-            (text-stage-refuses (λ files. Reading a) name new new fault (for-all a fault r.refuses));
-        named = or-more (name ∷ []) names fault named;
-        unread = text-unread name (λ f. Reading a (Err f)) new fault r.refuses;
+        refuses = next-refuses First (λ a files. Reading a) old new new a fault s.gives s.kept (no-words names fault named)
+            (text-stage-refuses (λ files. Reading a) names new new fault (for-all a fault r.refuses));
+        named = named;
+        unread = text-unread names (λ f. Reading a (Err f)) new fault r.refuses;
         quiet = tt;
         counted = inl s.quiet;
         kept = s.kept;
@@ -156,7 +163,7 @@ module _ {A : Type 0} (Reading : List ℕ → Result A Fault → Type 0) (name :
   }
 
   pub stage-loaded : (bytes : List ℕ) (result : Result A Fault) → IsContent old name bytes → length bytes ≤ file_limit → new.read_faults ≡ old.read_faults → OnlyReads old new
-      → IsReading name (Reading bytes) result → IsStage (name ∷ []) (OfFile Reading name) old new result
+      → IsReading (name ∷ []) (Reading bytes) result → IsStage (name ∷ []) (OfFile Reading name) old new result
   stage-loaded bytes (Ok a) is le quiet kept r = record {
     gives = λ files told. of-content Reading name files bytes (Ok a) (is files told) le r.gives;
     refuses = tt;
@@ -169,8 +176,8 @@ module _ {A : Type 0} (Reading : List ℕ → Result A Fault → Type 0) (name :
   stage-loaded bytes (Err fault) is le quiet kept r = record {
     gives = tt;
     refuses = read-refuses Reading name old new bytes fault is le r.refuses;
-    named = text-named name (λ f. Reading bytes (Err f)) fault r.refuses;
-    unread = text-unread name (λ f. Reading bytes (Err f)) new fault r.refuses;
+    named = text-named (name ∷ []) (λ f. Reading bytes (Err f)) fault r.refuses;
+    unread = text-unread (name ∷ []) (λ f. Reading bytes (Err f)) new fault r.refuses;
     quiet = tt;
     counted = inl quiet;
     kept = kept;

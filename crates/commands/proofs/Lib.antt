@@ -6,8 +6,11 @@ pub mod Ending
 pub mod Generating
 pub mod Netlists
 pub mod OneAnswer
+pub mod Pieces
 pub mod Reasons
 pub mod Recordings
+pub mod SameOwed
 pub mod SameUnits
 pub mod Sources
 pub mod Staging
+pub mod Valuations

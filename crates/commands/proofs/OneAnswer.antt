@@ -9,7 +9,9 @@ use Rattle.psl_base.specs.Shelf.{Contents}
 use Rattle.psl_base.specs.declared.place.Place.{Place}
 use Rattle.command_line.proofs.Meanings.{one_meaning}
 use Rattle.command_line.specs.Commands.{Meaning}
-use Rattle.command_line.specs.Commands.Meaning.{wave, show, show_netlist, gen}
+use Rattle.command_line.specs.Commands.Meaning.{wave, show, show_netlist, gen, prove}
+use Rattle.command_line.specs.declared.Limits.{Limits}
+use Rattle.findings.proofs.Faults.{one_fault as one_size_fault, not_both as within_or_not}
 use Rattle.psl_grammar.specs.declared.tree.UnitTree.{UnitTree}
 use Rattle.psl_grammar.specs.Surface.{tree_node}
 use Rattle.psl_layer_laws.proofs.TreeLaws.{same-tree}
@@ -34,24 +36,29 @@ use Rattle.psl_parser.specs.declared.fault.ParseFault.{ParseFault}
 use Rattle.psl_tree.specs.declared.directive.Directive.{Directive}
 use Rattle.psl_tree.specs.declared.name.Name.{Name}
 use Rattle.commands.proofs.Alike.{Agree, alike-err, alike-ok, agree-faults, agree-told, agree-then, agree-content}
+use Rattle.commands.proofs.SameOwed.{are-within, same-first-refused}
 use Rattle.commands.proofs.SameUnits.{SameUnit, all-judgeable, same-first, same-said}
 use Rattle.commands.specs.Diagnostics.{lex_diagnostic, parse_diagnostic, layer_diagnostic, judge_diagnostic, vcd_diagnostic, blif_diagnostic}
-use Rattle.commands.specs.Commands.{CommandStage, FirstRefusal, MeaningStage}
+use Rattle.commands.specs.Commands.{CommandStage, FirstRefusal, MeaningStage, findings_outcome}
 use Rattle.commands.specs.Faults.{of_none}
 use Rattle.commands.specs.Generated.{GeneratedStage}
+use Rattle.commands.specs.Provings.{FoundReading, ProveStage, size_fault}
 use Rattle.commands.specs.Stages.{AndThen, OfFile, Then}
 use Rattle.commands.specs.Waves.{TokensReading, TreeReading, UnitReading, UnitStage, TextAnd, DirectivesReading}
 use Rattle.commands.specs.Waves.{RecordingReading, InputsStage, with_recording, NetlistReading, CircuitStage, with_netlist}
 use Rattle.commands.specs.Waves.{AreJudged, JudgeReading, VerdictsReading, WaveStage}
 use Rattle.commands.specs.Waves.{LinesReading, ShowStage, ShowNetlistStage, line_of}
+use Rattle.commands.specs.Waves.{SubjectReading, SubjectStage, subject_of}
 use Rattle.commands.specs.declared.inputs.Circuit.{Circuit}
 use Rattle.commands.specs.declared.inputs.Inputs.{Inputs}
 use Rattle.commands.specs.declared.outcome.Fault.{Fault}
 use Rattle.commands.specs.declared.outcome.Line.{Line}
 use Rattle.commands.specs.declared.outcome.Outcome.{Outcome}
 use Rattle.commands.specs.declared.outcome.Outcome.TheVariants.{Wave, Shown}
+use Rattle.commands.specs.declared.prove.Found.{Found}
 use Rattle.commands.specs.declared.reason.Reason.{Reason}
 use Rattle.commands.specs.declared.reason.Reason.TheVariants.{Usage, NoMemory}
+use Rattle.commands.specs.declared.subject.Subject.{Subject}
 use Rattle.vcd_reader.specs.Meaning.{reading}
 use Rattle.vcd_reader.specs.Rules.{sample_limit}
 use Rattle.vcd_reader.specs.Sampled.{Sampled}
@@ -253,6 +260,42 @@ one-lines name t u names names' same e =
     (one-directives name names t u same)
     (λ v w s a b h k. alike-ok (Any-two {A = List Line}) (map (line_of names) v) (map (line_of names) w) a b h k tt))
 
+-- findings
+
+pub record SameSubject (i j : Subject) : Type 0 where
+  pub netlists : i.netlist ≡ j.netlist
+  pub directives : SameUnit i.directives j.directives
+
+one-directives-of : (unit : List ℕ) (i j : Circuit) → SameCircuit i j → Agree SameSubject (SubjectReading unit i) (SubjectReading unit j)
+one-directives-of unit i j same =
+    agree-then SameUnit SameSubject (DirectivesReading unit i.tree i.netlist.names) (DirectivesReading unit j.tree j.netlist.names)
+    (λ u result. result ≡ Ok (subject_of i u)) (λ v result. result ≡ Ok (subject_of j v))
+    (subst (λ (d : Design). Agree SameUnit (DirectivesReading unit i.tree i.netlist.names) (DirectivesReading unit j.tree d.names)) same.netlists
+    (one-directives unit i.netlist.names i.tree j.tree same.trees))
+    (λ u v s a b h k. alike-ok SameSubject (subject_of i u) (subject_of j v) a b h k (record { netlists = same.netlists; directives = s }))
+
+one-subject : (unit netlist : List ℕ) (files : Contents) → Agree SameSubject (SubjectStage unit netlist files) (SubjectStage unit netlist files)
+one-subject unit netlist files =
+    agree-then SameCircuit SameSubject (CircuitStage unit netlist files) (CircuitStage unit netlist files) (SubjectReading unit) (SubjectReading unit)
+    (one-circuit unit netlist files) (one-directives-of unit)
+
+one-found-of : (unit netlist : List ℕ) (limits : Limits) (design : Design) (u v : List Directive) → SameUnit u v
+    → Agree (Any-two {A = Found}) (FoundReading unit netlist limits (record { netlist = design; directives = u }))
+    (FoundReading unit netlist limits (record { netlist = design; directives = v }))
+one-found-of unit netlist limits design u v s (Ok a) (Ok b) h k = tt
+one-found-of unit netlist limits design u v s (Ok a) (Err g) h (c, first, _) =
+    absurd (within_or_not design limits.depth v c (are-within design limits.depth u v s h.0) first)
+one-found-of unit netlist limits design u v s (Err f) (Ok b) (c, first, _) k =
+    absurd (within_or_not design limits.depth v c k.0 (same-first-refused design limits.depth u v s c first))
+one-found-of unit netlist limits design u v s (Err f) (Err g) (c, first, e) (d, first', e') =
+    e ∙ ap (size_fault unit netlist) (one_size_fault design limits.depth v c d (same-first-refused design limits.depth u v s c first) first') ∙ sym e'
+
+one-found : (unit netlist : List ℕ) (limits : Limits) (i j : Subject) → SameSubject i j
+    → Agree (Any-two {A = Found}) (FoundReading unit netlist limits i) (FoundReading unit netlist limits j)
+one-found unit netlist limits i j same =
+    subst (λ (d : Design). Agree (Any-two {A = Found}) (FoundReading unit netlist limits i) (FoundReading unit netlist limits (record { netlist = d; directives = j.directives }))) same.netlists
+    (one-found-of unit netlist limits i.netlist i.directives j.directives same.directives)
+
 -- commands: the stage of one gives one fault, or outcomes
 
 one-outcome : {A : Type 0} (Same : A → A → Type 0) (Stage : Contents → Result A Fault → Type 0) (outcome : A → Outcome) (files : Contents) → Agree Same (Stage files) (Stage files)
@@ -282,6 +325,9 @@ one-meaning (show_netlist unit netlist) files =
     one-outcome (Any-two {A = List Line}) (ShowNetlistStage unit netlist) Shown files
     (one-loaded SameCircuit (CircuitStage unit netlist) (λ circuit. LinesReading unit circuit.tree circuit.netlist.names) files (one-circuit unit netlist files)
     (λ i j same. one-lines unit i.tree j.tree i.netlist.names j.netlist.names same.trees (ap (λ (d : Design). d.names) same.netlists)))
+one-meaning (prove unit netlist limits) files =
+    one-outcome (Any-two {A = Found}) (ProveStage unit netlist limits) (findings_outcome limits) files
+    (one-loaded SameSubject (SubjectStage unit netlist) (FoundReading unit netlist limits) files (one-subject unit netlist files) (one-found unit netlist limits))
 one-meaning (gen seed samples) files = one-made seed samples
 
 -- words are one command at most

@@ -41,13 +41,13 @@ same-refused d e (judge.Automaton n) s r = (
 )
 same-refused d e judge.NoMemory s r = r
 
-heads : (d e : Directive) (u v : List Directive) → SameUnit (d ∷ u) (e ∷ v) → directive_of d ≡ directive_of e
+pub heads : (d e : Directive) (u v : List Directive) → SameUnit (d ∷ u) (e ∷ v) → directive_of d ≡ directive_of e
 heads d e u v s = cc
 
-tails : (d e : Directive) (u v : List Directive) → SameUnit (d ∷ u) (e ∷ v) → SameUnit u v
+pub tails : (d e : Directive) (u v : List Directive) → SameUnit (d ∷ u) (e ∷ v) → SameUnit u v
 tails d e u v s = cc
 
-none-some : (d : Directive) (u : List Directive) → map directive_of [] ≡ map directive_of (d ∷ u) → ⊥
+pub none-some : (d : Directive) (u : List Directive) → map directive_of [] ≡ map directive_of (d ∷ u) → ⊥
 none-some d u s = cc
 
 pub all-judgeable : (u v : List Directive) → SameUnit u v → All IsJudgeable u → All IsJudgeable v
@@ -57,11 +57,11 @@ all-judgeable (d ∷ u) [] s a = absurd (none-some d u (sym s))
 all-judgeable (d ∷ u) (e ∷ v) s a =
     All-cons IsJudgeable e v (same-judgeable d e (heads d e u v s) (All-head IsJudgeable d u a)) (all-judgeable u v (tails d e u v s) (All-tail IsJudgeable d u a))
 
-same-take : (n : ℕ) (u v : List Directive) → SameUnit u v → SameUnit (take n u) (take n v)
+pub same-take : (n : ℕ) (u v : List Directive) → SameUnit u v → SameUnit (take n u) (take n v)
 same-take n u v s = sym (take-map directive_of n u) ∙ ap (take n) s ∙ take-map directive_of n v
 
 -- the directive at the same place
-there : (n : ℕ) (u v : List Directive) (d : Directive) → SameUnit u v → slice_get u n ≡ Some d → (e : Directive) × (slice_get v n ≡ Some e) × (directive_of d ≡ directive_of e)
+pub there : (n : ℕ) (u v : List Directive) (d : Directive) → SameUnit u v → slice_get u n ≡ Some d → (e : Directive) × (slice_get v n ≡ Some e) × (directive_of d ≡ directive_of e)
 there n [] v d s is = absurd (let wrong : None ≡ Some d = is in cc)
 there n (x ∷ u) [] d s is = absurd (none-some x u (sym s))
 there zero (x ∷ u) (y ∷ v) d s is = (y, refl, (let same : x ≡ d = cc in subst (λ (a : Directive). directive_of a ≡ directive_of y) same (heads x y u v s)))

@@ -71,13 +71,13 @@ module _ {A : Type 0} (Reading : List ℕ → Result A Fault → Type 0) (name :
 
   -- what is refused of a content that was read
   pub read-refuses : (old new : ShelfState) (bytes : List ℕ) (fault : Fault) → IsContent old name bytes → length bytes ≤ file_limit
-      → TextFails name (λ f. Reading bytes (Err f)) fault → Refuses old new (OfFile Reading name) fault
+      → TextFails (name ∷ []) (λ f. Reading bytes (Err f)) fault → Refuses old new (OfFile Reading name) fault
   read-refuses old new bytes fault is le (inl e) = subst (λ (f : Fault). Refuses old new (OfFile Reading name) f) (sym e) tt
   read-refuses old new bytes fault is le (inr t) = text-refuses old new bytes fault is le (cause_of fault.reason) t.cause t.refusal
 
 -- the same of a result, where it has a fault
 pub result-refuses : {A : Type 0} (Reading : List ℕ → Result A Fault → Type 0) (name : List ℕ) (old new : ShelfState) (bytes : List ℕ) (result : Result A Fault)
-    → IsContent old name bytes → length bytes ≤ file_limit → IfErr result (λ fault. TextFails name (λ f. Reading bytes (Err f)) fault)
+    → IsContent old name bytes → length bytes ≤ file_limit → IfErr result (λ fault. TextFails (name ∷ []) (λ f. Reading bytes (Err f)) fault)
     → IfErr result (λ fault. Refuses old new (OfFile Reading name) fault)
 result-refuses Reading name old new bytes (Ok _) is le h = tt
 result-refuses Reading name old new bytes (Err fault) is le h = read-refuses Reading name old new bytes fault is le h
@@ -91,53 +91,56 @@ pub told-cause : {F : Type 0} (name : List ℕ) (diagnostic : F → Diagnostic) 
 told-cause name diagnostic cause fault said e h =
     subst (λ (d : Diagnostic). (fault ≡ of_none NoMemory) ⊎ ((d.reason ≢ NoMemory) × (fault ≡ fault_in name d))) e h
 
+pub of-text : (name : List ℕ) (fault : Fault) → cause_of fault.reason ≡ OfText → fault.file ≡ Some name → IsOfFile name fault
+of-text name fault e file = record { reason = subst SpeaksOfFile (sym e) tt; file = file }
+
 -- a fault that was told is what the reading refuses
 pub told-fails : {A F : Type 0} (name : List ℕ) (diagnostic : F → Diagnostic) (IsValue : A → Type 0) (IsFault : F → Type 0) (cause : F) (fault : Fault) (said : Diagnostic)
     → IsFault cause → (((diagnostic cause).reason ≢ NoMemory) → cause_of (diagnostic cause).reason ≡ OfText) → said ≡ diagnostic cause
     → (fault ≡ of_none NoMemory) ⊎ ((said.reason ≢ NoMemory) × (fault ≡ fault_in name said))
-    → IsReading name (ToldBy name diagnostic IsValue IsFault) (Err fault)
+    → IsReading (name ∷ []) (ToldBy name diagnostic IsValue IsFault) (Err fault)
 told-fails name diagnostic IsValue IsFault cause fault said is text e h = record { gives = tt; refuses = by (told-cause name diagnostic cause fault said e h) }
   where
-    by : IsTold name diagnostic cause fault → TextFails name (λ f. ToldBy name diagnostic IsValue IsFault (Err f)) fault
+    by : IsTold name diagnostic cause fault → TextFails (name ∷ []) (λ f. ToldBy name diagnostic IsValue IsFault (Err f)) fault
     by (inl e) = inl e
-    by (inr (other, e)) = inr record {
-      cause = ap (λ (f : Fault). cause_of f.reason) e ∙ text other;
-      file = ap (λ (f : Fault). f.file) e;
-      refusal = (cause, is, other, e);
-    }
+    by (inr (other, e)) =
+        let of : cause_of fault.reason ≡ OfText = ap (λ (f : Fault). cause_of f.reason) e ∙ text other in
+        inr record { cause = of; file = inl (of-text name fault of (ap (λ (f : Fault). f.file) e)); refusal = (cause, is, other, e) }
 
 -- one reading after the other
-module _ {A B : Type 0} (First : Result A Fault → Type 0) (Next : A → Result B Fault → Type 0) (name : List ℕ) where
-  pub reading-first : (fault : Fault) → IsReading name First (Err fault) → IsReading name (AndThen First Next) (Err fault)
+module _ {A B : Type 0} (First : Result A Fault → Type 0) (Next : A → Result B Fault → Type 0) (names : List (List ℕ)) where
+  pub reading-first : (fault : Fault) → IsReading names First (Err fault) → IsReading names (AndThen First Next) (Err fault)
   reading-first fault h = record { gives = tt; refuses = by h.refuses }
     where
-      by : TextFails name (λ f. First (Err f)) fault → TextFails name (λ f. AndThen First Next (Err f)) fault
+      by : TextFails names (λ f. First (Err f)) fault → TextFails names (λ f. AndThen First Next (Err f)) fault
       by (inl e) = inl e
       by (inr t) = inr record { cause = t.cause; file = t.file; refusal = inl (fault, t.refusal, refl) }
 
-  next-fails : (a : A) (fault : Fault) → First (Ok a) → TextFails name (λ f. Next a (Err f)) fault → TextFails name (λ f. AndThen First Next (Err f)) fault
+  next-fails : (a : A) (fault : Fault) → First (Ok a) → TextFails names (λ f. Next a (Err f)) fault → TextFails names (λ f. AndThen First Next (Err f)) fault
   next-fails a fault h (inl e) = inl e
   next-fails a fault h (inr t) = inr record { cause = t.cause; file = t.file; refusal = inr (a, h, t.refusal) }
 
-  pub reading-then : (a : A) (result : Result B Fault) → IsReading name First (Ok a) → IsReading name (Next a) result → IsReading name (AndThen First Next) result
+  pub reading-then : (a : A) (result : Result B Fault) → IsReading names First (Ok a) → IsReading names (Next a) result → IsReading names (AndThen First Next) result
   reading-then a (Ok b) h k = record { gives = inr (a, h.gives, k.gives); refuses = tt }
   reading-then a (Err fault) h k = record { gives = tt; refuses = next-fails a fault h.gives k.refuses }
 
+-- the value of a reading is made into another
+pub reading-value : {A B : Type 0} (First : Result A Fault → Type 0) (value : A → B) (names : List (List ℕ)) (a : A) → IsReading names First (Ok a)
+    → IsReading names (AndThen First (λ a result. result ≡ Ok (value a))) (Ok (value a))
+reading-value First value names a h = record { gives = inr (a, h.gives, refl); refuses = tt }
+
 -- what a stage that reads no file refuses
-pub text-stage-refuses : {A : Type 0} (Stage : Contents → Result A Fault → Type 0) (name : List ℕ) (old new : ShelfState) (fault : Fault)
-    → TextFails name (λ f. (files : Contents) → Stage files (Err f)) fault → Refuses old new Stage fault
-text-stage-refuses Stage name old new fault (inl e) = subst (λ (f : Fault). Refuses old new Stage f) (sym e) tt
-text-stage-refuses Stage name old new fault (inr t) =
+pub text-stage-refuses : {A : Type 0} (Stage : Contents → Result A Fault → Type 0) (names : List (List ℕ)) (old new : ShelfState) (fault : Fault)
+    → TextFails names (λ f. (files : Contents) → Stage files (Err f)) fault → Refuses old new Stage fault
+text-stage-refuses Stage names old new fault (inl e) = subst (λ (f : Fault). Refuses old new Stage f) (sym e) tt
+text-stage-refuses Stage names old new fault (inr t) =
     subst (λ (c : Cause). HasCause c ⊥ old new (λ files. Stage files (Err fault))) (sym t.cause) (λ files told. t.refusal files)
 
 -- whose the faults are
 
-pub of-text : (name : List ℕ) (fault : Fault) → cause_of fault.reason ≡ OfText → fault.file ≡ Some name → IsOfFile name fault
-of-text name fault e file = record { reason = subst SpeaksOfFile (sym e) tt; file = file }
-
-pub text-named : (name : List ℕ) (Refusal : Fault → Type 0) (fault : Fault) → TextFails name Refusal fault → IsOfFilesOrMemory (name ∷ []) fault
-text-named name Refusal fault (inl e) = inl e
-text-named name Refusal fault (inr t) = inr (inl (of-text name fault t.cause t.file))
+pub text-named : (names : List (List ℕ)) (Refusal : Fault → Type 0) (fault : Fault) → TextFails names Refusal fault → IsOfFilesOrMemory names fault
+text-named names Refusal fault (inl e) = inl e
+text-named names Refusal fault (inr t) = inr t.file
 
 pub loading-named : (name : List ℕ) (old new : ShelfState) (fault : Fault) → LoadFails name old new fault → IsOfFilesOrMemory (name ∷ []) fault
 loading-named name old new fault (for_memory e) = inl e
@@ -159,14 +162,14 @@ pub memory-unread : {A : Type 0} (new : ShelfState) (result : Result A Fault) �
 memory-unread new (Ok _) h = tt
 memory-unread new (Err fault) h = none-unread new NoMemory fault no-memory h
 
-pub text-unread : (name : List ℕ) (Refusal : Fault → Type 0) (new : ShelfState) (fault : Fault) → TextFails name Refusal fault → IsUnread new fault
-text-unread name Refusal new fault (inl e) = none-unread new NoMemory fault no-memory e
-text-unread name Refusal new fault (inr t) = other-unread new fault (λ is. let wrong : OfText ≡ OfReading = sym t.cause ∙ ap cause_of is in cc)
+pub text-unread : (names : List (List ℕ)) (Refusal : Fault → Type 0) (new : ShelfState) (fault : Fault) → TextFails names Refusal fault → IsUnread new fault
+text-unread names Refusal new fault (inl e) = none-unread new NoMemory fault no-memory e
+text-unread names Refusal new fault (inr t) = other-unread new fault (λ is. let wrong : OfText ≡ OfReading = sym t.cause ∙ ap cause_of is in cc)
 
-pub texts-unread : {A : Type 0} (name : List ℕ) (Refusal : Fault → Type 0) (new : ShelfState) (result : Result A Fault)
-    → IfErr result (λ fault. TextFails name Refusal fault) → IfErr result (λ fault. IsUnread new fault)
-texts-unread name Refusal new (Ok _) h = tt
-texts-unread name Refusal new (Err fault) h = text-unread name Refusal new fault h
+pub texts-unread : {A : Type 0} (names : List (List ℕ)) (Refusal : Fault → Type 0) (new : ShelfState) (result : Result A Fault)
+    → IfErr result (λ fault. TextFails names Refusal fault) → IfErr result (λ fault. IsUnread new fault)
+texts-unread names Refusal new (Ok _) h = tt
+texts-unread names Refusal new (Err fault) h = text-unread names Refusal new fault h
 
 pub loading-unread : (name : List ℕ) (old new : ShelfState) (fault : Fault) → LoadFails name old new fault → IsUnread new fault
 loading-unread name old new fault (for_memory e) = none-unread new NoMemory fault no-memory e

@@ -1,6 +1,9 @@
 -- How a run ends: its status, what it prints, and why a fault came.
 use Rattle.std.specs.Prelude.{◌≡◌, ◌≢◌, ◌⊎◌, Bool, true, false, ◌||◌, ℕ, List, Option, None, Some, if◌then◌else◌}
-use Rattle.std.specs.List.{list_all}
+use Rattle.std.specs.List.{list_all, list_any}
+use Rattle.findings.specs.declared.entry.FindingEntry.{FindingEntry}
+use Rattle.prover.specs.declared.finding.Finding.{Finding}
+use Rattle.prover.specs.declared.finding.Finding.TheVariants as finding
 use Rattle.psl_base.specs.Shelf.{Contents, ShelfState}
 use Rattle.psl_base.specs.Sink.{SinkState, AddsAll, AddsPart}
 use Rattle.psl_tree.specs.declared.directive.Kind.{Kind}
@@ -11,7 +14,7 @@ use Rattle.commands.specs.Stages.{OfTold, HasCause}
 use Rattle.commands.specs.Text.{text_of, line_of}
 use Rattle.commands.specs.declared.outcome.Fault.{Fault}
 use Rattle.commands.specs.declared.outcome.Outcome.{Outcome}
-use Rattle.commands.specs.declared.outcome.Outcome.TheVariants.{Nothing, Wave, Shown, Made}
+use Rattle.commands.specs.declared.outcome.Outcome.TheVariants.{Nothing, Wave, Findings, Shown, Made}
 use Rattle.commands.specs.declared.reason.Reason.TheVariants.{WriteFault, NoMemory}
 use Rattle.wave_judge.specs.declared.verdict.Verdict.{Verdict}
 
@@ -29,9 +32,27 @@ passes verdict = verdict.neutral || may_be_no verdict.kind
 abbrev pub verdicts_status : List Verdict → ℕ
 verdicts_status verdicts = if list_all passes verdicts then 0 else 1
 
+-- a run was found that violates the assertion
+abbrev pub is_violated : Finding → Bool
+is_violated (finding.Violated run) = true
+is_violated _ = false
+
+-- the assertion was proved
+abbrev pub is_proved : Finding → Bool
+is_proved (finding.Proved certificate) = true
+is_proved _ = false
+
+-- 1 where some assertion is violated, else 0 where each is proved, and else 6
+abbrev pub findings_status : List FindingEntry → ℕ
+findings_status entries =
+    if list_any (λ entry. is_violated entry.finding) entries then 1
+    else if list_all (λ entry. is_proved entry.finding) entries then 0
+    else 6
+
 abbrev pub outcome_status : Outcome → ℕ
 outcome_status Nothing = 0
 outcome_status (Wave verdicts) = verdicts_status verdicts
+outcome_status (Findings entries columns depth visits) = findings_status entries
 outcome_status (Shown lines) = 0
 outcome_status (Made seed samples bytes verdicts) = verdicts_status verdicts
 

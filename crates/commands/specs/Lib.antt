@@ -4,6 +4,7 @@ pub mod Endings
 pub mod Faults
 pub mod Generated
 pub mod Planning
+pub mod Provings
 pub mod Rows
 pub mod Stages
 pub mod Text

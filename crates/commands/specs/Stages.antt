@@ -89,15 +89,15 @@ pub data LoadFails (name : List ℕ) (old new : ShelfState) (fault : Fault) : Ty
 abbrev pub IsUnread : ShelfState → Fault → Type 0
 IsUnread new fault = fault.reason ≡ ReadFault → (fault.place ≡ None) × ((new.selected ≡ None) ⊎ (new.selected ≡ fault.file))
 
--- a fault of a text in this file, of which `Refusal` says that it is the refusal
-pub record IsTextFault (name : List ℕ) (Refusal : Type 0) (fault : Fault) : Type 0 where
+-- a fault of a text in one of these files, of which `Refusal` says that it is the refusal
+pub record IsTextFault (names : List (List ℕ)) (Refusal : Type 0) (fault : Fault) : Type 0 where
   pub cause : cause_of fault.reason ≡ OfText
-  pub file : fault.file ≡ Some name
+  pub file : IsOfFiles names fault
   pub refusal : Refusal
 
--- want of memory, or a fault of a text in this file
-abbrev pub TextFails : List ℕ → (Fault → Type 0) → Fault → Type 0
-TextFails name Refusal fault = (fault ≡ of_none NoMemory) ⊎ IsTextFault name (Refusal fault) fault
+-- want of memory, or a fault of a text in one of these files
+abbrev pub TextFails : List (List ℕ) → (Fault → Type 0) → Fault → Type 0
+TextFails names Refusal fault = (fault ≡ of_none NoMemory) ⊎ IsTextFault names (Refusal fault) fault
 
 -- a count of reading that is larger after a stage comes with a fault of reading, or with want of memory for telling it
 abbrev pub IsCounted : ShelfState → ShelfState → Fault → Type 0
@@ -116,7 +116,7 @@ pub record IsStage {A : Type 0} (names : List (List ℕ)) (Stage : Contents → 
   pub counted : IfErr result (λ fault. IsCounted old new fault)
   pub kept : OnlyReads old new
 
--- What was read of the file of this name was gone through: the value, or the refusal.
-pub record IsReading {A : Type 0} (name : List ℕ) (Reading : Result A Fault → Type 0) (result : Result A Fault) : Type 0 where
+-- What was read of the files of these names was gone through: the value, or the refusal, which is of one of them.
+pub record IsReading {A : Type 0} (names : List (List ℕ)) (Reading : Result A Fault → Type 0) (result : Result A Fault) : Type 0 where
   pub gives : IfOk result (λ value. Reading (Ok value))
-  pub refuses : IfErr result (λ fault. TextFails name (λ fault. Reading (Err fault)) fault)
+  pub refuses : IfErr result (λ fault. TextFails names (λ fault. Reading (Err fault)) fault)

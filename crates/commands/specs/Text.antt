@@ -1,14 +1,22 @@
 -- What is printed: the lines of an outcome, and the line of a fault.
-use Rattle.std.specs.Prelude.{Bool, true, false, ℕ, List, [], ◌∷◌, ◌++◌, Option, None, Some, codes, decimal}
+use Rattle.std.specs.Prelude.{Bool, true, false, ℕ, suc, List, [], ◌∷◌, ◌++◌, length, Option, None, Some, codes, decimal}
 use Rattle.std.specs.List.{flat_map}
+use Rattle.clauses.specs.Logs.{lemmas}
+use Rattle.findings.specs.Columns.{ShowColumns}
+use Rattle.findings.specs.declared.entry.FindingEntry.{FindingEntry}
+use Rattle.netlist.specs.Valuations.{bit}
+use Rattle.netlist.specs.declared.run.Run.{Run}
+use Rattle.prover.specs.declared.finding.Finding.{Finding}
+use Rattle.prover.specs.declared.finding.Finding.TheVariants as findings
 use Rattle.psl_base.specs.declared.place.Place.{Place}
 use Rattle.psl_tree.specs.declared.directive.Kind.{Kind}
 use Rattle.psl_tree.specs.declared.directive.Kind.TheVariants.{Assert, Assume, Cover}
+use Rattle.psl_tree.specs.declared.name.Name.{Name}
 use Rattle.commands.specs.Rows.{fault_words}
 use Rattle.commands.specs.declared.outcome.Fault.{Fault}
 use Rattle.commands.specs.declared.outcome.Line.{Line}
 use Rattle.commands.specs.declared.outcome.Outcome.{Outcome}
-use Rattle.commands.specs.declared.outcome.Outcome.TheVariants.{Nothing, Wave, Shown, Made}
+use Rattle.commands.specs.declared.outcome.Outcome.TheVariants.{Nothing, Wave, Findings, Shown, Made}
 use Rattle.wave_judge.specs.Levels.{level_of}
 use Rattle.wave_judge.specs.declared.verdict.Level.{Level}
 use Rattle.wave_judge.specs.declared.verdict.Level.TheVariants.{HoldsStrongly, Holds, Pending, Fails}
@@ -60,10 +68,62 @@ meaning_line line = head line.kind line.number line.label ++ line.text ++ codes 
 abbrev pub made_line : ℕ → ℕ → ℕ → List ℕ
 made_line seed samples bytes = codes "gen " ++ decimal seed ++ codes " " ++ decimal samples ++ codes " bytes " ++ decimal bytes ++ line_feed
 
+-- the value of a signal in a valuation, behind its name
+abbrev pub digit : Bool → List ℕ
+digit true = codes "1"
+digit false = codes "0"
+
+abbrev pub value_part : List Bool → Name → List ℕ
+value_part valuation column = codes " " ++ column.text ++ codes "=" ++ digit (bit valuation column.signal)
+
+-- the line of a valuation at a place of a part of a run, counted from 0 in the part
+abbrev pub valuation_line : List ℕ → List Name → ℕ → List Bool → List ℕ
+valuation_line part columns place valuation =
+    codes "  " ++ part ++ codes " " ++ decimal place ++ codes ":" ++ flat_map (value_part valuation) columns ++ line_feed
+
+abbrev pub valuation_lines : List ℕ → List Name → ℕ → List (List Bool) → List ℕ
+valuation_lines part columns place [] = []
+valuation_lines part columns place (valuation ∷ valuations) =
+    valuation_line part columns place valuation ++ valuation_lines part columns (suc place) valuations
+
+-- how long the stem and the loop of a run are
+abbrev pub lengths_line : Run → List ℕ
+lengths_line run = codes "violated stem " ++ decimal (length run.stem) ++ codes " loop " ++ decimal (length run.loop_part) ++ line_feed
+
+-- a run: this line, and then its valuations
+abbrev pub run_text : List Name → Run → List ℕ
+run_text columns run =
+    lengths_line run ++ valuation_lines (codes "stem") columns 0 run.stem ++ valuation_lines (codes "loop") columns 0 run.loop_part
+
+-- how many lemmas the solver learned
+abbrev pub steps_line : ℕ → List ℕ
+steps_line steps = codes "undecided steps " ++ decimal steps ++ line_feed
+
+-- what a finding says, by the columns, the depth and the visits
+abbrev pub finding_text : List Name → ℕ → ℕ → Finding → List ℕ
+finding_text columns depth visits (findings.Proved certificate) =
+    codes "proved visits " ++ decimal certificate.visits ++ codes " window " ++ decimal certificate.window ++ line_feed
+finding_text columns depth visits (findings.Violated run) = run_text columns run
+finding_text columns depth visits (findings.Depth paths) =
+    codes "undecided depth " ++ decimal depth ++ codes " visits " ++ decimal visits ++ line_feed
+finding_text columns depth visits (findings.Steps query log) = steps_line (lemmas log)
+finding_text columns depth visits (findings.LogFull query log) = codes "undecided log" ++ line_feed
+finding_text columns depth visits (findings.Large query) = codes "undecided formula" ++ line_feed
+
+abbrev pub entry_text : List Name → ℕ → ℕ → FindingEntry → List ℕ
+entry_text columns depth visits entry =
+    head Assert entry.number entry.label ++ finding_text columns depth visits entry.finding
+
+-- each valuation that is shown has a value for the signal of each column
+abbrev pub IsShowable : Outcome → Type 0
+IsShowable (Findings entries columns depth visits) = ShowColumns columns entries
+IsShowable _ = Unit {0}
+
 -- the lines of an outcome
 abbrev pub text_of : Outcome → List ℕ
 text_of Nothing = []
 text_of (Wave verdicts) = flat_map verdict_line verdicts
+text_of (Findings entries columns depth visits) = flat_map (entry_text columns depth visits) entries
 text_of (Shown lines) = flat_map meaning_line lines
 text_of (Made seed samples bytes verdicts) = made_line seed samples bytes ++ flat_map verdict_line verdicts
 

@@ -22,6 +22,7 @@ use Rattle.commands.specs.declared.inputs.Circuit.{Circuit}
 use Rattle.commands.specs.declared.inputs.Inputs.{Inputs}
 use Rattle.commands.specs.declared.outcome.Fault.{Fault}
 use Rattle.commands.specs.declared.outcome.Line.{Line}
+use Rattle.commands.specs.declared.subject.Subject.{Subject}
 use Rattle.vcd_reader.specs.Meaning.{reading}
 use Rattle.vcd_reader.specs.Sampled.{Sampled, letters_of}
 use Rattle.wave_judge.specs.Faults.{IsJudgeable, IsJudgeFault}
@@ -76,6 +77,17 @@ CircuitStage unit netlist = TextAnd unit (NetlistStage netlist) with_netlist
 -- the directives of a text over names, or the first fault of kinds and names
 abbrev pub DirectivesReading : List ℕ → UnitTree → List Name → Result (List Directive) Fault → Type 0
 DirectivesReading name tree names = ToldBy name layer_diagnostic (IsUnit tree names) (IsLayerFault tree names)
+
+-- a netlist, and the directives of a text over its names
+abbrev pub subject_of : Circuit → List Directive → Subject
+subject_of circuit directives = record { netlist = circuit.netlist; directives = directives }
+
+abbrev pub SubjectReading : List ℕ → Circuit → Result Subject Fault → Type 0
+SubjectReading name circuit =
+    AndThen (DirectivesReading name circuit.tree circuit.netlist.names) (λ directives result. result ≡ Ok (subject_of circuit directives))
+
+abbrev pub SubjectStage : List ℕ → List ℕ → Contents → Result Subject Fault → Type 0
+SubjectStage unit netlist = Then (CircuitStage unit netlist) (λ circuit files. SubjectReading unit circuit)
 
 -- the directives can be judged, and these are their verdicts on the recording
 pub record AreJudged (sampled : Sampled) (directives : List Directive) (verdicts : List Verdict) : Type 0 where

@@ -1,4 +1,4 @@
-ghost use Rattle.std.specs.Prelude.{◌≤◌, All, IfOk};
+ghost use Rattle.std.specs.Prelude.{◌≤◌, ◌∷◌, [], All, IfOk};
 ghost use Rattle.psl_tree.specs.Atoms.{AtomsOfFormula};
 ghost use Rattle.psl_tree.specs.Counts.{formula_size};
 ghost use Rattle.psl_tree.specs.Names.{AtomInRange, AreAlike};
@@ -16,7 +16,7 @@ use std::alloc::Global;
 /// The directives of a text over names.
 pub fn directives(alloc: Global, tree: &UnitTree, names: &Names, unit: &str) -> Result<Unit, Fault>
     requires { AreAlike names.now }
-    ensures reading { IsReading unit.now (DirectivesReading unit.now tree.now names.now) result }
+    ensures reading { IsReading (unit.now ∷ []) (DirectivesReading unit.now tree.now names.now) result }
     ensures in_range { IfOk result (λ directives. All (λ directive. AtomsOfFormula (AtomInRange names.now) (formula_of directive.formula)) directives) }
     ensures small { IfOk result (λ directives. All (λ directive. formula_size (formula_of directive.formula) ≤ 4096) directives) }
 {

@@ -3,10 +3,12 @@ ghost use Rattle.std.specs.Prelude.{◌≡◌, ◌≢◌, ◌⊎◌, ◌≤◌, 
 ghost use Rattle.psl_base.specs.Places.{file_limit};
 ghost use Rattle.commands.specs.Diagnostics as spec;
 ghost use Rattle.commands.specs.Faults.{at, whole, fault_in, of_none};
+ghost use Rattle.commands.specs.Provings as provings;
 
 use crate::outcome::Fault;
 use crate::reason::{Diagnostic, Reason};
 use blif_reader::BlifFault;
+use findings::SizeFault;
 use psl_base::{NoMemory, Place, Text, place_of};
 use psl_elaboration::LayerFault;
 use psl_lexer::{LexFault, Tokens};
@@ -213,5 +215,19 @@ pub fn blif_diagnostic(fault: BlifFault) -> Diagnostic
         BlifFault::TooLong => whole(Reason::TooLong),
         BlifFault::ReadFault => whole(Reason::ReadFault),
         BlifFault::NoMemory => whole(Reason::NoMemory),
+    }
+}
+
+/// The fault of an assertion that is too large: at its place in the text, or of the netlist. It may be want of memory.
+pub fn size_fault(alloc: Global, unit: &str, netlist: &str, fault: SizeFault) -> Fault
+    ensures { (result ≡ of_none Reason.NoMemory) ⊎ (result ≡ provings.size_fault unit.now netlist.now fault) }
+{
+    match fault {
+        SizeFault::SereTooLarge(place) => fault_in(alloc, unit, at(Reason::SereTooLarge, place)),
+        SizeFault::AutomatonTooLarge(place) => {
+            fault_in(alloc, unit, at(Reason::AutomatonTooLarge, place))
+        }
+        SizeFault::UnrollTooLarge => fault_in(alloc, netlist, whole(Reason::UnrollTooLarge)),
+        SizeFault::NoMemory => of_none(Reason::NoMemory),
     }
 }

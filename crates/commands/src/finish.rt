@@ -1,9 +1,9 @@
 ghost use Rattle.std.specs.Prelude.{◌≡◌, ◌⊎◌, None, Some, IfOk, IfErr};
-ghost use Rattle.std.specs.List.{list_all};
+ghost use Rattle.std.specs.List.{list_all, list_any};
 ghost use Rattle.std.specs.Result.{ForOk, ForErr};
 ghost use Rattle.psl_base.specs.Faults.{Rose};
 ghost use Rattle.psl_base.specs.Sink.{SinkState};
-ghost use Rattle.commands.specs.Endings.{status_of, outcome_status, verdicts_status, passes, may_be_no, IsUnwritten, IsToTell, Prints, AddsSome, EndsWith, EndsFaulted};
+ghost use Rattle.commands.specs.Endings.{status_of, outcome_status, findings_status, verdicts_status, is_proved, is_violated, passes, may_be_no, IsUnwritten, IsToTell, Prints, AddsSome, EndsWith, EndsFaulted};
 ghost use Rattle.commands.specs.Faults.{of_none, fault_of};
 ghost use Rattle.commands.specs.Text.{text_of, line_of};
 
@@ -12,6 +12,8 @@ use crate::outcome::{Fault, Outcome, Report};
 use crate::reason::Reason;
 use crate::report::fault_line;
 use crate::rows::row_of;
+use findings::FindingEntry;
+use prover::Finding;
 use psl_base::{Bytes, Sink, put_all};
 use psl_tree::Kind;
 use std::alloc::Global;
@@ -115,6 +117,7 @@ fn status_of_outcome(outcome: &Outcome) -> u8
 {
     match outcome {
         Outcome::Nothing | Outcome::Shown(_) => 0,
+        Outcome::Findings { findings, .. } => status_of_findings(findings.as_slice()),
         Outcome::Wave(verdicts) | Outcome::Made(_, _, _, verdicts) => {
             status_of_verdicts(verdicts.as_slice())
         }
@@ -137,4 +140,54 @@ fn passes(verdict: &Verdict) -> bool
     ensures { result ≡ passes verdict.now }
 {
     verdict.neutral || verdict.kind as u8 == Kind::Cover as u8
+}
+
+fn status_of_findings(entries: &[FindingEntry]) -> u8
+    ensures { result ≡ findings_status entries.now }
+{
+    if some_violated(entries) {
+        1
+    } else if all_proved(entries) {
+        0
+    } else {
+        6
+    }
+}
+
+fn some_violated(entries: &[FindingEntry]) -> bool
+    ensures { result ≡ list_any (λ entry. is_violated entry.finding) entries.now }
+{
+    entries.iter().any(|entry| is_violated(&entry.finding))
+}
+
+fn all_proved(entries: &[FindingEntry]) -> bool
+    ensures { result ≡ list_all (λ entry. is_proved entry.finding) entries.now }
+{
+    entries.iter().all(|entry| is_proved(&entry.finding))
+}
+
+fn is_violated(finding: &Finding) -> bool
+    ensures { result ≡ is_violated finding.now }
+{
+    match finding {
+        Finding::Violated(_) => true,
+        Finding::Proved(_)
+        | Finding::Depth(_)
+        | Finding::Steps(_, _)
+        | Finding::LogFull(_, _)
+        | Finding::Large(_) => false,
+    }
+}
+
+fn is_proved(finding: &Finding) -> bool
+    ensures { result ≡ is_proved finding.now }
+{
+    match finding {
+        Finding::Proved(_) => true,
+        Finding::Violated(_)
+        | Finding::Depth(_)
+        | Finding::Steps(_, _)
+        | Finding::LogFull(_, _)
+        | Finding::Large(_) => false,
+    }
 }

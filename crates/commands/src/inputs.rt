@@ -109,7 +109,7 @@ fn load<F: Shelf>(alloc: Global, files: &mut F, name: &str) -> Result<Bytes, Fau
 /// The tree of a text.
 fn parse_text(alloc: Global, text: &[u8], name: &str) -> Result<UnitTree, Fault>
     requires { length text.now ≤ file_limit }
-    ensures { IsReading name.now (UnitReading name.now text.now) result }
+    ensures { IsReading (name.now ∷ []) (UnitReading name.now text.now) result }
 {
     let tokens = tokens_of(alloc, text, name)?;
     tree_of(alloc, text, &tokens, name)
@@ -118,7 +118,7 @@ fn parse_text(alloc: Global, text: &[u8], name: &str) -> Result<UnitTree, Fault>
 /// The tokens of a text.
 fn tokens_of(alloc: Global, text: &[u8], name: &str) -> Result<Tokens, Fault>
     requires { length text.now ≤ file_limit }
-    ensures { IsReading name.now (TokensReading name.now text.now) result }
+    ensures { IsReading (name.now ∷ []) (TokensReading name.now text.now) result }
 {
     match lex(alloc, text) {
         Ok(tokens) => Ok(tokens),
@@ -129,7 +129,7 @@ fn tokens_of(alloc: Global, text: &[u8], name: &str) -> Result<Tokens, Fault>
 /// The tree of the tokens of a text.
 fn tree_of(alloc: Global, text: &[u8], tokens: &Tokens, name: &str) -> Result<UnitTree, Fault>
     requires { length text.now ≤ file_limit }
-    ensures { IsReading name.now (TreeReading name.now text.now tokens.now) result }
+    ensures { IsReading (name.now ∷ []) (TreeReading name.now text.now tokens.now) result }
 {
     match parse(alloc, tokens) {
         Ok(tree) => Ok(tree),

@@ -8,10 +8,13 @@ mod finish;
 mod generated;
 mod inputs;
 mod outcome;
+mod prove;
 mod reason;
 mod report;
 mod rows;
 mod show;
+mod shown;
+mod subject;
 mod top;
 mod wave;
 

@@ -1,6 +1,7 @@
 use crate::reason::Reason;
+use findings::Findings;
 use psl_base::{Items, Place, Text};
-use psl_tree::Kind;
+use psl_tree::{Kind, Names};
 use wave_judge::Verdicts;
 
 /// What a run found out.
@@ -9,6 +10,14 @@ pub enum Outcome {
     Nothing,
     /// `wave`: the verdicts on a recording.
     Wave(Verdicts),
+    /// `prove`: a finding for each assertion; the first names of the netlist's inputs and then of its latches' outputs, in
+    /// its order, whose values are shown of a run; and the depth and the visits that were asked for.
+    Findings {
+        findings: Findings,
+        columns: Names,
+        depth: u32,
+        visits: u32,
+    },
     /// `show`: what the directives of a text mean.
     Shown(Lines),
     /// `gen`: the seed, how many samples the made recording has, how many bytes its text has, and the

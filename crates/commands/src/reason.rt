@@ -36,10 +36,12 @@ pub enum Reason {
     ConstantTooWide,
     /// A directive whose formula has more than 4,096 constructors.
     TooLarge,
-    /// A directive with a sequence of more than 1,024 states.
+    /// A directive, or what is owed of an assertion, with a sequence of more than 1,024 states.
     SereTooLarge,
-    /// A directive of more than 2,048 obligations.
+    /// A directive, or what is owed of an assertion, of more than 2,048 obligations.
     AutomatonTooLarge,
+    /// A netlist and an assertion that are too large together to be unrolled to the depth.
+    UnrollTooLarge,
     /// The bracket that opens a 65th level in one statement.
     NestedTooDeep,
     /// The 2,049th token of a statement.

@@ -1,22 +1,38 @@
 ghost use Rattle.std.specs.Prelude.{◌≡◌, ◌++◌, IfOk, OnOk};
 ghost use Rattle.std.specs.List.{flat_map};
-ghost use Rattle.commands.specs.Text.{text_of, line_of, made_line, meaning_line, verdict_line, head, label_part, kind_word, level_words, answer_word, about};
+ghost use Rattle.commands.specs.Text.{text_of, line_of, made_line, meaning_line, verdict_line, head, label_part, kind_word, level_words, answer_word, about, IsShowable};
 
 use crate::outcome::{Fault, Line, Outcome};
 use crate::rows::row_of;
+use crate::shown::Shown;
 use psl_base::{Bytes, NoMemory, Place, Text, add_bytes, add_number};
 use psl_tree::Kind;
 use std::alloc::Global;
 use wave_judge::{Level, Verdict, level};
 
-/// The bytes that are printed of an outcome: a line for each directive.
+/// The bytes that are printed of an outcome: a line for each directive, and the valuations of the runs that were found.
+/// These have a value for the signal of each column.
 pub fn report(alloc: Global, outcome: &Outcome) -> Result<Bytes, NoMemory>
+    requires { IsShowable outcome.now }
     ensures { IfOk result (λ text. text ≡ text_of outcome.now) }
 {
     let mut text = Vec::new(alloc);
     match outcome {
         Outcome::Nothing => {}
         Outcome::Wave(verdicts) => add_verdicts(&mut text, verdicts.as_slice())?,
+        Outcome::Findings {
+            findings,
+            columns,
+            depth,
+            visits,
+        } => {
+            let shown = Shown {
+                columns: columns.as_slice(),
+                depth: *depth,
+                visits: *visits,
+            };
+            shown.add_entries(&mut text, findings.as_slice())?;
+        }
         Outcome::Shown(lines) => add_meanings(&mut text, lines.as_slice())?,
         Outcome::Made(seed, samples, bytes, verdicts) => {
             add_made(&mut text, *seed, *samples, *bytes)?;
@@ -120,7 +136,8 @@ fn add_verdict(text: &mut Vec<u8>, verdict: &Verdict) -> Result<(), NoMemory>
     add_bytes(text, b")\n")
 }
 
-fn add_head(
+/// The head of a directive.
+pub(crate) fn add_head(
     text: &mut Vec<u8>,
     kind: Kind,
     number: u32,

@@ -13,7 +13,7 @@ pub struct Row {
 }
 
 /// The words and the status of each reason, in the order in which these are declared.
-const ROWS: [(&[u8], u8); 47] = [
+const ROWS: [(&[u8], u8); 48] = [
     (b"usage: pslc wave|prove|check|show|gen ARGUMENTS", 2),
     (b"read fault", 3),
     (b"write fault", 4),
@@ -32,6 +32,7 @@ const ROWS: [(&[u8], u8); 47] = [
     (b"12 TooLarge", 7),
     (b"13 SereTooLarge", 7),
     (b"14 AutomatonTooLarge", 7),
+    (b"15 UnrollTooLarge", 7),
     (b"16 NestedTooDeep", 7),
     (b"17 StatementTooLong", 7),
     (b"V1 UnknownKeyword", 5),

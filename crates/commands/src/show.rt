@@ -40,7 +40,7 @@ pub fn show_netlist<F: Shelf>(
 /// What the directives of a text mean over names.
 fn lines(alloc: Global, tree: &UnitTree, names: &Names, unit: &str) -> Result<Lines, Fault>
     requires { AreAlike names.now }
-    ensures { IsReading unit.now (LinesReading unit.now tree.now names.now) result }
+    ensures { IsReading (unit.now ∷ []) (LinesReading unit.now tree.now names.now) result }
 {
     let directives = directives(alloc, tree, names, unit)?;
     Ok(lines_of(alloc, directives.as_slice(), names)?)

@@ -1,22 +1,23 @@
 ghost use Rattle.std.specs.Prelude.{◌≡◌, ◌≢◌, ◌⊎◌, ◌<◌, ℕ, List, Option, map, None, Some, IfOk, IfErr, IfSome, string_bytes};
 ghost use Rattle.psl_base.specs.Faults.{Rose};
 ghost use Rattle.psl_base.specs.Shelf.{Contents, OnlyReads};
-ghost use Rattle.commands.specs.Commands.{FirstRefusal, HadToTell, IsOfCommand, IsOutcomeOf, IsNamed, IsNoCommand};
+ghost use Rattle.commands.specs.Commands.{FirstRefusal, HadToTell, IsOfCommand, IsOutcomeOf, IsNamed, IsNoCommand, findings_outcome};
 ghost use Rattle.commands.specs.Endings.{status_of, Explained, Prints, IsOutOfMemory, IsDeviceStatus};
 ghost use Rattle.commands.specs.Faults.{of_none};
 ghost use Rattle.commands.specs.Planning.{IsAnswer};
 ghost use Rattle.commands.specs.Stages.{OfTold, IsUnread};
-ghost use Rattle.commands.specs.Text.{text_of};
+ghost use Rattle.commands.specs.Text.{text_of, IsShowable};
 
 use crate::faults::of_none;
 use crate::finish::{Planned, finish};
 use crate::generated::generate;
 use crate::outcome::{Fault, Outcome, Report};
+use crate::prove::{Found, Request, prove};
 use crate::reason::Reason;
 use crate::report::report;
 use crate::show::{show, show_netlist};
 use crate::wave::wave;
-use command_line::{Command, WordsFault, read_words};
+use command_line::{Command, Limits, WordsFault, read_words};
 use psl_base::{Shelf, Sink};
 use std::alloc::Global;
 use vcd_reader::SAMPLE_LIMIT;
@@ -31,7 +32,7 @@ pub fn run<F: Shelf, O: Sink, E: Sink>(
     err: &mut E,
 ) -> Report
     // The status follows from what was found out and the fault: without one it is 1 exactly where some assert or
-    // assume is neutral no, else 0.
+    // assume is neutral no or some assertion is violated, else 6 where some assertion is undecided, else 0.
     ensures status { result.status ≡ status_of result.outcome result.fault }
 
     // Each fault has its cause; without one, nothing that is told is refused.
@@ -49,7 +50,9 @@ pub fn run<F: Shelf, O: Sink, E: Sink>(
     // Whatever the files tell, the outcome is one of the command that the words are, and that of `gen` is exact.
     ensures command { IsOfCommand (map string_bytes words.now) result.outcome }
 
-    // The verdicts are satisfaction of the sampled word in the three views, the lines what the directives mean.
+    // The verdicts are satisfaction of the sampled word in the three views, the lines what the directives mean, and each
+    // finding has its evidence: a shortest run that violates what is owed; or a certificate, and all runs satisfy it; or
+    // the limit that was met, and no run that was looked for violates it.
     ensures outcome { OfTold (F.state files.old) (λ told. IsOutcomeOf (map string_bytes words.now) told result.outcome) }
 
     // Without a fault something was found out, and with one nothing, unless it is of writing.
@@ -88,7 +91,8 @@ fn plan<F: Shelf>(alloc: Global, words: &[String], files: &mut F) -> Result<Plan
 
 /// The outcome of the command.
 fn command<F: Shelf>(alloc: Global, words: &[String], files: &mut F) -> Result<Outcome, Fault>
-    ensures { IsAnswer (λ (outcome : Outcome). outcome) (map string_bytes words.now) (F.state files.old) (F.state files.new) result }
+    ensures showable { IfOk result IsShowable }
+    ensures answer { IsAnswer (λ (outcome : Outcome). outcome) (map string_bytes words.now) (F.state files.old) (F.state files.new) result }
 {
     match read_words(alloc, words, SAMPLE_LIMIT) {
         Ok(Command::Wave { unit, recording }) => {
@@ -98,14 +102,42 @@ fn command<F: Shelf>(alloc: Global, words: &[String], files: &mut F) -> Result<O
         Ok(Command::ShowNetlist { unit, netlist }) => {
             Ok(Outcome::Shown(show_netlist(alloc, files, unit, netlist)?))
         }
+        Ok(
+            Command::Prove {
+                unit,
+                netlist,
+                limits,
+            },
+        ) => {
+            let request = Request {
+                unit,
+                netlist,
+                limits,
+            };
+            let found = prove(alloc, files, request)?;
+            Ok(findings_outcome(found, limits))
+        }
         Ok(Command::Gen { seed, samples }) => generate(alloc, seed, samples),
         Err(WordsFault::Usage) => Err(of_none(Reason::Usage)),
         Err(WordsFault::NoMemory) => Err(of_none(Reason::NoMemory)),
     }
 }
 
+/// The outcome of `prove`.
+fn findings_outcome(found: Found, limits: Limits) -> Outcome
+    ensures { result ≡ findings_outcome limits found }
+{
+    Outcome::Findings {
+        findings: found.findings,
+        columns: found.columns,
+        depth: limits.depth,
+        visits: limits.visits,
+    }
+}
+
 /// An outcome with its text.
 fn made(alloc: Global, outcome: Outcome) -> Result<Planned, Fault>
+    requires { IsShowable outcome }
     ensures outcome { IfOk result (λ made. made.outcome ≡ outcome) }
     ensures text { IfOk result (λ made. made.text ≡ text_of made.outcome) }
     ensures memory { IfErr result (λ fault. fault ≡ of_none Reason.NoMemory) }

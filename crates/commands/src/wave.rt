@@ -31,7 +31,7 @@ pub fn wave<F: Shelf>(
 
 /// The verdicts of a text on a recording.
 fn verdicts(alloc: Global, inputs: &Inputs, unit: &str) -> Result<Verdicts, Fault>
-    ensures { IsReading unit.now (VerdictsReading unit.now inputs.now) result }
+    ensures { IsReading (unit.now ∷ []) (VerdictsReading unit.now inputs.now) result }
 {
     let directives = directives(alloc, &inputs.tree, inputs.recording.names(), unit)?;
     judged(alloc, &directives, &inputs.recording, unit)
@@ -46,7 +46,7 @@ fn judged(
 ) -> Result<Verdicts, Fault>
     requires in_range { All (λ directive. AtomsOfFormula (AtomInRange recording.now.names) (formula_of directive.formula)) directives.now }
     requires small { All (λ directive. formula_size (formula_of directive.formula) ≤ 4096) directives.now }
-    ensures { IsReading unit.now (JudgeReading unit.now recording.now directives.now) result }
+    ensures { IsReading (unit.now ∷ []) (JudgeReading unit.now recording.now directives.now) result }
 {
     match judge(alloc, directives, recording) {
         Ok(verdicts) => Ok(verdicts),

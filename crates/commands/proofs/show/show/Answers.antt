@@ -1,6 +1,6 @@
 use Rattle.std.proofs.Common.{[], ◌∷◌}
 use Rattle.std.proofs.lemmas.Result.{err_from_is_err_and}
-use Rattle.commands.proofs.Composing.{stage-first, stage-reading}
+use Rattle.commands.proofs.Composing.{reading-of-more, stage-first, stage-reading}
 use Rattle.commands.proofs.show.show.Goals as goal
 use Rattle.commands.specs.Waves.{InputsStage, LinesReading}
 
@@ -13,6 +13,7 @@ returns-in_err-inputs g c =
 
 pub returns : goal.returns
 returns g c =
-    stage-reading c.args.unit.now (c.args.names.now ∷ []) (InputsStage c.args.unit.now c.args.names.now) (λ inputs. LinesReading c.args.unit.now inputs.tree inputs.recording.names)
+    stage-reading (c.args.unit.now ∷ c.args.names.now ∷ []) (InputsStage c.args.unit.now c.args.names.now) (λ inputs. LinesReading c.args.unit.now inputs.tree inputs.recording.names)
     (g.F.Shelf.state c.args.files.now) (g.F.Shelf.state c.load_inputs.new.files) c.in_ok-inputs.inputs c.lines.result c.in_ok-inputs.ensures
-    (rw c.names.ensures.names at c.lines.ensures)
+    (reading-of-more (c.args.unit.now ∷ []) (c.args.names.now ∷ []) (LinesReading c.args.unit.now c.in_ok-inputs.inputs.tree c.in_ok-inputs.inputs.recording.names) c.lines.result
+    (rw c.names.ensures.names at c.lines.ensures))

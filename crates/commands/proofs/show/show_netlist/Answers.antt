@@ -1,6 +1,6 @@
 use Rattle.std.proofs.Common.{[], ◌∷◌}
 use Rattle.std.proofs.lemmas.Result.{err_from_is_err_and}
-use Rattle.commands.proofs.Composing.{stage-first, stage-reading}
+use Rattle.commands.proofs.Composing.{reading-of-more, stage-first, stage-reading}
 use Rattle.commands.proofs.show.show_netlist.Goals as goal
 use Rattle.commands.specs.Waves.{CircuitStage, LinesReading}
 
@@ -13,6 +13,7 @@ returns-in_err-circuit g c =
 
 pub returns : goal.returns
 returns g c =
-    stage-reading c.args.unit.now (c.args.netlist.now ∷ []) (CircuitStage c.args.unit.now c.args.netlist.now) (λ circuit. LinesReading c.args.unit.now circuit.tree circuit.netlist.names)
+    stage-reading (c.args.unit.now ∷ c.args.netlist.now ∷ []) (CircuitStage c.args.unit.now c.args.netlist.now) (λ circuit. LinesReading c.args.unit.now circuit.tree circuit.netlist.names)
     (g.F.Shelf.state c.args.files.now) (g.F.Shelf.state c.load_circuit.new.files) c.in_ok-circuit.circuit c.lines.result c.in_ok-circuit.ensures
-    (rw c.names.ensures.names at c.lines.ensures)
+    (reading-of-more (c.args.unit.now ∷ []) (c.args.netlist.now ∷ []) (LinesReading c.args.unit.now c.in_ok-circuit.circuit.tree c.in_ok-circuit.circuit.netlist.names) c.lines.result
+    (rw c.names.ensures.names at c.lines.ensures))

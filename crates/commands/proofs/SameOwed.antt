@@ -1,0 +1,80 @@
+-- Of directives that are equal but for where the program keeps their parts, the same is owed, and the same assertion is
+-- the first that is too large.
+use Rattle.std.proofs.Common.{◌≡◌, refl, sym, ◌∙◌, ap, subst, ℕ, zero, suc, Bool, true, cond, List, [], ◌∷◌, map, take, Option, None, Some}
+use Rattle.std.specs.Prelude.{All, slice_get}
+use Rattle.std.proofs.lemmas.List.Elements.{All-nil, All-cons, All-head, All-tail}
+use Rattle.findings.specs.Assertions.{is_assertion}
+use Rattle.findings.specs.Sizes.{AreWithin, IsFirstRefused, IsRefused, IsWithin}
+use Rattle.findings.specs.declared.sizes.SizeFault.{SizeFault}
+use Rattle.findings.specs.declared.sizes.SizeFault.TheVariants as sizes
+use Rattle.netlist.specs.Design.{Design}
+use Rattle.owed.specs.Owed.{assumptions, conjunction, is_assumption, owed, plain_owed, under}
+use Rattle.work_limits.specs.Sized as sized
+use Rattle.work_limits.specs.Sized.{IsSized}
+use Rattle.work_limits.specs.declared.sizes.LimitFault.TheVariants as limits
+use Rattle.psl_base.specs.declared.place.Place.{Place}
+use Rattle.psl_elaboration.specs.Answers.{Numbered, directive_of}
+use Rattle.psl_meaning.specs.Plain.{plain}
+use Rattle.psl_tree.specs.Trees.{Formula, formula_of}
+use Rattle.psl_tree.specs.declared.directive.Directive.{Directive}
+use Rattle.psl_tree.specs.declared.directive.Kind.{Kind}
+use Rattle.commands.proofs.SameUnits.{SameUnit, heads, none-some, same-take, tails, there}
+
+same-kind : (d e : Directive) → directive_of d ≡ directive_of e → d.kind ≡ e.kind
+same-kind d e s = ap (λ (n : Numbered). n.kind) s
+
+same-formula : (d e : Directive) → directive_of d ≡ directive_of e → formula_of d.formula ≡ formula_of e.formula
+same-formula d e s = ap (λ (n : Numbered). n.formula) s
+
+same-assumptions : (u v : List Directive) → SameUnit u v → assumptions u ≡ assumptions v
+same-assumptions [] [] s = refl
+same-assumptions [] (e ∷ v) s = absurd (none-some e v s)
+same-assumptions (d ∷ u) [] s = absurd (none-some d u (sym s))
+same-assumptions (d ∷ u) (e ∷ v) s =
+    let same = heads d e u v s in
+    ap (λ (k : Kind). cond (is_assumption k) (formula_of d.formula ∷ assumptions u) (assumptions u)) (same-kind d e same)
+    ∙ ap (λ (f : Formula). cond (is_assumption e.kind) (f ∷ assumptions u) (assumptions u)) (same-formula d e same)
+    ∙ ap (λ (fs : List Formula). cond (is_assumption e.kind) (formula_of e.formula ∷ fs) fs) (same-assumptions u v (tails d e u v s))
+
+same-owed : (u v : List Directive) (d e : Directive) → SameUnit u v → directive_of d ≡ directive_of e → plain_owed u d ≡ plain_owed v e
+same-owed u v d e s same =
+    ap (λ (fs : List Formula). plain (under (conjunction fs) (formula_of d.formula)) None) (same-assumptions u v s)
+    ∙ ap (λ (f : Formula). plain (under (conjunction (assumptions v)) f) None) (same-formula d e same)
+
+module _ (design : Design) (depth : ℕ) (u v : List Directive) (s : SameUnit u v) where
+  same-within : (d e : Directive) → directive_of d ≡ directive_of e → IsWithin design depth u d → IsWithin design depth v e
+  same-within d e same w is =
+      subst (IsSized design depth) (same-owed u v d e s same) (w (ap is_assertion (same-kind d e same) ∙ is))
+
+  all-within : (us vs : List Directive) → SameUnit us vs → All (IsWithin design depth u) us → All (IsWithin design depth v) vs
+  all-within [] [] same a = All-nil (IsWithin design depth v)
+  all-within [] (e ∷ vs) same a = absurd (none-some e vs same)
+  all-within (d ∷ us) [] same a = absurd (none-some d us (sym same))
+  all-within (d ∷ us) (e ∷ vs) same a =
+      All-cons (IsWithin design depth v) e vs (same-within d e (heads d e us vs same) (All-head (IsWithin design depth u) d us a))
+      (all-within us vs (tails d e us vs same) (All-tail (IsWithin design depth u) d us a))
+
+  pub are-within : AreWithin design depth u → AreWithin design depth v
+  are-within a = all-within u v s a
+
+  same-refused : (d e : Directive) (fault : SizeFault) → directive_of d ≡ directive_of e → IsRefused design depth u d fault → IsRefused design depth v e fault
+  same-refused d e (sizes.SereTooLarge place) same r =
+      (r.0 ∙ ap (λ (n : Numbered). n.place) same, subst (λ (f : Formula). sized.IsRefused design depth f limits.SereTooLarge) (same-owed u v d e s same) r.1)
+  same-refused d e (sizes.AutomatonTooLarge place) same r = (
+    r.0 ∙ ap (λ (n : Numbered). n.place) same,
+    subst (λ (f : Formula). sized.IsRefused design depth f limits.AutomatonTooLarge) (same-owed u v d e s same) r.1,
+  )
+  same-refused d e sizes.UnrollTooLarge same r =
+      subst (λ (f : Formula). sized.IsRefused design depth f limits.UnrollTooLarge) (same-owed u v d e s same) r
+  same-refused d e sizes.NoMemory same r = r
+
+  pub same-first-refused : (fault : SizeFault) → IsFirstRefused design depth u fault → IsFirstRefused design depth v fault
+  same-first-refused fault first =
+      let at = there first.place u v first.assertion s first.here in record {
+        place = first.place;
+        assertion = at.0;
+        here = at.1;
+        is = ap is_assertion (sym (same-kind first.assertion at.0 at.2)) ∙ first.is;
+        before = all-within (take first.place u) (take first.place v) (same-take first.place u v s) first.before;
+        refused = same-refused first.assertion at.0 fault at.2 first.refused;
+      }

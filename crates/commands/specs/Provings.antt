@@ -1,0 +1,54 @@
+-- What `prove UNIT NETLIST` gives: a finding for each assertion of the text on the netlist.
+use Rattle.std.specs.Prelude.{◌≡◌, ◌≤◌, ℕ, List, Result, Ok, Err}
+use Rattle.command_line.specs.declared.Limits.{Limits}
+use Rattle.findings.specs.Columns.{AreColumns}
+use Rattle.findings.specs.Entries.{AreFindings}
+use Rattle.findings.specs.Sizes.{AreWithin, IsFirstRefused}
+use Rattle.findings.specs.declared.sizes.SizeFault.{SizeFault}
+use Rattle.findings.specs.declared.sizes.SizeFault.TheVariants as sizes
+use Rattle.netlist.specs.Design.{Design}
+use Rattle.prover.specs.declared.options.Options.{Options}
+use Rattle.psl_base.specs.Shelf.{Contents}
+use Rattle.psl_tree.specs.declared.directive.Directive.{Directive}
+use Rattle.commands.specs.Faults.{at, fault_in, of_none, whole}
+use Rattle.commands.specs.Stages.{Then}
+use Rattle.commands.specs.Waves.{SubjectStage}
+use Rattle.commands.specs.declared.outcome.Fault.{Fault}
+use Rattle.commands.specs.declared.prove.Found.{Found}
+use Rattle.commands.specs.declared.reason.Reason.TheVariants as reasons
+use Rattle.commands.specs.declared.subject.Subject.{Subject}
+
+-- how far the words ask for a proof
+abbrev pub options_of : Limits → Options
+options_of limits = record { depth = limits.depth; visits = limits.visits; steps = limits.steps }
+
+-- they are within what the words may ask
+pub record AreInRange (limits : Limits) : Type 0 where
+  pub some : 1 ≤ limits.depth
+  pub depth : limits.depth ≤ 1000
+  pub visits : limits.visits ≤ 16
+
+-- what is told of an assertion that is too large: at its place in the text, or of the netlist
+abbrev pub size_fault : List ℕ → List ℕ → SizeFault → Fault
+size_fault unit netlist (sizes.SereTooLarge place) = fault_in unit (at reasons.SereTooLarge place)
+size_fault unit netlist (sizes.AutomatonTooLarge place) = fault_in unit (at reasons.AutomatonTooLarge place)
+size_fault unit netlist sizes.UnrollTooLarge = fault_in netlist (whole reasons.UnrollTooLarge)
+size_fault unit netlist sizes.NoMemory = of_none reasons.NoMemory
+
+-- what is found out of the assertions of a text, and the names of the signals whose values are shown of a run
+pub record IsFound (design : Design) (limits : Limits) (directives : List Directive) (found : Found) : Type 0 where
+  pub findings : AreFindings design directives (options_of limits) found.findings
+  pub columns : AreColumns design found.columns
+
+-- the same where all assertions are within the limits; or the first that is too large
+abbrev pub FoundReading : List ℕ → List ℕ → Limits → Subject → Result Found Fault → Type 0
+FoundReading unit netlist limits subject (Ok found) =
+    AreWithin subject.netlist limits.depth subject.directives × IsFound subject.netlist limits subject.directives found
+FoundReading unit netlist limits subject (Err fault) =
+    (cause : SizeFault) × IsFirstRefused subject.netlist limits.depth subject.directives cause
+    × (fault ≡ size_fault unit netlist cause)
+
+-- `prove UNIT NETLIST`
+abbrev pub ProveStage : List ℕ → List ℕ → Limits → Contents → Result Found Fault → Type 0
+ProveStage unit netlist limits =
+    Then (SubjectStage unit netlist) (λ subject files. FoundReading unit netlist limits subject)

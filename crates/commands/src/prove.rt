@@ -1,0 +1,89 @@
+ghost use Rattle.std.specs.Prelude.{◌∷◌, [], All, IfOk};
+ghost use Rattle.commands.specs.Provings.{AreInRange, FoundReading, IsFound, ProveStage};
+ghost use Rattle.commands.specs.Stages.{IsStage, IsReading};
+ghost use Rattle.findings.specs.Columns.{ShowColumns};
+ghost use Rattle.findings.specs.Sizes.{AreWithin};
+ghost use Rattle.psl_tree.specs.Atoms.{AtomsOfFormula};
+ghost use Rattle.psl_tree.specs.Names.{AtomInRange};
+ghost use Rattle.psl_tree.specs.Trees.{formula_of};
+
+use crate::faults::size_fault;
+use crate::outcome::Fault;
+use crate::subject::{Subject, load_subject};
+use command_line::Limits;
+use findings::{Findings, check_all, columns, prove_all};
+use netlist::{Netlist, soundness_law};
+use prover::Options;
+use psl_base::{NoMemory, Shelf};
+use psl_tree::{Names, Unit};
+use std::alloc::Global;
+
+/// What the words of `prove` ask for: the names of the files, and how far a proof is sought.
+#[derive(Clone, Copy)]
+pub struct Request<'a> {
+    pub unit: &'a str,
+    pub netlist: &'a str,
+    pub limits: Limits,
+}
+
+/// What is found out of a text's assertions, and what is shown of it.
+#[derive(Drop)]
+pub struct Found {
+    pub findings: Findings,
+    /// The first names of the netlist's inputs and then of its latches' outputs, in its order.
+    pub columns: Names,
+}
+
+/// Proves the assertions of a text of a netlist, both read from files, or finds runs that violate them:
+/// `prove UNIT NETLIST`.
+pub fn prove<F: Shelf>(alloc: Global, files: &mut F, request: Request<'_>) -> Result<Found, Fault>
+    requires { AreInRange request.limits }
+    ensures stage { IsStage (request.entry.unit.now ∷ request.entry.netlist.now ∷ [])
+        (ProveStage request.entry.unit.now request.entry.netlist.now request.entry.limits) (F.state files.old) (F.state files.new) result }
+    ensures shown { IfOk result (λ found. ShowColumns found.columns found.findings) }
+{
+    let subject = load_subject(alloc, files, request.unit, request.netlist)?;
+    prove_subject(alloc, &subject, request)
+}
+
+/// The same of what was read, where no assertion may be too large.
+fn prove_subject(alloc: Global, subject: &Subject, request: Request<'_>) -> Result<Found, Fault>
+    requires range { AreInRange request.limits }
+    requires in_range { All (λ directive. AtomsOfFormula (AtomInRange subject.now.netlist.names) (formula_of directive.formula)) subject.now.directives }
+    ensures reading { IsReading (request.entry.unit.now ∷ request.entry.netlist.now ∷ [])
+        (FoundReading request.entry.unit.now request.entry.netlist.now request.entry.limits subject.now) result }
+    ensures shown { IfOk result (λ found. ShowColumns found.columns found.findings) }
+{
+    let (directives, netlist) = (&subject.directives, &subject.netlist);
+    match check_all(alloc, directives, netlist, request.limits.depth) {
+        Ok(()) => {
+            let found = find(alloc, directives, netlist, request.limits)?;
+            Ok(found)
+        }
+        Err(fault) => Err(size_fault(alloc, request.unit, request.netlist, fault)),
+    }
+}
+
+/// What is found out of directives that are within the limits, and what is shown of it.
+fn find(
+    alloc: Global,
+    directives: &Unit,
+    netlist: &Netlist,
+    limits: Limits,
+) -> Result<Found, NoMemory>
+    requires range { AreInRange limits }
+    requires within { AreWithin netlist.now limits.depth directives.now }
+    requires in_range { All (λ directive. AtomsOfFormula (AtomInRange netlist.now.names) (formula_of directive.formula)) directives.now }
+    ensures found { IfOk result (IsFound netlist.now limits directives.now) }
+    ensures shown { IfOk result (λ found. ShowColumns found.columns found.findings) }
+{
+    soundness_law(netlist);
+    let options = Options {
+        depth: limits.depth,
+        visits: limits.visits,
+        steps: limits.steps,
+    };
+    let findings = prove_all(alloc, directives, netlist, options)?;
+    let columns = columns(alloc, netlist)?;
+    Ok(Found { findings, columns })
+}

@@ -1,0 +1,178 @@
+// What is printed of findings.
+ghost use Rattle.std.specs.Prelude.{◌≡◌, ◌++◌, ◌<◌, length, All, OnOk};
+ghost use Rattle.std.specs.List.{flat_map};
+ghost use Rattle.commands.specs.Text.{digit, entry_text, finding_text, lengths_line, run_text, steps_line, valuation_line, valuation_lines, value_part};
+ghost use Rattle.findings.specs.Columns.{HasColumns, ShowColumns, ShowsColumns};
+ghost use Rattle.netlist.specs.Valuations.{bit};
+
+use crate::report::add_head;
+use findings::FindingEntry;
+use netlist::Run;
+use prover::Finding;
+use psl_base::{Bits, NoMemory, add_bytes, add_number};
+use psl_tree::{Kind, Name};
+
+/// By what findings are shown: the signals whose values are shown of a run, and how far a proof was sought.
+#[derive(Clone, Copy)]
+pub(crate) struct Shown<'a> {
+    pub columns: &'a [Name],
+    pub depth: u32,
+    pub visits: u32,
+}
+
+impl<'a> Shown<'a> {
+    /// Adds the lines of findings.
+    pub fn add_entries(self, text: &mut Vec<u8>, entries: &[FindingEntry]) -> Result<(), NoMemory>
+        requires { ShowColumns self.columns.now entries.now }
+        ensures { OnOk result (text.new.items ≡ text.old.items
+            ++ flat_map (entry_text self.entry.columns.now self.entry.depth self.entry.visits) entries.now) }
+    {
+        for entry in entries {
+            self.add_entry(text, entry)?;
+        }
+        Ok(())
+    }
+
+    /// Adds the lines of a finding, with the head of its assertion.
+    fn add_entry(self, text: &mut Vec<u8>, entry: &FindingEntry) -> Result<(), NoMemory>
+        requires { ShowsColumns self.columns.now entry.now.finding }
+        ensures { OnOk result (text.new.items ≡ text.old.items
+            ++ entry_text self.entry.columns.now self.entry.depth self.entry.visits entry.now) }
+    {
+        add_head(text, Kind::Assert, entry.number, &entry.label)?;
+        self.add_finding(text, &entry.finding)
+    }
+
+    /// Adds what a finding says.
+    fn add_finding(self, text: &mut Vec<u8>, finding: &Finding) -> Result<(), NoMemory>
+        requires { ShowsColumns self.columns.now finding.now }
+        ensures { OnOk result (text.new.items ≡ text.old.items
+            ++ finding_text self.entry.columns.now self.entry.depth self.entry.visits finding.now) }
+    {
+        match finding {
+            Finding::Proved(certificate) => {
+                add_bytes(text, b"proved visits ")?;
+                add_number(text, u64::from(certificate.visits))?;
+                add_bytes(text, b" window ")?;
+                add_number(text, u64::from(certificate.window))?;
+                add_bytes(text, b"\n")
+            }
+            Finding::Violated(run) => self.add_run(text, run),
+            Finding::Depth(_) => {
+                add_bytes(text, b"undecided depth ")?;
+                add_number(text, u64::from(self.depth))?;
+                add_bytes(text, b" visits ")?;
+                add_number(text, u64::from(self.visits))?;
+                add_bytes(text, b"\n")
+            }
+            Finding::Steps(_, log) => add_steps(text, log.lemmas() as u64),
+            Finding::LogFull(_, _) => add_bytes(text, b"undecided log\n"),
+            Finding::Large(_) => add_bytes(text, b"undecided formula\n"),
+        }
+    }
+
+    /// Adds how long the stem and the loop of a run are, and the lines of its valuations.
+    fn add_run(self, text: &mut Vec<u8>, run: &Run) -> Result<(), NoMemory>
+        requires stem { All (HasColumns self.columns.now) run.now.stem }
+        requires looped { All (HasColumns self.columns.now) run.now.loop_part }
+        ensures { OnOk result (text.new.items ≡ text.old.items ++ run_text self.entry.columns.now run.now) }
+    {
+        add_lengths(text, run)?;
+        self.add_valuations(text, b"stem", run.stem.as_slice())?;
+        self.add_valuations(text, b"loop", run.loop_part.as_slice())
+    }
+
+    /// Adds the lines of the valuations of a part of a run.
+    fn add_valuations(
+        self,
+        text: &mut Vec<u8>,
+        part: &[u8],
+        valuations: &[Bits],
+    ) -> Result<(), NoMemory>
+        requires { All (HasColumns self.columns.now) valuations.now }
+        ensures { OnOk result (text.new.items ≡ text.old.items
+            ++ valuation_lines part.now self.entry.columns.now 0 valuations.now) }
+    {
+        for place in 0..valuations.len() {
+            self.add_valuation(text, part, place, &valuations[place])?;
+        }
+        Ok(())
+    }
+
+    /// Adds the line of a valuation at a place of a part of a run.
+    fn add_valuation(
+        self,
+        text: &mut Vec<u8>,
+        part: &[u8],
+        place: usize,
+        valuation: &Bits,
+    ) -> Result<(), NoMemory>
+        requires { HasColumns self.columns.now valuation.now }
+        ensures { OnOk result (text.new.items ≡ text.old.items
+            ++ valuation_line part.now self.entry.columns.now place valuation.now) }
+    {
+        add_bytes(text, b"  ")?;
+        add_bytes(text, part)?;
+        add_bytes(text, b" ")?;
+        add_number(text, place as u64)?;
+        add_bytes(text, b":")?;
+        self.add_values(text, valuation)?;
+        add_bytes(text, b"\n")
+    }
+
+    /// Adds the value of each column.
+    fn add_values(self, text: &mut Vec<u8>, valuation: &Bits) -> Result<(), NoMemory>
+        requires { HasColumns self.columns.now valuation.now }
+        ensures { OnOk result (text.new.items ≡ text.old.items ++ flat_map (value_part valuation.now) self.entry.columns.now) }
+    {
+        for column in self.columns {
+            add_value(text, valuation, column)?;
+        }
+        Ok(())
+    }
+}
+
+/// Adds the line that says how long the stem and the loop of a run are.
+fn add_lengths(text: &mut Vec<u8>, run: &Run) -> Result<(), NoMemory>
+    ensures { OnOk result (text.new.items ≡ text.old.items ++ lengths_line run.now) }
+{
+    add_bytes(text, b"violated stem ")?;
+    add_number(text, run.stem.len() as u64)?;
+    add_bytes(text, b" loop ")?;
+    add_number(text, run.loop_part.len() as u64)?;
+    add_bytes(text, b"\n")
+}
+
+/// Adds the line that says how many lemmas the solver learned.
+fn add_steps(text: &mut Vec<u8>, steps: u64) -> Result<(), NoMemory>
+    ensures { OnOk result (text.new.items ≡ text.old.items ++ steps_line steps) }
+{
+    add_bytes(text, b"undecided steps ")?;
+    add_number(text, steps)?;
+    add_bytes(text, b"\n")
+}
+
+/// Adds the value of a column, behind its name.
+fn add_value(text: &mut Vec<u8>, valuation: &Bits, column: &Name) -> Result<(), NoMemory>
+    requires { column.now.signal < length valuation.now }
+    ensures { OnOk result (text.new.items ≡ text.old.items ++ value_part valuation.now column.now) }
+{
+    add_bytes(text, b" ")?;
+    add_bytes(text, column.text.as_slice())?;
+    add_bytes(text, b"=")?;
+    add_bytes(text, digit_text(value_of(valuation, column.signal)))
+}
+
+/// The value of a signal.
+fn value_of(valuation: &Bits, signal: u32) -> bool
+    requires { signal < length valuation.now }
+    ensures { result ≡ bit valuation.now signal }
+{
+    valuation.as_slice()[signal as usize]
+}
+
+fn digit_text(value: bool) -> &'static [u8]
+    ensures { result.now ≡ digit value }
+{
+    if value { b"1" } else { b"0" }
+}

@@ -1,0 +1,48 @@
+ghost use Rattle.std.specs.Prelude.{◌∷◌, [], All, IfOk};
+ghost use Rattle.psl_tree.specs.Atoms.{AtomsOfFormula};
+ghost use Rattle.psl_tree.specs.Names.{AtomInRange};
+ghost use Rattle.psl_tree.specs.Trees.{formula_of};
+ghost use Rattle.commands.specs.Stages.{IsStage, IsReading};
+ghost use Rattle.commands.specs.Waves.{SubjectReading, SubjectStage};
+
+use crate::directives::directives;
+use crate::inputs::{Circuit, load_circuit};
+use crate::outcome::Fault;
+use netlist::Netlist;
+use psl_base::Shelf;
+use psl_tree::Unit;
+use std::alloc::Global;
+
+/// What is proved: a netlist, and the directives of a text over its names.
+#[derive(Drop)]
+pub struct Subject {
+    pub netlist: Netlist,
+    pub directives: Unit,
+}
+
+/// The directives of a text over a netlist, both read from files.
+pub fn load_subject<F: Shelf>(
+    alloc: Global,
+    files: &mut F,
+    unit: &str,
+    netlist: &str,
+) -> Result<Subject, Fault>
+    ensures stage { IsStage (unit.now ∷ netlist.now ∷ []) (SubjectStage unit.now netlist.now) (F.state files.old) (F.state files.new) result }
+    ensures in_range { IfOk result (λ subject. All (λ directive. AtomsOfFormula (AtomInRange subject.netlist.names) (formula_of directive.formula)) subject.directives) }
+{
+    let circuit = load_circuit(alloc, files, unit, netlist)?;
+    subject_of(alloc, circuit, unit)
+}
+
+/// The same of what was read.
+fn subject_of(alloc: Global, circuit: Circuit, unit: &str) -> Result<Subject, Fault>
+    ensures reading { IsReading (unit.now ∷ []) (SubjectReading unit.now circuit) result }
+    ensures in_range { IfOk result (λ subject. All (λ directive. AtomsOfFormula (AtomInRange subject.netlist.names) (formula_of directive.formula)) subject.directives) }
+{
+    let Circuit { tree, netlist } = circuit;
+    let directives = directives(alloc, &tree, netlist.names(), unit)?;
+    Ok(Subject {
+        netlist,
+        directives,
+    })
+}
