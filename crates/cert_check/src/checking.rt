@@ -17,12 +17,13 @@ ghost use Rattle.cert_check.specs.Limits.{FitsLimits, IsFault, IsFaultBehind};
 use crate::CertFault;
 use crate::claim::{Claim, asked_of, directive_of};
 use crate::formulas::check_lines;
-use crate::soundness::{automaton_is_sound, claim_holds};
+use crate::soundness::claim_holds;
 use cert_lines::{Reading, read_header};
 use certificate::{CertAnswer, Header};
 use netlist::Netlist;
 use owed::{assumed_size, violation};
 use psl_tree::Unit;
+use run_gates::automaton_law;
 use std::alloc::Global;
 use work_limits::check_sizes;
 
@@ -96,7 +97,7 @@ fn check_claim(
         header.window,
     )?;
     let violation = violation(alloc, claim.unit, claim.directive)?;
-    automaton_is_sound(&violation);
+    automaton_law(&violation);
     let answer = check_lines(alloc, claim.netlist, &violation, header, reading)?;
     Ok(answer)
 }

@@ -1,4 +1,4 @@
-// What holds of each automaton, and of what is claimed of it.
+// What holds of what is claimed.
 ghost use Rattle.certificate.specs.Shown.{IsShown};
 ghost use Rattle.certificate.specs.declared.header.Asked.{Asked};
 ghost use Rattle.owed.specs.Violations.{violation_of};
@@ -6,20 +6,9 @@ ghost use Rattle.run_terms.specs.Automata.{IsSound, TestsSignals};
 ghost use Rattle.cert_check.specs.Claims.{EachSatisfies, queries_for};
 
 use crate::claim::Claim;
-use alternating::Alternating;
 use joint_theory::{query_law, size_law};
 use netlist::soundness_law;
 use owed::violating_runs;
-
-/// The start of an automaton is one of its obligations, and so is all that its obligations owe.
-pub(crate) fn automaton_is_sound(violation: &Alternating)
-    ensures { IsSound violation.now }
-{
-    let _start = violation.start();
-    for obligation in 0..violation.len() {
-        let _asked = violation.delta(obligation);
-    }
-}
 
 /// Where both formulas of a claim are refuted, for some visits and some window, it holds.
 pub(crate) fn claim_holds(claim: Claim<'_>)

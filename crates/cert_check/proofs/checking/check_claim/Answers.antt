@@ -25,7 +25,7 @@ returns-clause-fits c =
     (c.in_ok-check_sizes.ensures.sized unit c.in_ok-assumed.ensures) c.in_ok-answer.ensures.fits
 
 pub returns-clause-sound : goal.returns-clause-sound
-returns-clause-sound c = subst IsSound c.in_ok-violation.ensures.automaton c.automaton_is_sound.ensures
+returns-clause-sound c = subst IsSound c.in_ok-violation.ensures.automaton c.automaton_law.ensures
 
 pub check_lines-requires-clause-tests : goal.check_lines-requires-clause-tests
 check_lines-requires-clause-tests c = c.in_ok-violation.ensures.in_range c.args.claim.netlist.now.names c.requires.unit c.requires.directive
