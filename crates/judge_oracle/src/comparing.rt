@@ -5,20 +5,30 @@ ghost use Rattle.psl_tree.specs.Names.{AtomInRange};
 ghost use Rattle.psl_tree.specs.Trees.{formula_of};
 
 use crate::fault::Fault;
+use crate::loops::{loop_answers, word};
 use crate::rows::Row;
 use crate::scenes::recording;
+use alternating::of;
+use clock_rewrite::unclock;
 use plain_satisfaction::{Letter, is_satisfied};
+use psl_base::plain_decimal;
 use psl_grammar::UnitTree;
 use psl_layer::resolve;
 use psl_lexer::lex;
 use psl_parser::parse;
-use psl_tree::Unit;
+use psl_tree::{MOST_OBLIGATIONS, Unit};
 use std::alloc::Global;
 use vcd_reader::Recording;
 use wave_judge::judge;
 
 /// The longest text, in bytes.
 const LONGEST: usize = 1000;
+
+/// What stands for the samples in a row on numbers of obligations.
+const SIZES: &str = "obligations";
+
+/// A recording without samples.
+const NO_SAMPLES: &str = "none";
 
 /// The tree of a text.
 fn tree_of(alloc: Global, text: &str) -> Result<UnitTree, Fault> {
@@ -43,9 +53,13 @@ fn add(shown: &mut String, views: [bool; 3]) -> Result<(), Fault> {
         shown.push(' ')?;
     }
     for holds in views {
-        shown.push(if holds { 'y' } else { 'n' })?;
+        shown.push(letter(holds))?;
     }
     Ok(())
+}
+
+fn letter(holds: bool) -> char {
+    if holds { 'y' } else { 'n' }
 }
 
 /// The verdicts of the judge.
@@ -73,9 +87,19 @@ fn satisfied(alloc: Global, unit: &Unit, recording: &Recording) -> Result<String
     Ok(shown)
 }
 
-/// What the judge and the plain recursion give, where one of them gives something else than the verdicts that were worked
-/// out by hand.
+/// What is found of a row, where it is something else than what was worked out by hand.
 pub fn difference(alloc: Global, row: &Row) -> Result<Option<String>, Fault> {
+    if row.samples == SIZES {
+        return size_difference(alloc, row);
+    }
+    match row.samples.split_once('|') {
+        Some((stem, looped)) => loop_difference(alloc, row, stem, looped),
+        None => recording_difference(alloc, row),
+    }
+}
+
+/// What the judge and the plain recursion give.
+fn recording_difference(alloc: Global, row: &Row) -> Result<Option<String>, Fault> {
     let wanted = row.verdicts;
     let recording = recording(alloc, row.samples)?;
     let unit = directives(alloc, row.text, &recording)?;
@@ -88,4 +112,65 @@ pub fn difference(alloc: Global, row: &Row) -> Result<Option<String>, Fault> {
         "wanted: {wanted}, the judge: {judged}, the recursion: {satisfied}"
     )?;
     Ok(Some(text))
+}
+
+/// What the automata, their duals and the lasso judge give on a word with a loop.
+fn loop_difference(
+    alloc: Global,
+    row: &Row,
+    stem: &str,
+    looped: &str,
+) -> Result<Option<String>, Fault> {
+    let wanted = row.verdicts;
+    let word = word(alloc, stem, looped)?;
+    let unit = directives(alloc, row.text, &recording(alloc, NO_SAMPLES)?)?;
+    let mut accepted = String::new(alloc);
+    let mut refused = String::new(alloc);
+    let mut satisfied = String::new(alloc);
+    for directive in unit.as_slice() {
+        let formula = unclock(alloc, &directive.formula, None)?;
+        let [by_automaton, by_dual, by_judge] = loop_answers(alloc, &formula, &word)?;
+        accepted.push(letter(by_automaton))?;
+        refused.push(letter(by_dual))?;
+        satisfied.push(letter(by_judge))?;
+    }
+    if accepted.as_str() == wanted && refused.as_str() == wanted && satisfied.as_str() == wanted {
+        return Ok(None);
+    }
+    let automata = automata_text(alloc, accepted.as_str(), refused.as_str())?;
+    let text = loop_text(alloc, wanted, automata.as_str(), satisfied.as_str())?;
+    Ok(Some(text))
+}
+
+fn automata_text(alloc: Global, accepted: &str, refused: &str) -> Result<String, Fault> {
+    let text = format!(in alloc; "the automaton: {accepted}, its dual: {refused}")?;
+    Ok(text)
+}
+
+fn loop_text(
+    alloc: Global,
+    wanted: &str,
+    automata: &str,
+    satisfied: &str,
+) -> Result<String, Fault> {
+    let text = format!(in alloc; "wanted: {wanted}, {automata}, the judge: {satisfied}")?;
+    Ok(text)
+}
+
+/// How many obligations the automata have, where one has more than it may.
+fn size_difference(alloc: Global, row: &Row) -> Result<Option<String>, Fault> {
+    let wanted = row.verdicts;
+    let Some(most) = plain_decimal(MOST_OBLIGATIONS, wanted.as_bytes()) else {
+        return Err(Fault::Row);
+    };
+    let unit = directives(alloc, row.text, &recording(alloc, NO_SAMPLES)?)?;
+    for directive in unit.as_slice() {
+        let formula = unclock(alloc, &directive.formula, None)?;
+        let count = of(alloc, &formula)?.len();
+        if count as u64 > most {
+            let text = format!(in alloc; "wanted: at most {wanted} obligations, found: {count}")?;
+            return Ok(Some(text));
+        }
+    }
+    Ok(None)
 }

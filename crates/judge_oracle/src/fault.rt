@@ -1,3 +1,4 @@
+use alternating::AltFault;
 use psl_base::NoMemory;
 use psl_elaboration::LayerFault;
 use psl_lexer::LexFault;
@@ -13,7 +14,7 @@ pub enum Fault {
     NoMemory,
     /// The file cannot be read, or what is found cannot be printed.
     Device,
-    /// The last row is not whole.
+    /// A row is not whole or not in its form.
     Row,
     /// A text has more bytes than a row's may have.
     TooLong,
@@ -26,7 +27,7 @@ impl fmt::Display for Fault {
         match self {
             Fault::NoMemory => write!(f, "out of memory"),
             Fault::Device => write!(f, "cannot be read"),
-            Fault::Row => write!(f, "the last row is not whole"),
+            Fault::Row => write!(f, "a row is not whole"),
             Fault::TooLong => write!(f, "a text is too long"),
             Fault::Refused => write!(f, "a text or a recording is refused"),
         }
@@ -83,6 +84,12 @@ impl From<VcdFault> for Fault {
 
 impl From<JudgeFault> for Fault {
     fn from(_fault: JudgeFault) -> Fault {
+        Fault::Refused
+    }
+}
+
+impl From<AltFault> for Fault {
+    fn from(_fault: AltFault) -> Fault {
         Fault::Refused
     }
 }

@@ -1,10 +1,13 @@
 //! Compares the judge of recordings with a plain recursion over the definition of satisfaction (IEEE 1850, Annex B), and
-//! both with verdicts that were worked out by hand. The rows are files; README.md tells their form. What differs goes to
-//! the standard error, how many rows were compared to the standard output.
+//! both with verdicts that were worked out by hand; and so, on words with a loop, the automata of formulas, their duals
+//! and the lasso judge. The rows are files; README.md tells their form. What differs goes to the standard error, how many
+//! rows were compared to the standard output.
 #![tactic(auto)]
 
 mod comparing;
 mod fault;
+mod game;
+mod loops;
 mod rows;
 mod scenes;
 
