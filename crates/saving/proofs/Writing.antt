@@ -1,12 +1,12 @@
 -- One piece, and one file, more.
-use Rattle.std.proofs.Common.{◌≡◌, refl, sym, ◌∙◌, ap, subst, ℕ, ◌+◌, ◌-◌, ◌<◌, ◌≤◌, Bool, true, false, cond, List, [], ◌∷◌, ◌++◌, length, take, drop, Option, None, Some, arith}
+use Rattle.std.proofs.Common.{◌≡◌, refl, sym, ◌∙◌, ap, subst, ℕ, ◌+◌, ◌-◌, ◌<◌, ◌≤◌, Bool, true, false, cond, List, [], ◌∷◌, ◌++◌, length, map, take, drop, Option, None, Some, arith}
 use Rattle.std.specs.Option.{ForSome, option_map}
 use Rattle.std.specs.Str.{bytes_eq}
-use Rattle.std.specs.Prelude.{get_or, string_bytes}
+use Rattle.std.specs.Prelude.{get_or}
 use Rattle.std.proofs.Math.Seq.{take-add}
-use Rattle.std.proofs.lemmas.List.{length-drop, take_all, take_more}
+use Rattle.std.proofs.lemmas.List.{length-drop, map_more, take-map, take_all}
 use Rattle.psl_base.specs.Shelf.{Contents, ShelfState, OnlyWrites, with_content, with_more}
-use Rattle.saving.specs.Saves.{SavesAll, SavesOne, with_save, with_saves}
+use Rattle.saving.specs.Saves.{NewFile, SavesAll, SavesOne, file_of, with_file, with_files}
 use Rattle.saving.specs.declared.Save.{Save}
 
 -- more bytes behind those that a name was given
@@ -32,20 +32,29 @@ writes-then old mid new p q = record {
   write_faults = omega (arith, p.write_faults, q.write_faults);
 }
 
-saves-behind : (saves : List Save) (save : Save) (files : Contents) → with_saves (saves ++ save ∷ []) files ≡ with_save save (with_saves saves files)
-saves-behind [] save files = refl
-saves-behind (first ∷ saves) save files = saves-behind saves save (with_save first files)
+files-behind : (files : List NewFile) (file : NewFile) (contents : Contents)
+    → with_files (files ++ file ∷ []) contents ≡ with_file file (with_files files contents)
+files-behind [] file contents = refl
+files-behind (first ∷ files) file contents = files-behind files file (with_file first contents)
 
-option-behind : (saves : List Save) (save : Save) (told : Option Contents)
-    → option_map (with_save save) (option_map (with_saves saves) told) ≡ option_map (with_saves (saves ++ save ∷ [])) told
-option-behind saves save None = refl
-option-behind saves save (Some files) = ap Some (sym (saves-behind saves save files))
+option-behind : (files : List NewFile) (file : NewFile) (told : Option Contents)
+    → option_map (with_file file) (option_map (with_files files) told) ≡ option_map (with_files (files ++ file ∷ [])) told
+option-behind files file None = refl
+option-behind files file (Some contents) = ap Some (sym (files-behind files file contents))
+
+pub saved-none : (old : ShelfState) → SavesAll [] old old
+saved-none old = record { told = sym (option_map_same old.told); write_faults = refl }
+  where
+    option_map_same : (told : Option Contents) → option_map (with_files []) told ≡ told
+    option_map_same None = refl
+    option_map_same (Some contents) = refl
 
 pub saved-more : (saves : List Save) (place : ℕ) (save : Save) (old mid new : ShelfState) → place < length saves → save ≡ get_or saves place save
-    → SavesAll (take place saves) old mid → SavesOne save mid new → SavesAll (take (place + 1) saves) old new
+    → SavesAll (map file_of (take place saves)) old mid → SavesOne (file_of save) mid new → SavesAll (map file_of (take (place + 1) saves)) old new
 saved-more saves place save old mid new lt is h one =
-    subst (λ ss. SavesAll ss old new) (sym (take_more saves place save lt ∙ ap (λ s. take place saves ++ s ∷ []) (sym is))) record {
-      told = one.told ∙ ap (option_map (with_save save)) h.told ∙ option-behind (take place saves) save old.told;
+    subst (λ files. SavesAll files old new)
+    (sym (map_more file_of saves place save lt ∙ ap (λ s. map file_of (take place saves) ++ file_of s ∷ []) (sym is))) record {
+      told = one.told ∙ ap (option_map (with_file (file_of save))) h.told ∙ option-behind (map file_of (take place saves)) (file_of save) old.told;
       write_faults = one.write_faults ∙ h.write_faults;
     }
 
@@ -58,3 +67,10 @@ added-more name content done count old mid new created is first next =
     added name (take done content) (take count (drop done content)) old mid new first
     (next name is ∙ ap (λ bytes. option_map (with_more name (take count bytes)) mid) (take_all (length content - done) (drop done content) (omega (arith, length-drop done content))))
     ∙ ap (λ bytes. option_map (with_content name bytes) old) (sym (take-add done count content))
+
+pub none-within : (saves : List Save) (place : ℕ) → place < length saves → saves ≡ [] → ⊥
+none-within saves place lt e = omega (arith, lt, ap length e)
+
+pub saved-first : (saves : List Save) (place : ℕ) (old mid : ShelfState) → SavesAll (map file_of (take place saves)) old mid
+    → SavesAll (take place (map file_of saves)) old mid
+saved-first saves place old mid h = subst (λ files. SavesAll files old mid) (sym (take-map file_of place saves)) h

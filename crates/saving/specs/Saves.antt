@@ -5,42 +5,50 @@ use Rattle.psl_base.specs.Faults.{Rose}
 use Rattle.psl_base.specs.Shelf.{Contents, ShelfState, with_content}
 use Rattle.saving.specs.declared.Save.{Save}
 
--- the contents once a file, and once files in order, are written whole
-abbrev pub with_save : Save → Contents → Contents
-with_save save files = with_content (string_bytes save.name) save.content files
+-- a file as it is to be: its name and its whole content
+pub record NewFile : Type 0 where
+  pub name : List ℕ
+  pub content : List ℕ
 
-abbrev pub with_saves : List Save → Contents → Contents
-with_saves [] files = files
-with_saves (save ∷ saves) files = with_saves saves (with_save save files)
+abbrev pub file_of : Save → NewFile
+file_of save = record { name = string_bytes save.name; content = save.content }
+
+-- the contents once a file, and once files in order, are written whole
+abbrev pub with_file : NewFile → Contents → Contents
+with_file file contents = with_content file.name file.content contents
+
+abbrev pub with_files : List NewFile → Contents → Contents
+with_files [] contents = contents
+with_files (file ∷ files) contents = with_files files (with_file file contents)
 
 -- the file has its content whole
-pub record SavesOne (save : Save) (old new : ShelfState) : Type 0 where
-  pub told : new.told ≡ option_map (with_save save) old.told
+pub record SavesOne (file : NewFile) (old new : ShelfState) : Type 0 where
+  pub told : new.told ≡ option_map (with_file file) old.told
   pub write_faults : new.write_faults ≡ old.write_faults
 
 -- the file is as it was, or has only the first bytes of its content
-abbrev pub HoldsPart : Save → ShelfState → ShelfState → Type 0
-HoldsPart save old new =
+abbrev pub HoldsPart : NewFile → ShelfState → ShelfState → Type 0
+HoldsPart file old new =
     (new.told ≡ old.told)
-    ⊎ ((count : ℕ) × (count < length save.content)
-    × (new.told ≡ option_map (with_content (string_bytes save.name) (take count save.content)) old.told))
+    ⊎ ((count : ℕ) × (count < length file.content)
+    × (new.told ≡ option_map (with_content file.name (take count file.content)) old.told))
 
-pub record SavesPartOfOne (save : Save) (old new : ShelfState) : Type 0 where
-  pub part : HoldsPart save old new
+pub record SavesPartOfOne (file : NewFile) (old new : ShelfState) : Type 0 where
+  pub part : HoldsPart file old new
   pub cause : Rose old.write_faults new.write_faults
 
 -- all files have their contents whole
-pub record SavesAll (saves : List Save) (old new : ShelfState) : Type 0 where
-  pub told : new.told ≡ option_map (with_saves saves) old.told
+pub record SavesAll (files : List NewFile) (old new : ShelfState) : Type 0 where
+  pub told : new.told ≡ option_map (with_files files) old.told
   pub write_faults : new.write_faults ≡ old.write_faults
 
 -- the first files have their contents whole, the next is as it was or has only the first bytes of its own, and then a
 -- fault came
-pub record SavesPart (saves : List Save) (old new : ShelfState) : Type 0 where
+pub record SavesPart (files : List NewFile) (old new : ShelfState) : Type 0 where
   pub whole : ℕ
-  pub next : Save
-  pub here : slice_get saves whole ≡ Some next
+  pub next : NewFile
+  pub here : slice_get files whole ≡ Some next
   pub between : ShelfState
-  pub before : SavesAll (take whole saves) old between
+  pub before : SavesAll (take whole files) old between
   pub part : HoldsPart next between new
   pub cause : Rose old.write_faults new.write_faults

@@ -1,9 +1,9 @@
 //! Files that are written, one after the other.
 #![tactic(auto)]
 
-ghost use Rattle.std.specs.Prelude.{OnErr, OnOk};
+ghost use Rattle.std.specs.Prelude.{◌≡◌, [], map, OnErr, OnOk};
 ghost use Rattle.psl_base.specs.Shelf.{OnlyWrites};
-ghost use Rattle.saving.specs.Saves.{SavesAll, SavesOne, SavesPart, SavesPartOfOne};
+ghost use Rattle.saving.specs.Saves.{SavesAll, SavesOne, SavesPart, SavesPartOfOne, file_of};
 
 use psl_base::{Bytes, Failed, Items, Shelf};
 
@@ -24,9 +24,10 @@ pub type Saves = Items<Save>;
 /// `Failed` where a call of the shelf failed: the files before are whole, that one may hold its first bytes, and those
 /// behind are as they were.
 pub fn save_all<F: Shelf>(files: &mut F, saves: &[Save]) -> Result<(), Failed>
-    ensures ok { OnOk result (SavesAll saves.now (F.state files.old) (F.state files.new)) }
-    ensures failed { OnErr result (SavesPart saves.now (F.state files.old) (F.state files.new)) }
+    ensures ok { OnOk result (SavesAll (map file_of saves.now) (F.state files.old) (F.state files.new)) }
+    ensures failed { OnErr result (SavesPart (map file_of saves.now) (F.state files.old) (F.state files.new)) }
     ensures rest { OnlyWrites (F.state files.old) (F.state files.new) }
+    ensures none { saves.now ≡ [] → F.state files.new ≡ F.state files.old }
 {
     for save in saves {
         save_one(files, save)?;
@@ -35,8 +36,8 @@ pub fn save_all<F: Shelf>(files: &mut F, saves: &[Save]) -> Result<(), Failed>
 }
 
 fn save_one<F: Shelf>(files: &mut F, save: &Save) -> Result<(), Failed>
-    ensures ok { OnOk result (SavesOne save.now (F.state files.old) (F.state files.new)) }
-    ensures failed { OnErr result (SavesPartOfOne save.now (F.state files.old) (F.state files.new)) }
+    ensures ok { OnOk result (SavesOne (file_of save.now) (F.state files.old) (F.state files.new)) }
+    ensures failed { OnErr result (SavesPartOfOne (file_of save.now) (F.state files.old) (F.state files.new)) }
     ensures rest { OnlyWrites (F.state files.old) (F.state files.new) }
 {
     let content = save.content.as_slice();
