@@ -17,13 +17,14 @@ use Rattle.netlist.specs.Design.{Design}
 use Rattle.netlist.specs.Runs.{IsRun, word}
 use Rattle.netlist.specs.Sound as netlists
 use Rattle.netlist.specs.declared.run.Run.{Run}
+use Rattle.owed.specs.Owed.{is_assertion}
 use Rattle.owed.specs.Violations.{AcceptsViolatingRuns, violation_of}
 use Rattle.psl_tree.specs.declared.directive.Directive.{Directive}
 use Rattle.psl_tree.specs.declared.directive.Kind.{Kind}
 use Rattle.psl_tree.specs.declared.directive.Kind.TheVariants.{Assert, Assume, Cover}
 use Rattle.run_terms.specs.Automata.{IsSound, TestsSignals}
 use Rattle.run_terms.specs.Formulas.{HasModel, values_of}
-use Rattle.cert_check.specs.Claims.{EachSatisfies, IsProved, asked_of, directive_of, is_assert, is_assertion, queries_by, queries_for, queries_of}
+use Rattle.cert_check.specs.Claims.{EachSatisfies, IsProved, asked_of, directive_of, is_some_assertion, queries_by, queries_for, queries_of}
 
 -- a formula that is refuted has no model
 refuted_none : (variables : ℕ) (clauses : List (List ℤ)) → IsTrue (clauses_within variables clauses) → IsRefuted (record { variables = variables; clauses = clauses })
@@ -53,7 +54,7 @@ each_satisfies design unit directive sound right tests refutes within tells aske
     (refuted_none (query_variables design automaton is.visits is.window false) (query design automaton is.visits is.window false) (within design automaton is.visits is.window false sound right tests) is.induction)
     run runs)
 
-assert_is : (kind : Kind) → is_assert kind ≡ true → kind ≡ Assert
+assert_is : (kind : Kind) → is_assertion kind ≡ true → kind ≡ Assert
 assert_is Assert is = refl
 assert_is Assume is = absurd (false≢true is)
 assert_is Cover is = absurd (false≢true is)
@@ -66,6 +67,6 @@ is_proved design unit number directive text is passed each =
     record {
       directive = directive;
       is = is;
-      is_assertion = assert_is directive.kind (sym (ap is_assertion is) ∙ here.is_assertion);
+      is_assertion = assert_is directive.kind (sym (ap is_some_assertion is) ∙ here.is_assertion);
       each = each (asked_of unit number) (subst (λ (found : Option Directive). IsShown (asked_of unit number) (queries_by design unit found)) is here);
     }

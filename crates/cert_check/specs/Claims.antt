@@ -16,31 +16,25 @@ use Rattle.joint_theory.specs.Queries.{query, query_variables}
 use Rattle.netlist.specs.Design.{Design}
 use Rattle.netlist.specs.Runs.{IsRun, word}
 use Rattle.netlist.specs.declared.run.Run.{Run}
-use Rattle.owed.specs.Owed.{owed}
+use Rattle.owed.specs.Owed.{is_assertion, owed}
 use Rattle.owed.specs.Violations.{violation_of}
 use Rattle.psl_meaning.specs.Satisfaction.{Sat}
 use Rattle.psl_meaning.specs.Trace.{trace_of}
 use Rattle.psl_tree.specs.declared.directive.Directive.{Directive}
-use Rattle.psl_tree.specs.declared.directive.Kind.{Kind}
-use Rattle.psl_tree.specs.declared.directive.Kind.TheVariants.{Assert, Assume, Cover}
+use Rattle.psl_tree.specs.declared.directive.Kind.TheVariants.{Assert}
 
 -- the directive of a number
 abbrev pub directive_of : List Directive → ℕ → Option Directive
 directive_of unit number = find (λ (directive : Directive). directive.number == number) unit
 
-abbrev pub is_assert : Kind → Truth
-is_assert Assert = true
-is_assert Assume = false
-is_assert Cover = false
-
 -- there is a directive, and it is an assertion
-abbrev pub is_assertion : Option Directive → Truth
-is_assertion None = false
-is_assertion (Some directive) = is_assert directive.kind
+abbrev pub is_some_assertion : Option Directive → Truth
+is_some_assertion None = false
+is_some_assertion (Some directive) = is_assertion directive.kind
 
 -- what is asked for by a number
 abbrev pub asked_of : List Directive → ℕ → Asked
-asked_of unit number = record { number = number; is_assertion = is_assertion (directive_of unit number) }
+asked_of unit number = record { number = number; is_assertion = is_some_assertion (directive_of unit number) }
 
 -- the formulas of an automaton of violations: no open path is initial, and none is of the other kind
 abbrev pub is_base : Section → Truth

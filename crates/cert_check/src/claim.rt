@@ -5,7 +5,8 @@ ghost use Rattle.cert_check.specs.Claims as spec;
 
 use certificate::Asked;
 use netlist::Netlist;
-use psl_tree::{Directive, Kind, Unit};
+use owed::is_assertion;
+use psl_tree::{Directive, Unit};
 
 /// That each run of a netlist satisfies what is owed of a directive of a text.
 #[derive(Clone, Copy)]
@@ -31,20 +32,11 @@ pub(crate) fn asked_of(unit: &Unit, number: u32) -> Asked
     match directive_of(unit, number) {
         Some(directive) => Asked {
             number,
-            is_assertion: is_assert(directive.kind),
+            is_assertion: is_assertion(directive.kind),
         },
         None => Asked {
             number,
             is_assertion: false,
         },
-    }
-}
-
-fn is_assert(kind: Kind) -> bool
-    ensures { result ≡ spec.is_assert kind }
-{
-    match kind {
-        Kind::Assert => true,
-        Kind::Assume | Kind::Cover => false,
     }
 }

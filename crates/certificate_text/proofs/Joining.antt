@@ -14,7 +14,7 @@ entries_text [] = refl
 entries_text (entry ∷ log) = ap (λ text. entry_text entry ++ 10 ∷ text) (entries_text log)
 
 -- a text to which lines are added
-lines_text-append : (first second : List (List ℕ)) → lines_text (first ++ second) ≡ lines_text first ++ lines_text second
+pub lines_text-append : (first second : List (List ℕ)) → lines_text (first ++ second) ≡ lines_text first ++ lines_text second
 lines_text-append [] second = refl
 lines_text-append (line ∷ first) second =
     ap (λ text. line ++ 10 ∷ text) (lines_text-append first second) ∙ sym (append_assoc line (10 ∷ lines_text first) (lines_text second))

@@ -13,7 +13,7 @@ use Rattle.clauses.specs.declared.flat.TheConstants.{MOST_VARIABLES}
 use Rattle.log_lines.specs.Lines.{lacks, lemmas_alone}
 use Rattle.log_lines.proofs.Once.{all_have_lines, lemmas_have_lines, lemma_words}
 use Rattle.certificate.specs.Phases.Phase.{AtVersion, AtEnd, InSection}
-use Rattle.certificate.specs.Headers.{IsHeader, MayBe}
+use Rattle.certificate.specs.Headers.{HasHeader, IsHeader, MayBe}
 use Rattle.certificate.specs.Lines.{end_line, header_lines, lines_text}
 use Rattle.certificate.specs.Printed.{cert_text, entry_lines, header_of, live_of, most_live, printed}
 use Rattle.certificate.specs.Sections.{NamesLive, Queries, Query, has_empty}
@@ -33,7 +33,7 @@ use Rattle.certificate_text.proofs.Alone.{alone_drops, alone_passes}
 use Rattle.certificate_text.proofs.Counting.{at_most, lemmas_words}
 use Rattle.certificate_text.proofs.Entries.{refuted_entries}
 use Rattle.certificate_text.proofs.Following.{IsSound, followed, section_follows, section_whole}
-use Rattle.certificate_text.proofs.Joining.{all_lines}
+use Rattle.certificate_text.proofs.Joining.{all_lines, lines_text-append, section_lines}
 use Rattle.certificate_text.proofs.Living.{live_below, live_few}
 
 -- the empty lemma is there
@@ -135,6 +135,23 @@ front_follows asked queries version certificate evidence =
     let header = header_of version certificate in
     subst (λ (n : ℕ). FollowAll asked queries AtVersion (header_lines n header) (InSection header Base [])) (sym evidence.is_asked.0)
     (header_follows asked queries header number evidence.is_asked.1 (is_header asked queries version certificate evidence))
+
+-- with which the text begins
+pub text_header : (asked : Asked) (queries : Queries) (version : Version) (certificate : Certificate) → IsEvidence asked queries certificate
+    → HasHeader asked (cert_text version certificate) (header_of version certificate)
+text_header asked queries version certificate evidence =
+    let says = header_of version certificate in
+    let behind = section_lines version certificate in
+    record {
+      number = subst (MayBe Assertion) evidence.is_asked.0 evidence.number;
+      is_assertion = evidence.is_asked.1;
+      numbers = is_header asked queries version certificate evidence;
+      rest = lines_text behind;
+      is =
+          ap lines_text (all_lines version certificate)
+          ∙ lines_text-append (header_lines certificate.assertion says) behind
+          ∙ ap (λ (n : ℕ). lines_text (header_lines n says) ++ lines_text behind) evidence.is_asked.0;
+    }
 
 -- lines have no line feed inside where those of each part have none
 both_whole : (first second : List (List ℕ)) → IsTrue (list_all (lacks 10) first) → IsTrue (list_all (lacks 10) second) → IsTrue (list_all (lacks 10) (first ++ second))

@@ -1,6 +1,7 @@
 // What follows from the definitions alone.
 ghost use Rattle.std.specs.Prelude.{ℕ, List};
-ghost use Rattle.certificate.specs.Printed.{cert_text, most_live};
+ghost use Rattle.certificate.specs.Headers.{HasHeader};
+ghost use Rattle.certificate.specs.Printed.{cert_text, header_of, most_live};
 ghost use Rattle.certificate.specs.Sections.{Queries, Query};
 ghost use Rattle.certificate.specs.Texts.{IsAnswer, IsRefusal};
 ghost use Rattle.certificate.specs.declared.answer.CertAnswer.TheVariants.{Passed};
@@ -13,7 +14,7 @@ ghost use Rattle.certificate_text.specs.Examples.{HasFirstText, HasText, IsEvide
 ghost use Rattle.clauses.specs.Logs.{LogEntry};
 
 /// A law of the texts: where a certificate is of the assertion that is asked for and its logs refute the two formulas,
-/// its text is passed in either version, and has no refusal. And the number of live lemmas that a header says of a log is
+/// its text is passed in either version, has no refusal, and begins with the header of its numbers. And the number of live lemmas that a header says of a log is
 /// the greatest at any moment, where each drop is of a live lemma.
 pub fn printed_law()
     ensures passes { (asked : Asked) (queries : Queries) (version : Version) (certificate : Certificate)
@@ -21,6 +22,9 @@ pub fn printed_law()
     ensures refused { (asked : Asked) (queries : Queries) (version : Version) (certificate : Certificate)
         → IsEvidence asked queries certificate → (reason : CertReason) (number : ℕ)
         → IsRefusal asked queries (cert_text version certificate) reason number → ⊥ }
+    ensures header { (asked : Asked) (queries : Queries) (version : Version) (certificate : Certificate)
+        → IsEvidence asked queries certificate
+        → HasHeader asked (cert_text version certificate) (header_of version certificate) }
     ensures live { (query : Query) (log : List LogEntry)
         → DropsLive query log → IsMostLive query log (most_live log) }
 {}

@@ -1,14 +1,15 @@
 -- Words are one command at most.
-use Rattle.std.proofs.Common.{◌≡◌, ◌∙◌, ◌<◌, ◌^◌, sym, ap, ap₂, refl, subst, ℕ, if◌then◌else◌, ◌==◌, List, [], ◌∷◌, Option, None, Some, slice_get, arith}
+use Rattle.std.proofs.Common.{◌≡◌, ◌∙◌, ◌<◌, ◌≤◌, ◌^◌, sym, ap, ap₂, refl, subst, ℕ, if◌then◌else◌, ◌==◌, List, [], ◌∷◌, Option, None, Some, slice_get, arith}
 use Rattle.command_line.specs.Clap.{Takes}
-use Rattle.command_line.specs.Commands.{AreLimits, AreTaken, AreUnnumbered, IsCommand, IsNoCommand, IsRefused, Meaning, Says, Values, kind_of, values_of}
+use Rattle.command_line.specs.Commands.{AreLimits, AreTaken, AreUnnumbered, IsCommand, IsNoCommand, IsRefused, Meaning, Says, Values, kind_of, most_seed, values_of}
 use Rattle.command_line.specs.Commands.IsRefused.{unnamed, unnumbered, untaken}
-use Rattle.command_line.specs.Commands.Meaning.{wave, gen, show, show_netlist, prove}
+use Rattle.command_line.specs.Commands.Meaning.{wave, gen, show, show_netlist, prove, check}
 use Rattle.command_line.specs.Kinds.{app_of, name_of}
 use Rattle.command_line.specs.Numbers.{IsGiven}
+use Rattle.command_line.specs.Ranges.{IsInRange}
 use Rattle.command_line.specs.declared.Limits.{Limits}
 use Rattle.command_line.specs.declared.kinds.Kind.{Kind}
-use Rattle.command_line.specs.declared.kinds.Kind.TheVariants.{Wave, Gen, Show, Prove}
+use Rattle.command_line.specs.declared.kinds.Kind.TheVariants.{Wave, Gen, Show, Prove, Check}
 use Rattle.command_line.proofs.Numbers.{one_number}
 
 some_one : {X : Type 0} (x y : X) → Some x ≡ Some y → x ≡ y
@@ -22,7 +23,7 @@ first_byte [] = 0
 first_byte (x ∷ xs) = x
 
 kind_from : ℕ → Kind
-kind_from byte = if byte == 119 then Wave else (if byte == 103 then Gen else (if byte == 115 then Show else Prove))
+kind_from byte = if byte == 119 then Wave else (if byte == 103 then Gen else (if byte == 115 then Show else (if byte == 112 then Prove else Check)))
 
 from_name : (kind : Kind) → kind_from (first_byte (name_of kind)) ≡ kind
 unfolding kind_from
@@ -30,6 +31,7 @@ from_name Wave = refl
 from_name Gen = refl
 from_name Show = refl
 from_name Prove = refl
+from_name Check = refl
 
 one_kind : (words : List (List ℕ)) (a b : Kind) → slice_get words 0 ≡ Some (name_of a) → slice_get words 0 ≡ Some (name_of b) → a ≡ b
 one_kind words a b one two =
@@ -59,9 +61,18 @@ one_said most values (show_netlist a b) (show_netlist c d) fits same one two =
     ap₂ show_netlist (some_one _ _ (sym one.0 ∙ two.0)) (some_one _ _ (sym one.1 ∙ two.1))
 one_said most values (show a b) (show_netlist c d) fits same one two = cc
 one_said most values (show_netlist a b) (show c d) fits same one two = cc
-one_said most values (prove a b l) (prove c d m) fits same one two =
+one_said most values (prove a b l p) (prove c d m q) fits same one two =
+    let unit : a ≡ c = some_one _ _ (sym one.0 ∙ two.0) in
+    let netlist : b ≡ d = some_one _ _ (sym one.1 ∙ two.1) in
     let limits : l ≡ m = one_limits values l m one.2 two.2 in
-    rw limits (ap₂ (λ unit netlist. prove unit netlist m) (some_one _ _ (sym one.0 ∙ two.0)) (some_one _ _ (sym one.1 ∙ two.1)))
+    let cert : p ≡ q = sym one.3 ∙ two.3 in
+    λ i. prove (unit i) (netlist i) (limits i) (cert i)
+one_said most values (check a b k p) (check c d m q) fits same one two =
+    let unit : a ≡ c = some_one _ _ (sym one.0 ∙ two.0) in
+    let netlist : b ≡ d = some_one _ _ (sym one.1 ∙ two.1) in
+    let number : k ≡ m = one_given _ _ _ _ _ (omega arith) one.2 two.2 in
+    let certificate : p ≡ q = some_one _ _ (sym one.3 ∙ two.3) in
+    λ i. check (unit i) (netlist i) (number i) (certificate i)
 one_said most values first second fits same one two = cc
 
 -- words are one command at most
@@ -85,7 +96,8 @@ not_said most values (wave unit recording) says none = none
 not_said most values (gen seed samples) says none = none seed samples says.0 says.1
 not_said most values (show unit names) says none = none
 not_said most values (show_netlist unit netlist) says none = none
-not_said most values (prove unit netlist limits) says none = none limits says.2
+not_said most values (prove unit netlist limits cert) says none = none limits says.2
+not_said most values (check unit netlist number certificate) says none = none number says.2
 
 -- refused words are no command
 pub no_command : (most : ℕ) (words : List (List ℕ)) → IsRefused most words → IsNoCommand most words
@@ -97,3 +109,35 @@ no_command most words (unnumbered kind taken none) meaning is =
     let same : kind ≡ kind_of meaning = one_kind words kind (kind_of meaning) taken.named is.0.named in
     not_said most (values_of (kind_of meaning) words) meaning is.1
     (subst (λ (k : Kind). AreUnnumbered most (values_of k words) k) same none)
+
+-- ---- the ranges of numbers
+
+least_given : (least most number : ℕ) (value : Option (List ℕ)) → IsGiven least most value number → least ≤ number
+least_given least most number None given = absurd given
+least_given least most number (Some word) given = given.above
+
+most_given : (least most number : ℕ) (value : Option (List ℕ)) → IsGiven least most value number → number ≤ most
+most_given least most number None given = absurd given
+most_given least most number (Some word) given = given.below
+
+in_range : (most : ℕ) (values : Values) (meaning : Meaning) → Says most values meaning → IsInRange most meaning
+in_range most values (wave unit recording) says = tt
+in_range most values (gen seed samples) says =
+    let below : seed ≤ most_seed = most_given _ _ _ _ says.0 in
+    (omega arith, least_given _ _ _ _ says.1, most_given _ _ _ _ says.1)
+in_range most values (show unit names) says = tt
+in_range most values (show_netlist unit netlist) says = tt
+in_range most values (prove unit netlist limits cert) says = record {
+  some_depth = least_given _ _ _ _ says.2.depth;
+  depth = most_given _ _ _ _ says.2.depth;
+  visits = most_given _ _ _ _ says.2.visits;
+  some_steps = least_given _ _ _ _ says.2.steps;
+  steps = most_given _ _ _ _ says.2.steps;
+}
+in_range most values (check unit netlist number certificate) says =
+    let below : number ≤ 4294967295 = most_given _ _ _ _ says.2 in
+    (least_given _ _ _ _ says.2, omega arith)
+
+-- the numbers of a command are in their ranges
+pub numbers_in_range : (most : ℕ) (words : List (List ℕ)) (meaning : Meaning) → IsCommand most words meaning → IsInRange most meaning
+numbers_in_range most words meaning is = in_range most (values_of (kind_of meaning) words) meaning is.1

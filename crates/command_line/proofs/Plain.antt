@@ -1,5 +1,5 @@
 -- Words that `clap` reads as they stand.
-use Rattle.std.proofs.Common.{◌≡◌, ◌<◌, ◌≤◌, ◌^◌, ap, refl, sym, subst, ℕ, List, [], ◌∷◌, Option, Some, codes, arith}
+use Rattle.std.proofs.Common.{◌≡◌, ◌<◌, ◌≤◌, ◌^◌, ap, refl, sym, subst, ℕ, List, [], ◌∷◌, Option, None, Some, codes, arith}
 use Rattle.std.specs.Fmt.{digits}
 use Rattle.std.specs.Prelude.{decimal}
 use Rattle.std.specs.Str.Parse.{AllDigits}
@@ -8,11 +8,12 @@ use Rattle.std.proofs.lemmas.Str.Parse.{digit_from_value}
 use Rattle.clap.proofs.OnLiterals.{clap_on_literals}
 use Rattle.command_line.specs.Clap.{Takes, app, given, is_true}
 use Rattle.command_line.specs.Commands.{AreLimits, IsCommand, Values, most_seed}
-use Rattle.command_line.specs.Commands.Meaning.{wave, gen, show, show_netlist, prove}
+use Rattle.command_line.specs.Commands.Meaning.{wave, gen, show, show_netlist, prove, check}
 use Rattle.command_line.specs.Numbers.{IsGiven}
-use Rattle.command_line.specs.Plain.{IsPlain, limits_of_depth, usual_limits, with_depth}
+use Rattle.command_line.specs.Ranges.{AreInRange}
+use Rattle.command_line.specs.Plain.{ArePlain, IsPlain, limits_of_depth, to_check, usual_limits, with_depth, with_options}
 use Rattle.command_line.specs.declared.Limits.{Limits}
-use Rattle.command_line.specs.declared.kinds.Kind.TheVariants.{Wave, Gen, Show, Prove}
+use Rattle.command_line.specs.declared.kinds.Kind.TheVariants.{Wave, Gen, Show, Prove, Check}
 use Rattle.command_line.proofs.Runs.{any_then, behind, behind_any, behind_value, ends, run_given, run_taken, start, value_then, word_then}
 
 -- digits do not begin with a hyphen
@@ -113,7 +114,7 @@ usual values limits depth visits steps = record {
 }
 
 pub plain_prove : (most : ℕ) (unit netlist : List ℕ) → IsPlain unit → IsPlain netlist
-    → IsCommand most (codes "prove" ∷ unit ∷ netlist ∷ []) (prove unit netlist usual_limits)
+    → IsCommand most (codes "prove" ∷ unit ∷ netlist ∷ []) (prove unit netlist usual_limits None)
 unfolding clap_on_literals app
 plain_prove most a b one two =
     let words = a ∷ b ∷ [] in
@@ -126,11 +127,12 @@ plain_prove most a b one two =
         run_given Prove words end (codes "unit") run,
         run_given Prove words end (codes "netlist") run,
         usual _ usual_limits depth (run_given Prove words end (codes "visits") run) (run_given Prove words end (codes "steps") run),
+        run_given Prove words end (codes "cert") run,
       ),
     )
 
 pub plain_depth : (most : ℕ) (unit netlist : List ℕ) (depth : ℕ) → IsPlain unit → IsPlain netlist → 1 ≤ depth → depth ≤ 1000
-    → IsCommand most (with_depth unit netlist depth) (prove unit netlist (limits_of_depth depth))
+    → IsCommand most (with_depth unit netlist depth) (prove unit netlist (limits_of_depth depth) None)
 unfolding clap_on_literals app
 plain_depth most a b number one two above below =
     let words = a ∷ b ∷ codes "--depth" ∷ decimal number ∷ [] in
@@ -148,6 +150,83 @@ plain_depth most a b number one two above below =
         run_given Prove words end (codes "unit") run,
         run_given Prove words end (codes "netlist") run,
         usual _ (limits_of_depth number) depth (run_given Prove words end (codes "visits") run) (run_given Prove words end (codes "steps") run),
+        run_given Prove words end (codes "cert") run,
+      ),
+    )
+
+pub plain_options : (most : ℕ) (unit netlist prefix : List ℕ) (limits : Limits) → ArePlain unit netlist prefix → AreInRange limits
+    → IsCommand most (with_options unit netlist limits prefix) (prove unit netlist limits (Some prefix))
+unfolding clap_on_literals app
+plain_options most a b prefix limits plain range =
+    let steps = decimal limits.steps in
+    let visits = decimal limits.visits in
+    let depth = decimal limits.depth in
+    let wide : limits.steps < 2 ^ 64 = let below = range.steps in omega arith in
+    let some : limits.visits < 2 ^ 64 = let below = range.visits in omega arith in
+    let deep : limits.depth < 2 ^ 64 = let below = range.depth in omega arith in
+    let on_netlist = b ∷ [] in
+    let on_depth = depth ∷ on_netlist in
+    let on_deep = codes "--depth" ∷ on_depth in
+    let on_unit = a ∷ on_deep in
+    let on_visits = visits ∷ on_unit in
+    let on_visit = codes "--visits" ∷ on_visits in
+    let on_steps = steps ∷ on_visit in
+    let on_step = codes "--steps" ∷ on_steps in
+    let on_prefix = prefix ∷ on_step in
+    let words = codes "--cert" ∷ on_prefix in
+    let w1 = behind_any Prove start (codes "--cert") in
+    let w2 = behind_value Prove w1 (codes "cert") prefix in
+    let w3 = behind_any Prove w2 (codes "--steps") in
+    let w4 = behind_value Prove w3 (codes "steps") steps in
+    let w5 = behind_any Prove w4 (codes "--visits") in
+    let w6 = behind_value Prove w5 (codes "visits") visits in
+    let w7 = behind Prove w6 a in
+    let w8 = behind_any Prove w7 (codes "--depth") in
+    let w9 = behind_value Prove w8 (codes "depth") depth in
+    let end = behind Prove w9 b in
+    let run = any_then Prove start end (codes "--cert") on_prefix refl
+    (value_then Prove w1.held 1 end (codes "cert") prefix on_step plain.2
+    (any_then Prove w2 end (codes "--steps") on_steps refl
+    (value_then Prove w3.held 1 end (codes "steps") steps on_visit (plain_decimal limits.steps wide)
+    (any_then Prove w4 end (codes "--visits") on_visits refl
+    (value_then Prove w5.held 1 end (codes "visits") visits on_unit (plain_decimal limits.visits some)
+    (word_then Prove w6.held 1 end a on_deep plain.0 refl
+    (any_then Prove w7 end (codes "--depth") on_depth refl
+    (value_then Prove w8.held 2 end (codes "depth") depth on_netlist (plain_decimal limits.depth deep)
+    (word_then Prove w9.held 2 end b [] plain.1 refl (ends Prove end)))))))))) in (
+      record { named = refl; taken = run_taken Prove words end run refl },
+      (
+        run_given Prove words end (codes "unit") run,
+        run_given Prove words end (codes "netlist") run,
+        record {
+          depth = given_number 1 1000 limits.depth _ (run_given Prove words end (codes "depth") run) range.some_depth range.depth;
+          visits = given_number 0 16 limits.visits _ (run_given Prove words end (codes "visits") run) (omega arith) range.visits;
+          steps = given_number 1 10000000 limits.steps _ (run_given Prove words end (codes "steps") run) range.some_steps range.steps;
+        },
+        run_given Prove words end (codes "cert") run,
+      ),
+    )
+
+pub plain_check : (most : ℕ) (unit netlist certificate : List ℕ) (number : ℕ) → ArePlain unit netlist certificate → 1 ≤ number
+    → number < 2 ^ 32 → IsCommand most (to_check unit netlist number certificate) (check unit netlist number certificate)
+unfolding clap_on_literals app
+plain_check most a b d number plain some below =
+    let c = decimal number in
+    let words = a ∷ b ∷ c ∷ d ∷ [] in
+    let w1 = behind Check start a in
+    let w2 = behind Check w1 b in
+    let w3 = behind Check w2 c in
+    let end = behind Check w3 d in
+    let run = word_then Check start.held 1 end a (b ∷ c ∷ d ∷ []) plain.0 refl
+    (word_then Check w1.held 2 end b (c ∷ d ∷ []) plain.1 refl
+    (word_then Check w2.held 3 end c (d ∷ []) (plain_decimal number (omega arith)) refl
+    (word_then Check w3.held 4 end d [] plain.2 refl (ends Check end)))) in (
+      record { named = refl; taken = run_taken Check words end run refl },
+      (
+        run_given Check words end (codes "unit") run,
+        run_given Check words end (codes "netlist") run,
+        given_number 1 4294967295 number _ (run_given Check words end (codes "number") run) some (omega arith),
+        run_given Check words end (codes "certificate") run,
       ),
     )
 

@@ -18,6 +18,10 @@ flag id = record (new_rule id) { long = Some id; action = Some SetTrue }
 abbrev pub option : List ℕ → List ℕ → Rule
 option id value = record (new_rule id) { long = Some id; action = Some Set; defaults = value ∷ [] }
 
+-- such an option that has no value where it is not given
+abbrev pub optional : List ℕ → Rule
+optional id = record (new_rule id) { long = Some id; action = Some Set }
+
 -- the command `NAME` with these words, flags and options, and without flags for help and for a version
 unfoldable pub app : List ℕ → List Rule → App
 app name rules = on_top (λ shape. record shape {

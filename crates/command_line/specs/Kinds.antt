@@ -2,9 +2,9 @@
 use Rattle.std.specs.Prelude.{ℕ, List, [], ◌∷◌, codes}
 use Rattle.clap.specs.Walk.{Rule}
 use Rattle.clap.specs.Simple.{App}
-use Rattle.command_line.specs.Clap.{app, flag, option, required}
+use Rattle.command_line.specs.Clap.{app, flag, option, optional, required}
 use Rattle.command_line.specs.declared.kinds.Kind.{Kind}
-use Rattle.command_line.specs.declared.kinds.Kind.TheVariants.{Wave, Gen, Show, Prove}
+use Rattle.command_line.specs.declared.kinds.Kind.TheVariants.{Wave, Gen, Show, Prove, Check}
 
 -- the first word of a command
 abbrev pub name_of : Kind → List ℕ
@@ -12,6 +12,7 @@ name_of Wave = codes "wave"
 name_of Gen = codes "gen"
 name_of Show = codes "show"
 name_of Prove = codes "prove"
+name_of Check = codes "check"
 
 -- the words, flags and options that follow it
 abbrev pub rules_of : Kind → List Rule
@@ -19,7 +20,10 @@ rules_of Wave = required (codes "unit") ∷ required (codes "recording") ∷ []
 rules_of Gen = required (codes "seed") ∷ required (codes "samples") ∷ []
 rules_of Show = required (codes "unit") ∷ required (codes "names") ∷ flag (codes "netlist") ∷ []
 rules_of Prove = required (codes "unit") ∷ required (codes "netlist") ∷ option (codes "depth") (codes "20")
-    ∷ option (codes "visits") (codes "4") ∷ option (codes "steps") (codes "1000000") ∷ []
+    ∷ option (codes "visits") (codes "4") ∷ option (codes "steps") (codes "1000000")
+    ∷ optional (codes "cert") ∷ []
+rules_of Check = required (codes "unit") ∷ required (codes "netlist") ∷ required (codes "number")
+    ∷ required (codes "certificate") ∷ []
 
 -- the command as `clap` is told of it
 abbrev pub app_of : Kind → App

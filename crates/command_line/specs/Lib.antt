@@ -4,3 +4,4 @@ pub mod Commands
 pub mod Kinds
 pub mod Numbers
 pub mod Plain
+pub mod Ranges

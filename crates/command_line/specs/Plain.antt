@@ -6,6 +6,9 @@ use Rattle.command_line.specs.declared.Limits.{Limits}
 abbrev pub IsPlain : List ℕ → Type 0
 IsPlain word = slice_index word 0 ≢ 45
 
+abbrev pub ArePlain : List ℕ → List ℕ → List ℕ → Type 0
+ArePlain a b c = IsPlain a × IsPlain b × IsPlain c
+
 -- the limits where no option is given
 abbrev pub usual_limits : Limits
 usual_limits = record { depth = 20; visits = 4; steps = 1000000 }
@@ -16,3 +19,14 @@ limits_of_depth number = record usual_limits { depth = number }
 -- `prove UNIT NETLIST --depth N`
 abbrev pub with_depth : List ℕ → List ℕ → ℕ → List (List ℕ)
 with_depth unit netlist number = codes "prove" ∷ unit ∷ netlist ∷ codes "--depth" ∷ decimal number ∷ []
+
+-- `prove --cert PREFIX --steps N --visits N UNIT --depth N NETLIST`
+abbrev pub with_options : List ℕ → List ℕ → Limits → List ℕ → List (List ℕ)
+with_options unit netlist limits prefix =
+    codes "prove" ∷ codes "--cert" ∷ prefix ∷ codes "--steps" ∷ decimal limits.steps ∷ codes "--visits"
+    ∷ decimal limits.visits ∷ unit ∷ codes "--depth" ∷ decimal limits.depth ∷ netlist ∷ []
+
+-- `check UNIT NETLIST NUMBER CERTIFICATE`
+abbrev pub to_check : List ℕ → List ℕ → ℕ → List ℕ → List (List ℕ)
+to_check unit netlist number certificate =
+    codes "check" ∷ unit ∷ netlist ∷ decimal number ∷ certificate ∷ []

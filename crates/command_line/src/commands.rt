@@ -16,6 +16,9 @@ use clap::ArgMatches;
 /// The largest seed.
 const MOST_SEED: u32 = 0x7fff_ffff;
 
+/// The largest number of an assertion.
+const MOST_NUMBER: u32 = 0xffff_ffff;
+
 /// The largest depth of a proof.
 const MOST_DEPTH: u32 = 1_000;
 
@@ -40,6 +43,7 @@ pub fn read_values<'a>(
         Kind::Gen => gen_of(matches, most_samples),
         Kind::Show => Ok(show(matches)),
         Kind::Prove => prove(matches),
+        Kind::Check => check(matches),
     }
 }
 
@@ -96,6 +100,24 @@ fn prove<'a>(matches: &ArgMatches<'a>) -> Result<Command<'a>, WordsFault>
         unit: word(matches, "unit"),
         netlist: word(matches, "netlist"),
         limits,
+        cert: matches.get_str("cert"),
+    })
+}
+
+/// `check UNIT NETLIST NUMBER CERTIFICATE`
+fn check<'a>(matches: &ArgMatches<'a>) -> Result<Command<'a>, WordsFault>
+    requires { HasRequired (rules_of Kind.Check) (first_value (found_of matches.now)) }
+    ensures command { IfOk result (λ command. (most : ℕ) → IsRead most (first_value (found_of matches.now)) Kind.Check command) }
+    ensures usage { IfErr result (λ _. (most : ℕ) → AreUnnumbered most (first_value (found_of matches.now)) Kind.Check) }
+{
+    let Some(number) = number_of(matches, "number", 1, MOST_NUMBER) else {
+        return Err(WordsFault::Usage);
+    };
+    Ok(Command::Check {
+        unit: word(matches, "unit"),
+        netlist: word(matches, "netlist"),
+        number,
+        certificate: word(matches, "certificate"),
     })
 }
 

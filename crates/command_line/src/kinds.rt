@@ -15,6 +15,7 @@ pub enum Kind {
     Gen,
     Show,
     Prove,
+    Check,
 }
 
 /// The command of this name.
@@ -27,6 +28,7 @@ pub fn kind_named(name: &str) -> Option<Kind>
         "gen" => Some(Kind::Gen),
         "show" => Some(Kind::Show),
         "prove" => Some(Kind::Prove),
+        "check" => Some(Kind::Check),
         _ => None,
     }
 }
@@ -49,6 +51,13 @@ pub fn args_of<'a>(alloc: Global, kind: Kind) -> Result<Vec<Arg<'a>>, AllocError
             option(alloc, "depth", "20"),
             option(alloc, "visits", "4"),
             option(alloc, "steps", "1000000"),
+            optional(alloc, "cert"),
+        ]?,
+        Kind::Check => vec![in alloc;
+            required(alloc, "unit"),
+            required(alloc, "netlist"),
+            required(alloc, "number"),
+            required(alloc, "certificate"),
         ]?,
     };
     Ok(args)
@@ -76,4 +85,11 @@ fn option<'a>(alloc: Global, id: &'a str, value: &'a str) -> Arg<'a>
         .long(id)
         .action(ArgAction::Set)
         .default_value(value)
+}
+
+/// Such an option that has no value where it is not given.
+fn optional<'a>(alloc: Global, id: &'a str) -> Arg<'a>
+    ensures { rule_of result ≡ spec.optional id.entry.now }
+{
+    Arg::new(alloc, id).long(id).action(ArgAction::Set)
 }

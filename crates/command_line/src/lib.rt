@@ -4,8 +4,9 @@
 
 ghost use Rattle.std.specs.Prelude.{◌≡◌, ◌∷◌, ◌<◌, ◌≤◌, ◌^◌, [], codes, decimal, ℕ, List, map, IfOk, IfErr, string_bytes};
 ghost use Rattle.command_line.specs.Commands.{IsCommand, IsNoCommand, IsRefused, Meaning, meaning_of, most_seed};
-ghost use Rattle.command_line.specs.Commands.Meaning.{wave as a_wave, gen as a_gen, show as a_show, show_netlist as a_netlist, prove as a_proof};
-ghost use Rattle.command_line.specs.Plain.{IsPlain, limits_of_depth, usual_limits, with_depth};
+ghost use Rattle.command_line.specs.Commands.Meaning.{wave as a_wave, gen as a_gen, show as a_show, show_netlist as a_netlist, prove as a_proof, check as a_check};
+ghost use Rattle.command_line.specs.Ranges.{AreInRange, IsInRange};
+ghost use Rattle.command_line.specs.Plain.{ArePlain, IsPlain, limits_of_depth, to_check, usual_limits, with_depth, with_options};
 
 mod commands;
 mod kinds;
@@ -47,11 +48,21 @@ pub enum Command<'a> {
         netlist: &'a str,
     },
 
-    /// Proves the assertions of a text of a netlist, or finds runs that violate them.
+    /// Proves the assertions of a text of a netlist, or finds runs that violate them. The certificate of
+    /// a proof of assertion N is to be written to the name `PREFIX.N.cert`, where `cert` has a PREFIX.
     Prove {
         unit: &'a str,
         netlist: &'a str,
         limits: Limits,
+        cert: Option<&'a str>,
+    },
+
+    /// Checks the certificate of an assertion of a text, which are numbered from 1, over a netlist.
+    Check {
+        unit: &'a str,
+        netlist: &'a str,
+        number: u32,
+        certificate: &'a str,
     },
 }
 
@@ -93,8 +104,8 @@ impl From<AllocError> for WordsFault {
 /// The command that the words after the program's name say; `most_samples` is the limit on samples.
 ///
 /// # Errors
-/// `Usage` where the words are no command: the first is none of `wave`, `gen`, `show` and `prove`, `clap`
-/// refuses those after it, or a number is not in its decimal form or not in its range.
+/// `Usage` where the words are no command: the first is none of `wave`, `gen`, `show`, `prove` and `check`,
+/// `clap` refuses those after it, or a number is not in its decimal form or not in its range.
 pub fn read_words<'a>(
     alloc: Global,
     words: &'a [String],
@@ -120,10 +131,11 @@ pub fn read_words<'a>(
 }
 
 /// Laws of the definitions, which run nothing: words are one command at most, and none where they are
-/// refused.
+/// refused, and the numbers of a command are in their ranges.
 pub fn one_command()
     ensures one { (most : ℕ) (words : List (List ℕ)) (first second : Meaning) → most < 2 ^ 32 → IsCommand most words first → IsCommand most words second → first ≡ second }
     ensures refused { (most : ℕ) (words : List (List ℕ)) → IsRefused most words → IsNoCommand most words }
+    ensures ranges { (most : ℕ) (words : List (List ℕ)) (meaning : Meaning) → IsCommand most words meaning → IsInRange most meaning }
 {}
 
 /// Laws of the definitions, which run nothing. Words that do not begin with a hyphen are read as they stand,
@@ -132,8 +144,10 @@ pub fn plain_words()
     ensures wave { (most : ℕ) (unit recording : List ℕ) → IsPlain unit → IsPlain recording → IsCommand most (codes "wave" ∷ unit ∷ recording ∷ []) (a_wave unit recording) }
     ensures show { (most : ℕ) (unit names : List ℕ) → IsPlain unit → IsPlain names → IsCommand most (codes "show" ∷ unit ∷ names ∷ []) (a_show unit names) }
     ensures netlist { (most : ℕ) (unit netlist : List ℕ) → IsPlain unit → IsPlain netlist → IsCommand most (codes "show" ∷ unit ∷ netlist ∷ codes "--netlist" ∷ []) (a_netlist unit netlist) }
-    ensures prove { (most : ℕ) (unit netlist : List ℕ) → IsPlain unit → IsPlain netlist → IsCommand most (codes "prove" ∷ unit ∷ netlist ∷ []) (a_proof unit netlist usual_limits) }
-    ensures depth { (most : ℕ) (unit netlist : List ℕ) (depth : ℕ) → IsPlain unit → IsPlain netlist → 1 ≤ depth → depth ≤ 1000 → IsCommand most (with_depth unit netlist depth) (a_proof unit netlist (limits_of_depth depth)) }
+    ensures prove { (most : ℕ) (unit netlist : List ℕ) → IsPlain unit → IsPlain netlist → IsCommand most (codes "prove" ∷ unit ∷ netlist ∷ []) (a_proof unit netlist usual_limits None) }
+    ensures depth { (most : ℕ) (unit netlist : List ℕ) (depth : ℕ) → IsPlain unit → IsPlain netlist → 1 ≤ depth → depth ≤ 1000 → IsCommand most (with_depth unit netlist depth) (a_proof unit netlist (limits_of_depth depth) None) }
+    ensures options { (most : ℕ) (unit netlist cert : List ℕ) (limits : Limits) → ArePlain unit netlist cert → AreInRange limits → IsCommand most (with_options unit netlist limits cert) (a_proof unit netlist limits (Some cert)) }
+    ensures check { (most : ℕ) (unit netlist proof : List ℕ) (number : ℕ) → ArePlain unit netlist proof → 1 ≤ number → number < 2 ^ 32 → IsCommand most (to_check unit netlist number proof) (a_check unit netlist number proof) }
     ensures wave_behind { (most : ℕ) (unit recording : List ℕ) → IsCommand most (codes "wave" ∷ codes "--" ∷ unit ∷ recording ∷ []) (a_wave unit recording) }
     ensures show_behind { (most : ℕ) (unit names : List ℕ) → IsCommand most (codes "show" ∷ codes "--" ∷ unit ∷ names ∷ []) (a_show unit names) }
     ensures generate { (most seed samples : ℕ) → most < 2 ^ 32 → seed ≤ most_seed → 1 ≤ samples → samples ≤ most → IsCommand most (codes "gen" ∷ decimal seed ∷ decimal samples ∷ []) (a_gen seed samples) }

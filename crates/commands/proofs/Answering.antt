@@ -1,11 +1,13 @@
 -- From the stage of a command, or from words that are none, to the answer of a run.
-use Rattle.std.proofs.Common.{◌≡◌, refl, sym, ◌∙◌, ap, subst, ℕ, List, [], ◌∷◌, Some, inl, inr}
-use Rattle.std.specs.Prelude.{◌≢◌, Result, Ok, Err, IfOk, IfErr}
+use Rattle.std.proofs.Common.{◌≡◌, refl, sym, ◌∙◌, ap, subst, ℕ, List, [], ◌∷◌, Option, Some, inl, inr}
+use Rattle.std.specs.Prelude.{◌≢◌, ◌⊎◌, Result, Ok, Err, IfOk, IfErr}
 use Rattle.command_line.specs.Commands.{Meaning}
-use Rattle.command_line.specs.Commands.Meaning.{wave, show, show_netlist, gen, prove}
+use Rattle.command_line.specs.Commands.Meaning.{wave, show, show_netlist, gen, prove, check}
 use Rattle.command_line.specs.declared.Limits.{Limits}
 use Rattle.psl_base.specs.Shelf.{Contents, ShelfState}
 use Rattle.commands.proofs.Staging.{cause-moved, same_state, none-unread}
+use Rattle.certificate.specs.declared.answer.CertAnswer.{CertAnswer}
+use Rattle.commands.specs.Checks.{CheckStage}
 use Rattle.commands.specs.Commands.{CommandStage, FirstRefusal, IsCommand, IsNoCommand, IsNamed, IsOfCommand, IsOutcomeOf, MeaningStage, MeaningOutcome, files_of, findings_outcome}
 use Rattle.commands.specs.Endings.{Explained, IsUnwritten}
 use Rattle.commands.specs.Faults.{of_none}
@@ -19,7 +21,7 @@ use Rattle.commands.specs.declared.finish.Planned.{Planned}
 use Rattle.commands.specs.declared.outcome.Fault.{Fault}
 use Rattle.commands.specs.declared.outcome.Line.{Line}
 use Rattle.commands.specs.declared.outcome.Outcome.{Outcome}
-use Rattle.commands.specs.declared.outcome.Outcome.TheVariants.{Nothing, Wave, Shown, Made}
+use Rattle.commands.specs.declared.outcome.Outcome.TheVariants.{Nothing, Wave, Checked, Shown, Made}
 use Rattle.commands.specs.declared.prove.Found.{Found}
 use Rattle.commands.specs.declared.reason.Reason.TheVariants.{Usage, ReadFault, WriteFault, NoMemory}
 use Rattle.wave_judge.specs.declared.verdict.Verdict.{Verdict}
@@ -108,6 +110,23 @@ memory-answers words old fault e = record {
   kept = same_state old;
 }
 
+-- a fault is the answer whatever would have been found out
+pub refused-answers : {A : Type 0} (of : A → Outcome) (words : List (List ℕ)) (old new : ShelfState) (fault : Fault) → IsAnswer itself words old new (Err fault)
+    → IsAnswer of words old new (Err fault)
+refused-answers of words old new fault a = record {
+  explained = a.explained;
+  no_command = λ none. elim (a.no_command none) [ inl e ↦ inl (ap Err (let same : fault ≡ of_none Usage = cc in same)) | inr e ↦ inr (ap Err (let same : fault ≡ of_none NoMemory = cc in same)) ];
+  named = a.named;
+  unread = a.unread;
+  unwritten = a.unwritten;
+  command = tt;
+  outcome = tt;
+  found = tt;
+  quiet = tt;
+  counted = a.counted;
+  kept = a.kept;
+}
+
 -- words that are no command
 
 no-usage-read : Usage ≢ ReadFault
@@ -163,15 +182,28 @@ pub netlist-refuses : (words : List (List ℕ)) (unit netlist : List ℕ) (old n
 netlist-refuses words unit netlist old new fault is s =
     stage-refuses words (show_netlist unit netlist) is old new (ShowNetlistStage unit netlist) Shown (λ files result h. h) fault s
 
-pub proof-answers : (words : List (List ℕ)) (unit netlist : List ℕ) (limits : Limits) (old new : ShelfState) (found : Found) → IsCommand words (prove unit netlist limits)
+pub proof-answers : (words : List (List ℕ)) (unit netlist : List ℕ) (limits : Limits) (cert : Option (List ℕ)) (old new : ShelfState) (found : Found) → IsCommand words (prove unit netlist limits cert)
     → IsStage (unit ∷ netlist ∷ []) (ProveStage unit netlist limits) old new (Ok found) → IsAnswer itself words old new (Ok (findings_outcome limits found))
-proof-answers words unit netlist limits old new found is s =
-    stage-answers words (prove unit netlist limits) is old new (ProveStage unit netlist limits) (findings_outcome limits) (λ files result h. h) found (found, refl) (λ e. cc) s
+proof-answers words unit netlist limits cert old new found is s =
+    stage-answers words (prove unit netlist limits cert) is old new (ProveStage unit netlist limits) (findings_outcome limits) (λ files result h. h) found (found, refl) (λ e. cc) s
 
-pub proof-refuses : (words : List (List ℕ)) (unit netlist : List ℕ) (limits : Limits) (old new : ShelfState) (fault : Fault) → IsCommand words (prove unit netlist limits)
+pub proof-refuses : (words : List (List ℕ)) (unit netlist : List ℕ) (limits : Limits) (cert : Option (List ℕ)) (old new : ShelfState) (fault : Fault) → IsCommand words (prove unit netlist limits cert)
     → IsStage (unit ∷ netlist ∷ []) (ProveStage unit netlist limits) old new (Err fault) → IsAnswer itself words old new (Err fault)
-proof-refuses words unit netlist limits old new fault is s =
-    stage-refuses words (prove unit netlist limits) is old new (ProveStage unit netlist limits) (findings_outcome limits) (λ files result h. h) fault s
+proof-refuses words unit netlist limits cert old new fault is s =
+    stage-refuses words (prove unit netlist limits cert) is old new (ProveStage unit netlist limits) (findings_outcome limits) (λ files result h. h) fault s
+
+pub check-answers : (words : List (List ℕ)) (unit netlist : List ℕ) (number : ℕ) (certificate : List ℕ) (old new : ShelfState) (answer : CertAnswer)
+    → IsCommand words (check unit netlist number certificate)
+    → IsStage (unit ∷ netlist ∷ certificate ∷ []) (CheckStage unit netlist number certificate) old new (Ok answer) → IsAnswer itself words old new (Ok (Checked number answer))
+check-answers words unit netlist number certificate old new answer is s =
+    stage-answers words (check unit netlist number certificate) is old new (CheckStage unit netlist number certificate) (Checked number) (λ files result h. h)
+    answer (answer, refl) (λ e. cc) s
+
+pub check-refuses : (words : List (List ℕ)) (unit netlist : List ℕ) (number : ℕ) (certificate : List ℕ) (old new : ShelfState) (fault : Fault)
+    → IsCommand words (check unit netlist number certificate)
+    → IsStage (unit ∷ netlist ∷ certificate ∷ []) (CheckStage unit netlist number certificate) old new (Err fault) → IsAnswer itself words old new (Err fault)
+check-refuses words unit netlist number certificate old new fault is s =
+    stage-refuses words (check unit netlist number certificate) is old new (CheckStage unit netlist number certificate) (Checked number) (λ files result h. h) fault s
 
 made-some : (seed samples : ℕ) (outcome : Outcome) → GeneratedStage seed samples (Ok outcome) → outcome ≢ Nothing
 made-some seed samples outcome (verdicts, are, e) is =
@@ -225,3 +257,9 @@ made-answers words old new outcome (Err fault) a same memory = record {
   counted = inl a.quiet;
   kept = a.kept;
 }
+
+-- what is no command, or cannot be read, is the answer to words
+pub no-command-answers : {A : Type 0} (of : A → Outcome) (words : List (List ℕ)) (old : ShelfState) (fault : Fault)
+    → (fault ≡ of_none NoMemory) ⊎ ((fault ≡ of_none Usage) × IsNoCommand words) → IsAnswer of words old old (Err fault)
+no-command-answers of words old fault (inl memory) = refused-answers of words old old fault (memory-answers words old fault memory)
+no-command-answers of words old fault (inr usage) = refused-answers of words old old fault (words-answer words old fault usage.0 usage.1)

@@ -73,6 +73,25 @@ module _ {A B : Type 0} (names more : List (List ℕ)) (First : Contents → Res
     kept = reads-then old mid new s.kept t.kept;
   }
 
+-- a stage over the files of some names is one over those of names among which they are
+module _ (names more : List (List ℕ)) (among : (fault : Fault) → IsOfFiles names fault → IsOfFiles more fault) where
+  among-or-memory : (fault : Fault) → IsOfFilesOrMemory names fault → IsOfFilesOrMemory more fault
+  among-or-memory fault (inl e) = inl e
+  among-or-memory fault (inr h) = inr (among fault h)
+
+  pub stage-among : {A : Type 0} (Stage : Contents → Result A Fault → Type 0) (old new : ShelfState) (result : Result A Fault) → IsStage names Stage old new result
+      → IsStage more Stage old new result
+  stage-among Stage old new (Ok a) s = record { gives = s.gives; refuses = tt; named = tt; unread = tt; quiet = s.quiet; counted = tt; kept = s.kept }
+  stage-among Stage old new (Err fault) s = record {
+    gives = tt;
+    refuses = s.refuses;
+    named = among-or-memory fault s.named;
+    unread = s.unread;
+    quiet = tt;
+    counted = s.counted;
+    kept = s.kept;
+  }
+
 -- the value of a stage is made into another
 pub stage-value : {A B : Type 0} (names : List (List ℕ)) (First : Contents → Result A Fault → Type 0) (value : A → B) (old new : ShelfState) (a : A)
     → IsStage names First old new (Ok a) → IsStage names (Then First (λ a files result. result ≡ Ok (value a))) old new (Ok (value a))
@@ -162,9 +181,11 @@ module _ {A : Type 0} (Reading : List ℕ → Result A Fault → Type 0) (name :
     kept = kept;
   }
 
-  pub stage-loaded : (bytes : List ℕ) (result : Result A Fault) → IsContent old name bytes → length bytes ≤ file_limit → new.read_faults ≡ old.read_faults → OnlyReads old new
-      → IsReading (name ∷ []) (Reading bytes) result → IsStage (name ∷ []) (OfFile Reading name) old new result
-  stage-loaded bytes (Ok a) is le quiet kept r = record {
+  -- its faults may be of other files that were read
+  pub stage-loaded-of : (names : List (List ℕ)) (bytes : List ℕ) (result : Result A Fault) → IsContent old name bytes → length bytes ≤ file_limit
+      → new.read_faults ≡ old.read_faults → OnlyReads old new
+      → IsReading names (Reading bytes) result → IsStage names (OfFile Reading name) old new result
+  stage-loaded-of names bytes (Ok a) is le quiet kept r = record {
     gives = λ files told. of-content Reading name files bytes (Ok a) (is files told) le r.gives;
     refuses = tt;
     named = tt;
@@ -173,12 +194,16 @@ module _ {A : Type 0} (Reading : List ℕ → Result A Fault → Type 0) (name :
     counted = tt;
     kept = kept;
   }
-  stage-loaded bytes (Err fault) is le quiet kept r = record {
+  stage-loaded-of names bytes (Err fault) is le quiet kept r = record {
     gives = tt;
-    refuses = read-refuses Reading name old new bytes fault is le r.refuses;
-    named = text-named (name ∷ []) (λ f. Reading bytes (Err f)) fault r.refuses;
-    unread = text-unread (name ∷ []) (λ f. Reading bytes (Err f)) new fault r.refuses;
+    refuses = read-refuses Reading name {names = names} old new bytes fault is le r.refuses;
+    named = text-named names (λ f. Reading bytes (Err f)) fault r.refuses;
+    unread = text-unread names (λ f. Reading bytes (Err f)) new fault r.refuses;
     quiet = tt;
     counted = inl quiet;
     kept = kept;
   }
+
+  pub stage-loaded : (bytes : List ℕ) (result : Result A Fault) → IsContent old name bytes → length bytes ≤ file_limit → new.read_faults ≡ old.read_faults → OnlyReads old new
+      → IsReading (name ∷ []) (Reading bytes) result → IsStage (name ∷ []) (OfFile Reading name) old new result
+  stage-loaded bytes result is le quiet kept r = stage-loaded-of (name ∷ []) bytes result is le quiet kept r

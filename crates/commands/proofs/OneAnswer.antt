@@ -9,7 +9,7 @@ use Rattle.psl_base.specs.Shelf.{Contents}
 use Rattle.psl_base.specs.declared.place.Place.{Place}
 use Rattle.command_line.proofs.Meanings.{one_meaning}
 use Rattle.command_line.specs.Commands.{Meaning}
-use Rattle.command_line.specs.Commands.Meaning.{wave, show, show_netlist, gen, prove}
+use Rattle.command_line.specs.Commands.Meaning.{wave, show, show_netlist, gen, prove, check}
 use Rattle.command_line.specs.declared.Limits.{Limits}
 use Rattle.findings.proofs.Faults.{one_fault as one_size_fault, not_both as within_or_not}
 use Rattle.psl_grammar.specs.declared.tree.UnitTree.{UnitTree}
@@ -36,9 +36,12 @@ use Rattle.psl_parser.specs.declared.fault.ParseFault.{ParseFault}
 use Rattle.psl_tree.specs.declared.directive.Directive.{Directive}
 use Rattle.psl_tree.specs.declared.name.Name.{Name}
 use Rattle.commands.proofs.Alike.{Agree, alike-err, alike-ok, agree-faults, agree-told, agree-then, agree-content}
+use Rattle.commands.proofs.SameChecks.{one-checked-of}
 use Rattle.commands.proofs.SameOwed.{are-within, same-first-refused}
 use Rattle.commands.proofs.SameUnits.{SameUnit, all-judgeable, same-first, same-said}
 use Rattle.commands.specs.Diagnostics.{lex_diagnostic, parse_diagnostic, layer_diagnostic, judge_diagnostic, vcd_diagnostic, blif_diagnostic}
+use Rattle.certificate.specs.declared.answer.CertAnswer.{CertAnswer}
+use Rattle.commands.specs.Checks.{CertReading, CertStage, CheckStage}
 use Rattle.commands.specs.Commands.{CommandStage, FirstRefusal, MeaningStage, findings_outcome}
 use Rattle.commands.specs.Faults.{of_none}
 use Rattle.commands.specs.Generated.{GeneratedStage}
@@ -54,7 +57,7 @@ use Rattle.commands.specs.declared.inputs.Inputs.{Inputs}
 use Rattle.commands.specs.declared.outcome.Fault.{Fault}
 use Rattle.commands.specs.declared.outcome.Line.{Line}
 use Rattle.commands.specs.declared.outcome.Outcome.{Outcome}
-use Rattle.commands.specs.declared.outcome.Outcome.TheVariants.{Wave, Shown}
+use Rattle.commands.specs.declared.outcome.Outcome.TheVariants.{Wave, Checked, Shown}
 use Rattle.commands.specs.declared.prove.Found.{Found}
 use Rattle.commands.specs.declared.reason.Reason.{Reason}
 use Rattle.commands.specs.declared.reason.Reason.TheVariants.{Usage, NoMemory}
@@ -274,7 +277,7 @@ one-directives-of unit i j same =
     (one-directives unit i.netlist.names i.tree j.tree same.trees))
     (λ u v s a b h k. alike-ok SameSubject (subject_of i u) (subject_of j v) a b h k (record { netlists = same.netlists; directives = s }))
 
-one-subject : (unit netlist : List ℕ) (files : Contents) → Agree SameSubject (SubjectStage unit netlist files) (SubjectStage unit netlist files)
+pub one-subject : (unit netlist : List ℕ) (files : Contents) → Agree SameSubject (SubjectStage unit netlist files) (SubjectStage unit netlist files)
 one-subject unit netlist files =
     agree-then SameCircuit SameSubject (CircuitStage unit netlist files) (CircuitStage unit netlist files) (SubjectReading unit) (SubjectReading unit)
     (one-circuit unit netlist files) (one-directives-of unit)
@@ -295,6 +298,21 @@ one-found : (unit netlist : List ℕ) (limits : Limits) (i j : Subject) → Same
 one-found unit netlist limits i j same =
     subst (λ (d : Design). Agree (Any-two {A = Found}) (FoundReading unit netlist limits i) (FoundReading unit netlist limits (record { netlist = d; directives = j.directives }))) same.netlists
     (one-found-of unit netlist limits i.netlist i.directives j.directives same.directives)
+
+-- certificates
+
+one-checked : (unit netlist : List ℕ) (number : ℕ) (i j : Subject) → SameSubject i j → (bytes : List ℕ)
+    → Agree (Any-two {A = CertAnswer}) (CertReading unit netlist number i bytes) (CertReading unit netlist number j bytes)
+one-checked unit netlist number i j same bytes =
+    subst (λ (d : Design). Agree (Any-two {A = CertAnswer}) (CertReading unit netlist number i bytes)
+    (CertReading unit netlist number (record { netlist = d; directives = j.directives }) bytes)) same.netlists
+    (one-checked-of unit netlist number i.netlist bytes i.directives j.directives same.directives)
+
+one-cert : (unit netlist : List ℕ) (number : ℕ) (certificate : List ℕ) (files : Contents) (i j : Subject) → SameSubject i j
+    → Agree (Any-two {A = CertAnswer}) (CertStage unit netlist number certificate i files) (CertStage unit netlist number certificate j files)
+one-cert unit netlist number certificate files i j same =
+    agree-content (Any-two {A = CertAnswer}) (CertReading unit netlist number i) (CertReading unit netlist number j) certificate (files certificate)
+    (one-checked unit netlist number i j same)
 
 -- commands: the stage of one gives one fault, or outcomes
 
@@ -325,9 +343,14 @@ one-meaning (show_netlist unit netlist) files =
     one-outcome (Any-two {A = List Line}) (ShowNetlistStage unit netlist) Shown files
     (one-loaded SameCircuit (CircuitStage unit netlist) (λ circuit. LinesReading unit circuit.tree circuit.netlist.names) files (one-circuit unit netlist files)
     (λ i j same. one-lines unit i.tree j.tree i.netlist.names j.netlist.names same.trees (ap (λ (d : Design). d.names) same.netlists)))
-one-meaning (prove unit netlist limits) files =
+one-meaning (prove unit netlist limits cert) files =
     one-outcome (Any-two {A = Found}) (ProveStage unit netlist limits) (findings_outcome limits) files
     (one-loaded SameSubject (SubjectStage unit netlist) (FoundReading unit netlist limits) files (one-subject unit netlist files) (one-found unit netlist limits))
+one-meaning (check unit netlist number certificate) files =
+    one-outcome (Any-two {A = CertAnswer}) (CheckStage unit netlist number certificate) (Checked number) files
+    (agree-then SameSubject (Any-two {A = CertAnswer}) (SubjectStage unit netlist files) (SubjectStage unit netlist files)
+    (λ i. CertStage unit netlist number certificate i files) (λ j. CertStage unit netlist number certificate j files)
+    (one-subject unit netlist files) (one-cert unit netlist number certificate files))
 one-meaning (gen seed samples) files = one-made seed samples
 
 -- words are one command at most

@@ -3,12 +3,14 @@
 use Rattle.std.proofs.Common.{◌≡◌, refl, sym, ◌∙◌, ap, subst, ℕ, zero, suc, Bool, true, cond, List, [], ◌∷◌, map, take, Option, None, Some}
 use Rattle.std.specs.Prelude.{All, slice_get}
 use Rattle.std.proofs.lemmas.List.Elements.{All-nil, All-cons, All-head, All-tail}
-use Rattle.findings.specs.Assertions.{is_assertion}
+use Rattle.alternating_theory.specs.Built.{built}
+use Rattle.alternating_theory.specs.Dual.{opposite_automaton}
 use Rattle.findings.specs.Sizes.{AreWithin, IsFirstRefused, IsRefused, IsWithin}
 use Rattle.findings.specs.declared.sizes.SizeFault.{SizeFault}
 use Rattle.findings.specs.declared.sizes.SizeFault.TheVariants as sizes
 use Rattle.netlist.specs.Design.{Design}
-use Rattle.owed.specs.Owed.{assumptions, conjunction, is_assumption, owed, plain_owed, under}
+use Rattle.owed.specs.Owed.{assumptions, conjunction, is_assertion, is_assumption, owed, plain_owed, under}
+use Rattle.owed.specs.Violations.{violation_of}
 use Rattle.work_limits.specs.Sized as sized
 use Rattle.work_limits.specs.Sized.{IsSized}
 use Rattle.work_limits.specs.declared.sizes.LimitFault.TheVariants as limits
@@ -20,7 +22,7 @@ use Rattle.psl_tree.specs.declared.directive.Directive.{Directive}
 use Rattle.psl_tree.specs.declared.directive.Kind.{Kind}
 use Rattle.commands.proofs.SameUnits.{SameUnit, heads, none-some, same-take, tails, there}
 
-same-kind : (d e : Directive) → directive_of d ≡ directive_of e → d.kind ≡ e.kind
+pub same-kind : (d e : Directive) → directive_of d ≡ directive_of e → d.kind ≡ e.kind
 same-kind d e s = ap (λ (n : Numbered). n.kind) s
 
 same-formula : (d e : Directive) → directive_of d ≡ directive_of e → formula_of d.formula ≡ formula_of e.formula
@@ -36,10 +38,14 @@ same-assumptions (d ∷ u) (e ∷ v) s =
     ∙ ap (λ (f : Formula). cond (is_assumption e.kind) (f ∷ assumptions u) (assumptions u)) (same-formula d e same)
     ∙ ap (λ (fs : List Formula). cond (is_assumption e.kind) (formula_of e.formula ∷ fs) fs) (same-assumptions u v (tails d e u v s))
 
-same-owed : (u v : List Directive) (d e : Directive) → SameUnit u v → directive_of d ≡ directive_of e → plain_owed u d ≡ plain_owed v e
+pub same-owed : (u v : List Directive) (d e : Directive) → SameUnit u v → directive_of d ≡ directive_of e → plain_owed u d ≡ plain_owed v e
 same-owed u v d e s same =
     ap (λ (fs : List Formula). plain (under (conjunction fs) (formula_of d.formula)) None) (same-assumptions u v s)
     ∙ ap (λ (f : Formula). plain (under (conjunction (assumptions v)) f) None) (same-formula d e same)
+
+-- so are the words that violate it
+pub same-violation : (u v : List Directive) (d e : Directive) → SameUnit u v → directive_of d ≡ directive_of e → violation_of u d ≡ violation_of v e
+same-violation u v d e s same = ap (λ (f : Formula). opposite_automaton (built f)) (same-owed u v d e s same)
 
 module _ (design : Design) (depth : ℕ) (u v : List Directive) (s : SameUnit u v) where
   same-within : (d e : Directive) → directive_of d ≡ directive_of e → IsWithin design depth u d → IsWithin design depth v e

@@ -92,7 +92,7 @@ place-numbered (d ∷ u) number = by (d.number == number) (place-numbered u numb
     by true h = refl
     by false h = h
 
-same-place : (u v : List Directive) (number : ℕ) → SameUnit u v → directive_place u number ≡ directive_place v number
+pub same-place : (u v : List Directive) (number : ℕ) → SameUnit u v → directive_place u number ≡ directive_place v number
 same-place u v number s = place-numbered u number ∙ ap (λ (all : List Numbered). numbered_place all number) s ∙ sym (place-numbered v number)
 
 abbrev said-of : Reason → Option Place → Diagnostic

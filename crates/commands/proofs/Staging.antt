@@ -70,8 +70,8 @@ module _ {A : Type 0} (Reading : List ℕ → Result A Fault → Type 0) (name :
       (λ files told. of-content files bytes (Err fault) (is files told) le h)
 
   -- what is refused of a content that was read
-  pub read-refuses : (old new : ShelfState) (bytes : List ℕ) (fault : Fault) → IsContent old name bytes → length bytes ≤ file_limit
-      → TextFails (name ∷ []) (λ f. Reading bytes (Err f)) fault → Refuses old new (OfFile Reading name) fault
+  pub read-refuses : {names : List (List ℕ)} (old new : ShelfState) (bytes : List ℕ) (fault : Fault) → IsContent old name bytes → length bytes ≤ file_limit
+      → TextFails names (λ f. Reading bytes (Err f)) fault → Refuses old new (OfFile Reading name) fault
   read-refuses old new bytes fault is le (inl e) = subst (λ (f : Fault). Refuses old new (OfFile Reading name) f) (sym e) tt
   read-refuses old new bytes fault is le (inr t) = text-refuses old new bytes fault is le (cause_of fault.reason) t.cause t.refusal
 

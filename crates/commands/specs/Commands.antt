@@ -2,9 +2,11 @@
 use Rattle.std.specs.Prelude.{◌≡◌, ℕ, ◌⊎◌, List, [], ◌∷◌, Option, Some, Result, Ok, Err}
 use Rattle.command_line.specs.Commands as words_of
 use Rattle.command_line.specs.Commands.{Meaning}
-use Rattle.command_line.specs.Commands.Meaning.{wave, show, show_netlist, gen, prove}
+use Rattle.command_line.specs.Commands.Meaning.{wave, show, show_netlist, gen, prove, check}
 use Rattle.command_line.specs.declared.Limits.{Limits}
 use Rattle.psl_base.specs.Shelf.{Contents, ShelfState}
+use Rattle.certificate.specs.declared.answer.CertAnswer.{CertAnswer}
+use Rattle.commands.specs.Checks.{CheckStage}
 use Rattle.commands.specs.Endings.{Explained}
 use Rattle.commands.specs.Faults.{of_none, fault_of}
 use Rattle.commands.specs.Generated.{GeneratedStage}
@@ -14,15 +16,15 @@ use Rattle.commands.specs.Waves.{WaveStage, ShowStage, ShowNetlistStage}
 use Rattle.commands.specs.declared.outcome.Fault.{Fault}
 use Rattle.commands.specs.declared.outcome.Line.{Line}
 use Rattle.commands.specs.declared.outcome.Outcome.{Outcome}
-use Rattle.commands.specs.declared.outcome.Outcome.TheVariants.{Nothing, Wave, Findings, Shown}
+use Rattle.commands.specs.declared.outcome.Outcome.TheVariants.{Nothing, Wave, Findings, Checked, Shown}
 use Rattle.commands.specs.declared.prove.Found.{Found}
 use Rattle.commands.specs.declared.reason.Reason.TheVariants.{Usage, WriteFault, NoMemory}
 use Rattle.vcd_reader.specs.Rules.{sample_limit}
 use Rattle.wave_judge.specs.declared.verdict.Verdict.{Verdict}
 
 -- The words are this command: `wave UNIT RECORDING`, `show UNIT NAMES`, `show UNIT NETLIST --netlist`,
--- `prove UNIT NETLIST` with its limits, or `gen SEED SAMPLES` with a seed below 2^31 and a number of samples from 1 to
--- the limit on samples.
+-- `prove UNIT NETLIST` with its limits and maybe a prefix, `check UNIT NETLIST NUMBER CERTIFICATE` with a number from 1 to
+-- 2^32 - 1, or `gen SEED SAMPLES` with a seed below 2^31 and a number of samples from 1 to the limit on samples.
 abbrev pub IsCommand : List (List ℕ) → Meaning → Type 0
 IsCommand words meaning = words_of.IsCommand sample_limit words meaning
 
@@ -35,7 +37,8 @@ abbrev pub files_of : Meaning → List (List ℕ)
 files_of (wave unit recording) = unit ∷ recording ∷ []
 files_of (show unit names) = unit ∷ names ∷ []
 files_of (show_netlist unit netlist) = unit ∷ netlist ∷ []
-files_of (prove unit netlist limits) = unit ∷ netlist ∷ []
+files_of (prove unit netlist limits cert) = unit ∷ netlist ∷ []
+files_of (check unit netlist number certificate) = unit ∷ netlist ∷ certificate ∷ []
 files_of (gen seed samples) = []
 
 -- the outcome of `prove`
@@ -49,8 +52,10 @@ MeaningStage (wave unit recording) files result =
 MeaningStage (show unit names) files result = Then (ShowStage unit names) (λ lines _ outcome. outcome ≡ Ok (Shown lines)) files result
 MeaningStage (show_netlist unit netlist) files result =
     Then (ShowNetlistStage unit netlist) (λ lines _ outcome. outcome ≡ Ok (Shown lines)) files result
-MeaningStage (prove unit netlist limits) files result =
+MeaningStage (prove unit netlist limits cert) files result =
     Then (ProveStage unit netlist limits) (λ found _ outcome. outcome ≡ Ok (findings_outcome limits found)) files result
+MeaningStage (check unit netlist number certificate) files result =
+    Then (CheckStage unit netlist number certificate) (λ answer _ outcome. outcome ≡ Ok (Checked number answer)) files result
 MeaningStage (gen seed samples) files result = GeneratedStage seed samples result
 
 -- what is known of a command's outcome whatever the files tell: its kind, and that of `gen` is exact
@@ -58,8 +63,10 @@ abbrev pub MeaningOutcome : Meaning → Outcome → Type 0
 MeaningOutcome (wave unit recording) outcome = (verdicts : List Verdict) × (outcome ≡ Wave verdicts)
 MeaningOutcome (show unit names) outcome = (lines : List Line) × (outcome ≡ Shown lines)
 MeaningOutcome (show_netlist unit netlist) outcome = (lines : List Line) × (outcome ≡ Shown lines)
-MeaningOutcome (prove unit netlist limits) outcome =
+MeaningOutcome (prove unit netlist limits cert) outcome =
     (found : Found) × (outcome ≡ findings_outcome limits found)
+MeaningOutcome (check unit netlist number certificate) outcome =
+    (answer : CertAnswer) × (outcome ≡ Checked number answer)
 MeaningOutcome (gen seed samples) outcome = GeneratedStage seed samples (Ok outcome)
 
 -- what the words give over contents: an outcome, or the first refusal

@@ -1,6 +1,8 @@
 -- How a run ends: its status, what it prints, and why a fault came.
 use Rattle.std.specs.Prelude.{◌≡◌, ◌≢◌, ◌⊎◌, Bool, true, false, ◌||◌, ℕ, List, Option, None, Some, if◌then◌else◌}
 use Rattle.std.specs.List.{list_all, list_any}
+use Rattle.certificate.specs.declared.answer.CertAnswer.{CertAnswer}
+use Rattle.certificate.specs.declared.answer.CertAnswer.TheVariants.{Passed, Refused}
 use Rattle.findings.specs.declared.entry.FindingEntry.{FindingEntry}
 use Rattle.prover.specs.declared.finding.Finding.{Finding}
 use Rattle.prover.specs.declared.finding.Finding.TheVariants as finding
@@ -14,7 +16,7 @@ use Rattle.commands.specs.Stages.{OfTold, HasCause}
 use Rattle.commands.specs.Text.{text_of, line_of}
 use Rattle.commands.specs.declared.outcome.Fault.{Fault}
 use Rattle.commands.specs.declared.outcome.Outcome.{Outcome}
-use Rattle.commands.specs.declared.outcome.Outcome.TheVariants.{Nothing, Wave, Findings, Shown, Made}
+use Rattle.commands.specs.declared.outcome.Outcome.TheVariants.{Nothing, Wave, Findings, Checked, Shown, Made}
 use Rattle.commands.specs.declared.reason.Reason.TheVariants.{WriteFault, NoMemory}
 use Rattle.wave_judge.specs.declared.verdict.Verdict.{Verdict}
 
@@ -49,10 +51,16 @@ findings_status entries =
     else if list_all (λ entry. is_proved entry.finding) entries then 0
     else 6
 
+-- 0 where the certificate is passed, else 1
+abbrev pub answer_status : CertAnswer → ℕ
+answer_status Passed = 0
+answer_status (Refused reason line) = 1
+
 abbrev pub outcome_status : Outcome → ℕ
 outcome_status Nothing = 0
 outcome_status (Wave verdicts) = verdicts_status verdicts
 outcome_status (Findings entries columns depth visits) = findings_status entries
+outcome_status (Checked number answer) = answer_status answer
 outcome_status (Shown lines) = 0
 outcome_status (Made seed samples bytes verdicts) = verdicts_status verdicts
 
@@ -84,21 +92,27 @@ AddsSome line old new = AddsAll line old new ⊎ AddsPart line old new
 abbrev pub IsToTell : Option Fault → Fault → Type 0
 IsToTell had fault = (had ≡ Some fault) ⊎ (fault ≡ of_none NoMemory)
 
+-- the first bytes of an outcome's text were added, or none since a file before could not be written
+abbrev pub AddsText : Type 0 → Outcome → SinkState → SinkState → Type 0
+AddsText Unwritten outcome out out' = AddsPart (text_of outcome) out out' ⊎ (Unwritten × (out' ≡ out))
+
 -- What is added to the two outputs by the end of a run. Without a fault the outcome's text, whole, and nothing else. With
 -- one the fault's line, whole, on the second output and nothing on the first; but where writing failed, the first bytes
 -- of the outcome's text and of the fault's line, or the first bytes of the line of a fault that was to be told alone.
-abbrev pub PrintsFault : Cause → (Fault → Type 0) → Outcome → Fault → SinkState → SinkState → SinkState → SinkState → Type 0
-PrintsFault OfWriting WasToBeTold outcome fault out out' err err' =
-    (AddsPart (text_of outcome) out out' × AddsSome (line_of fault) err err')
+-- `Unwritten` says that a file could not be written.
+abbrev pub PrintsFault : Cause → Type 0 → (Fault → Type 0) → Outcome → Fault → SinkState → SinkState → SinkState → SinkState → Type 0
+PrintsFault OfWriting Unwritten WasToBeTold outcome fault out out' err err' =
+    (AddsText Unwritten outcome out out' × AddsSome (line_of fault) err err')
     ⊎ ((out' ≡ out) × ((other : Fault) × WasToBeTold other × AddsPart (line_of other) err err'))
-PrintsFault OfWords _ _ fault out out' err err' = (out' ≡ out) × AddsAll (line_of fault) err err'
-PrintsFault OfReading _ _ fault out out' err err' = (out' ≡ out) × AddsAll (line_of fault) err err'
-PrintsFault OfText _ _ fault out out' err err' = (out' ≡ out) × AddsAll (line_of fault) err err'
-PrintsFault OfMemory _ _ fault out out' err err' = (out' ≡ out) × AddsAll (line_of fault) err err'
+PrintsFault OfWords _ _ _ fault out out' err err' = (out' ≡ out) × AddsAll (line_of fault) err err'
+PrintsFault OfReading _ _ _ fault out out' err err' = (out' ≡ out) × AddsAll (line_of fault) err err'
+PrintsFault OfText _ _ _ fault out out' err err' = (out' ≡ out) × AddsAll (line_of fault) err err'
+PrintsFault OfMemory _ _ _ fault out out' err err' = (out' ≡ out) × AddsAll (line_of fault) err err'
 
-abbrev pub Prints : (Fault → Type 0) → Outcome → Option Fault → SinkState → SinkState → SinkState → SinkState → Type 0
-Prints WasToBeTold outcome None out out' err err' = AddsAll (text_of outcome) out out' × (err' ≡ err)
-Prints WasToBeTold outcome (Some fault) out out' err err' = PrintsFault (cause_of fault.reason) WasToBeTold outcome fault out out' err err'
+abbrev pub Prints : Type 0 → (Fault → Type 0) → Outcome → Option Fault → SinkState → SinkState → SinkState → SinkState → Type 0
+Prints Unwritten WasToBeTold outcome None out out' err err' = AddsAll (text_of outcome) out out' × (err' ≡ err)
+Prints Unwritten WasToBeTold outcome (Some fault) out out' err err' =
+    PrintsFault (cause_of fault.reason) Unwritten WasToBeTold outcome fault out out' err err'
 
 -- the two outputs after a run that had found this out: its text was printed, or writing failed
 pub record EndsWith (found : Outcome) (outcome : Outcome) (fault : Option Fault) (written : Fault) (write_cause : Type 0) : Type 0 where

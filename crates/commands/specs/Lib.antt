@@ -1,3 +1,4 @@
+pub mod Checks
 pub mod Commands
 pub mod Diagnostics
 pub mod Endings
@@ -6,6 +7,7 @@ pub mod Generated
 pub mod Planning
 pub mod Provings
 pub mod Rows
+pub mod Saved
 pub mod Stages
 pub mod Text
 pub mod Waves

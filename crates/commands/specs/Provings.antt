@@ -22,12 +22,6 @@ use Rattle.commands.specs.declared.subject.Subject.{Subject}
 abbrev pub options_of : Limits → Options
 options_of limits = record { depth = limits.depth; visits = limits.visits; steps = limits.steps }
 
--- they are within what the words may ask
-pub record AreInRange (limits : Limits) : Type 0 where
-  pub some : 1 ≤ limits.depth
-  pub depth : limits.depth ≤ 1000
-  pub visits : limits.visits ≤ 16
-
 -- what is told of an assertion that is too large: at its place in the text, or of the netlist
 abbrev pub size_fault : List ℕ → List ℕ → SizeFault → Fault
 size_fault unit netlist (sizes.SereTooLarge place) = fault_in unit (at reasons.SereTooLarge place)

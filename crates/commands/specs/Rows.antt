@@ -4,7 +4,8 @@ use Rattle.commands.specs.declared.reason.Reason.{Reason}
 use Rattle.commands.specs.declared.reason.Reason.TheVariants.{Usage, ReadFault, WriteFault, TooLong, NoMemory, BadByte}
 use Rattle.commands.specs.declared.reason.Reason.TheVariants.{Unended, NumberTooLarge, Syntax, Kind, UnknownName}
 use Rattle.commands.specs.declared.reason.Reason.TheVariants.{Ambiguous, DeclaredTwice, EmptyRange, ConstantTooWide}
-use Rattle.commands.specs.declared.reason.Reason.TheVariants.{TooLarge, SereTooLarge, AutomatonTooLarge, UnrollTooLarge, NestedTooDeep}
+use Rattle.commands.specs.declared.reason.Reason.TheVariants.{TooLarge, SereTooLarge, AutomatonTooLarge, UnrollTooLarge}
+use Rattle.commands.specs.declared.reason.Reason.TheVariants.{FormulaTooLarge, NestedTooDeep}
 use Rattle.commands.specs.declared.reason.Reason.TheVariants.{StatementTooLong, UnknownKeyword, MissingEnd, BadVar}
 use Rattle.commands.specs.declared.reason.Reason.TheVariants.{CodeSizeDiffers, ScopeNotOpen, BadTime, TimeFalls}
 use Rattle.commands.specs.declared.reason.Reason.TheVariants.{CodeNotDeclared, BadValue, VectorTooLong}
@@ -54,6 +55,7 @@ row_of AutomatonTooLarge = row (codes "14 AutomatonTooLarge") 7 OfText
 row_of UnrollTooLarge = row (codes "15 UnrollTooLarge") 7 OfText
 row_of NestedTooDeep = row (codes "16 NestedTooDeep") 7 OfText
 row_of StatementTooLong = row (codes "17 StatementTooLong") 7 OfText
+row_of FormulaTooLarge = row (codes "19 FormulaTooLarge") 7 OfText
 row_of UnknownKeyword = row (codes "V1 UnknownKeyword") 5 OfText
 row_of MissingEnd = row (codes "V2 MissingEnd") 5 OfText
 row_of BadVar = row (codes "V3 BadVar") 5 OfText

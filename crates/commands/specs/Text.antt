@@ -1,6 +1,10 @@
 -- What is printed: the lines of an outcome, and the line of a fault.
 use Rattle.std.specs.Prelude.{Bool, true, false, ℕ, suc, List, [], ◌∷◌, ◌++◌, length, Option, None, Some, codes, decimal}
 use Rattle.std.specs.List.{flat_map}
+use Rattle.certificate.specs.declared.answer.CertAnswer.{CertAnswer}
+use Rattle.certificate.specs.declared.answer.CertAnswer.TheVariants.{Passed, Refused}
+use Rattle.certificate.specs.declared.answer.CertReason.{CertReason}
+use Rattle.certificate.specs.declared.answer.CertReason.TheVariants as certs
 use Rattle.clauses.specs.Logs.{lemmas}
 use Rattle.findings.specs.Columns.{ShowColumns}
 use Rattle.findings.specs.declared.entry.FindingEntry.{FindingEntry}
@@ -16,7 +20,7 @@ use Rattle.commands.specs.Rows.{fault_words}
 use Rattle.commands.specs.declared.outcome.Fault.{Fault}
 use Rattle.commands.specs.declared.outcome.Line.{Line}
 use Rattle.commands.specs.declared.outcome.Outcome.{Outcome}
-use Rattle.commands.specs.declared.outcome.Outcome.TheVariants.{Nothing, Wave, Findings, Shown, Made}
+use Rattle.commands.specs.declared.outcome.Outcome.TheVariants.{Nothing, Wave, Findings, Checked, Shown, Made}
 use Rattle.wave_judge.specs.Levels.{level_of}
 use Rattle.wave_judge.specs.declared.verdict.Level.{Level}
 use Rattle.wave_judge.specs.declared.verdict.Level.TheVariants.{HoldsStrongly, Holds, Pending, Fails}
@@ -114,6 +118,26 @@ abbrev pub entry_text : List Name → ℕ → ℕ → FindingEntry → List ℕ
 entry_text columns depth visits entry =
     head Assert entry.number entry.label ++ finding_text columns depth visits entry.finding
 
+-- the code and the name of a reason for which a certificate is refused
+abbrev pub reason_words : CertReason → List ℕ
+reason_words certs.BadHeader = codes "C1 BadHeader"
+reason_words certs.BadLine = codes "C2 BadLine"
+reason_words certs.WrongAssertion = codes "C3 WrongAssertion"
+reason_words certs.LemmaFails = codes "C4 LemmaFails"
+reason_words certs.NoEmptyClause = codes "C5 NoEmptyClause"
+reason_words certs.EndsInside = codes "C6 EndsInside"
+reason_words certs.TrailingBytes = codes "C7 TrailingBytes"
+reason_words certs.TooManyLive = codes "C8 TooManyLive"
+reason_words certs.BadDrop = codes "C9 BadDrop"
+
+-- what is answered to a certificate
+abbrev pub cert_answer : CertAnswer → List ℕ
+cert_answer Passed = codes "passed"
+cert_answer (Refused reason line) = codes "refused " ++ reason_words reason ++ codes " line " ++ decimal line
+
+abbrev pub checked_line : ℕ → CertAnswer → List ℕ
+checked_line number answer = head Assert number None ++ cert_answer answer ++ line_feed
+
 -- each valuation that is shown has a value for the signal of each column
 abbrev pub IsShowable : Outcome → Type 0
 IsShowable (Findings entries columns depth visits) = ShowColumns columns entries
@@ -124,6 +148,7 @@ abbrev pub text_of : Outcome → List ℕ
 text_of Nothing = []
 text_of (Wave verdicts) = flat_map verdict_line verdicts
 text_of (Findings entries columns depth visits) = flat_map (entry_text columns depth visits) entries
+text_of (Checked number answer) = checked_line number answer
 text_of (Shown lines) = flat_map meaning_line lines
 text_of (Made seed samples bytes verdicts) = made_line seed samples bytes ++ flat_map verdict_line verdicts
 

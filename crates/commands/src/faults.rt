@@ -1,6 +1,7 @@
 // What the faults of texts, recordings, netlists and directives are called in a run, and where they stand.
 ghost use Rattle.std.specs.Prelude.{◌≡◌, ◌≢◌, ◌⊎◌, ◌≤◌, length};
 ghost use Rattle.psl_base.specs.Places.{file_limit};
+ghost use Rattle.commands.specs.Checks as checks;
 ghost use Rattle.commands.specs.Diagnostics as spec;
 ghost use Rattle.commands.specs.Faults.{at, whole, fault_in, of_none};
 ghost use Rattle.commands.specs.Provings as provings;
@@ -135,19 +136,23 @@ pub fn layer_diagnostic(fault: LayerFault) -> Diagnostic
     }
 }
 
+/// What is said at the word of the first directive with a number.
+pub fn at_directive(reason: Reason, directives: &Unit, number: u32) -> Diagnostic
+    ensures { result ≡ checks.at_directive reason directives.now number }
+{
+    Diagnostic {
+        reason,
+        place: directive_place(directives, number),
+    }
+}
+
 /// What is said of a fault of directives: it stands at the word of the directive.
 pub fn judge_diagnostic(directives: &Unit, fault: JudgeFault) -> Diagnostic
     ensures { result ≡ spec.judge_diagnostic directives.now fault }
 {
     match fault {
-        JudgeFault::Sere(number) => Diagnostic {
-            reason: Reason::SereTooLarge,
-            place: directive_place(directives, number),
-        },
-        JudgeFault::Automaton(number) => Diagnostic {
-            reason: Reason::AutomatonTooLarge,
-            place: directive_place(directives, number),
-        },
+        JudgeFault::Sere(number) => at_directive(Reason::SereTooLarge, directives, number),
+        JudgeFault::Automaton(number) => at_directive(Reason::AutomatonTooLarge, directives, number),
         JudgeFault::NoMemory => whole(Reason::NoMemory),
     }
 }

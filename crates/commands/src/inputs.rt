@@ -90,7 +90,7 @@ fn load_unit<F: Shelf>(alloc: Global, files: &mut F, name: &str) -> Result<UnitT
 }
 
 /// The whole content of a file.
-fn load<F: Shelf>(alloc: Global, files: &mut F, name: &str) -> Result<Bytes, Fault>
+pub(crate) fn load<F: Shelf>(alloc: Global, files: &mut F, name: &str) -> Result<Bytes, Fault>
     ensures content { IfOk result (λ bytes. IsContent (F.state files.old) name.now bytes) }
     ensures within { IfOk result (λ bytes. length bytes ≤ file_limit) }
     ensures refuses { IfErr result (λ fault. LoadFails name.now (F.state files.old) (F.state files.new) fault) }

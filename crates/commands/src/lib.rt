@@ -2,22 +2,27 @@
 //! call, `run`, whose clauses are what a run promises.
 #![tactic(auto)]
 
+mod check;
+mod checked;
 mod directives;
 mod faults;
 mod finish;
 mod generated;
 mod inputs;
+mod laws;
 mod outcome;
 mod prove;
 mod reason;
 mod report;
 mod rows;
+mod saves;
 mod show;
 mod shown;
 mod subject;
 mod top;
 mod wave;
 
+pub use laws::{one_refusal, written_law};
 pub use outcome::{Fault, Line, Lines, Outcome, Report};
 pub use reason::Reason;
-pub use top::{one_refusal, run};
+pub use top::run;

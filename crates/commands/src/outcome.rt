@@ -1,4 +1,5 @@
 use crate::reason::Reason;
+use certificate::CertAnswer;
 use findings::Findings;
 use psl_base::{Items, Place, Text};
 use psl_tree::{Kind, Names};
@@ -18,6 +19,8 @@ pub enum Outcome {
         depth: u32,
         visits: u32,
     },
+    /// `check`: the number of the assertion that was asked for, and what is answered to the certificate.
+    Checked(u32, CertAnswer),
     /// `show`: what the directives of a text mean.
     Shown(Lines),
     /// `gen`: the seed, how many samples the made recording has, how many bytes its text has, and the

@@ -1,6 +1,8 @@
 ghost use Rattle.std.specs.Prelude.{◌∷◌, [], All, IfOk};
-ghost use Rattle.commands.specs.Provings.{AreInRange, FoundReading, IsFound, ProveStage};
+ghost use Rattle.command_line.specs.Ranges.{AreInRange};
+ghost use Rattle.commands.specs.Provings.{FoundReading, IsFound, ProveStage};
 ghost use Rattle.commands.specs.Stages.{IsStage, IsReading};
+ghost use Rattle.findings.specs.Assertions.{AreNumbered};
 ghost use Rattle.findings.specs.Columns.{ShowColumns};
 ghost use Rattle.findings.specs.Sizes.{AreWithin};
 ghost use Rattle.psl_tree.specs.Atoms.{AtomsOfFormula};
@@ -50,6 +52,7 @@ pub fn prove<F: Shelf>(alloc: Global, files: &mut F, request: Request<'_>) -> Re
 fn prove_subject(alloc: Global, subject: &Subject, request: Request<'_>) -> Result<Found, Fault>
     requires range { AreInRange request.limits }
     requires in_range { All (λ directive. AtomsOfFormula (AtomInRange subject.now.netlist.names) (formula_of directive.formula)) subject.now.directives }
+    requires numbered { AreNumbered subject.now.directives }
     ensures reading { IsReading (request.entry.unit.now ∷ request.entry.netlist.now ∷ [])
         (FoundReading request.entry.unit.now request.entry.netlist.now request.entry.limits subject.now) result }
     ensures shown { IfOk result (λ found. ShowColumns found.columns found.findings) }
@@ -74,6 +77,7 @@ fn find(
     requires range { AreInRange limits }
     requires within { AreWithin netlist.now limits.depth directives.now }
     requires in_range { All (λ directive. AtomsOfFormula (AtomInRange netlist.now.names) (formula_of directive.formula)) directives.now }
+    requires numbered { AreNumbered directives.now }
     ensures found { IfOk result (IsFound netlist.now limits directives.now) }
     ensures shown { IfOk result (λ found. ShowColumns found.columns found.findings) }
 {

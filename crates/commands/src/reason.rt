@@ -46,6 +46,8 @@ pub enum Reason {
     NestedTooDeep,
     /// The 2,049th token of a statement.
     StatementTooLong,
+    /// A netlist and an assertion of which a certificate's formula of the base or of the induction is too large.
+    FormulaTooLarge,
 
     /// A keyword of a recording that may not stand there.
     UnknownKeyword,

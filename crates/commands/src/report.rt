@@ -2,6 +2,7 @@ ghost use Rattle.std.specs.Prelude.{◌≡◌, ◌++◌, IfOk, OnOk};
 ghost use Rattle.std.specs.List.{flat_map};
 ghost use Rattle.commands.specs.Text.{text_of, line_of, made_line, meaning_line, verdict_line, head, label_part, kind_word, level_words, answer_word, about, IsShowable};
 
+use crate::checked::add_checked;
 use crate::outcome::{Fault, Line, Outcome};
 use crate::rows::row_of;
 use crate::shown::Shown;
@@ -33,6 +34,7 @@ pub fn report(alloc: Global, outcome: &Outcome) -> Result<Bytes, NoMemory>
             };
             shown.add_entries(&mut text, findings.as_slice())?;
         }
+        Outcome::Checked(number, answer) => add_checked(&mut text, *number, *answer)?,
         Outcome::Shown(lines) => add_meanings(&mut text, lines.as_slice())?,
         Outcome::Made(seed, samples, bytes, verdicts) => {
             add_made(&mut text, *seed, *samples, *bytes)?;

@@ -1,4 +1,5 @@
 ghost use Rattle.std.specs.Prelude.{◌∷◌, [], All, IfOk};
+ghost use Rattle.findings.specs.Assertions.{AreNumbered};
 ghost use Rattle.psl_tree.specs.Atoms.{AtomsOfFormula};
 ghost use Rattle.psl_tree.specs.Names.{AtomInRange};
 ghost use Rattle.psl_tree.specs.Trees.{formula_of};
@@ -29,6 +30,7 @@ pub fn load_subject<F: Shelf>(
 ) -> Result<Subject, Fault>
     ensures stage { IsStage (unit.now ∷ netlist.now ∷ []) (SubjectStage unit.now netlist.now) (F.state files.old) (F.state files.new) result }
     ensures in_range { IfOk result (λ subject. All (λ directive. AtomsOfFormula (AtomInRange subject.netlist.names) (formula_of directive.formula)) subject.directives) }
+    ensures numbered { IfOk result (λ subject. AreNumbered subject.directives) }
 {
     let circuit = load_circuit(alloc, files, unit, netlist)?;
     subject_of(alloc, circuit, unit)
@@ -38,6 +40,7 @@ pub fn load_subject<F: Shelf>(
 fn subject_of(alloc: Global, circuit: Circuit, unit: &str) -> Result<Subject, Fault>
     ensures reading { IsReading (unit.now ∷ []) (SubjectReading unit.now circuit) result }
     ensures in_range { IfOk result (λ subject. All (λ directive. AtomsOfFormula (AtomInRange subject.netlist.names) (formula_of directive.formula)) subject.directives) }
+    ensures numbered { IfOk result (λ subject. AreNumbered subject.directives) }
 {
     let Circuit { tree, netlist } = circuit;
     let directives = directives(alloc, &tree, netlist.names(), unit)?;

@@ -1,13 +1,20 @@
 ghost use Rattle.std.specs.Prelude.{◌≡◌, ◌≢◌, ◌⊎◌, ◌<◌, ℕ, List, Option, map, None, Some, IfOk, IfErr, IfSome, string_bytes};
 ghost use Rattle.psl_base.specs.Faults.{Rose};
-ghost use Rattle.psl_base.specs.Shelf.{Contents, OnlyReads};
-ghost use Rattle.commands.specs.Commands.{FirstRefusal, HadToTell, IsOfCommand, IsOutcomeOf, IsNamed, IsNoCommand, findings_outcome};
+ghost use Rattle.psl_base.specs.Shelf.{Contents};
+ghost use Rattle.command_line.specs.Commands.{meaning_of};
+ghost use Rattle.command_line.specs.Ranges.{IsInRange};
+ghost use Rattle.commands.specs.Commands.{FirstRefusal, HadToTell, IsCommand, IsOfCommand, IsOutcomeOf, IsNamed, IsNoCommand, findings_outcome};
 ghost use Rattle.commands.specs.Endings.{status_of, Explained, Prints, IsOutOfMemory, IsDeviceStatus};
 ghost use Rattle.commands.specs.Faults.{of_none};
 ghost use Rattle.commands.specs.Planning.{IsAnswer};
+ghost use Rattle.commands.specs.Saved.{AreToWrite, FailsToWrite, IsSavedBy, certificates, prefix_of};
 ghost use Rattle.commands.specs.Stages.{OfTold, IsUnread};
 ghost use Rattle.commands.specs.Text.{text_of, IsShowable};
+ghost use Rattle.saving.specs.Saves.{file_of};
+ghost use Rattle.std.specs.Option.{option_map};
+ghost use Rattle.vcd_reader.specs.Rules.{sample_limit};
 
+use crate::check::{Question, check};
 use crate::faults::of_none;
 use crate::finish::{Planned, finish};
 use crate::generated::generate;
@@ -15,15 +22,16 @@ use crate::outcome::{Fault, Outcome, Report};
 use crate::prove::{Found, Request, prove};
 use crate::reason::Reason;
 use crate::report::report;
+use crate::saves::saves_of;
 use crate::show::{show, show_netlist};
 use crate::wave::wave;
-use command_line::{Command, Limits, WordsFault, read_words};
+use command_line::{Command, Limits, WordsFault, one_command, read_words};
 use psl_base::{Shelf, Sink};
 use std::alloc::Global;
 use vcd_reader::SAMPLE_LIMIT;
 
-/// Runs the command that the words after the program's name give. It reads files, prints what it finds
-/// out on `out` or a fault's line on `err`, and tells how it ended.
+/// Runs the command that the words after the program's name give. It reads files, writes those of certificates where that
+/// is asked for, prints what it finds out on `out` or a fault's line on `err`, and tells how it ended.
 pub fn run<F: Shelf, O: Sink, E: Sink>(
     alloc: Global,
     words: &[String],
@@ -32,11 +40,14 @@ pub fn run<F: Shelf, O: Sink, E: Sink>(
     err: &mut E,
 ) -> Report
     // The status follows from what was found out and the fault: without one it is 1 exactly where some assert or
-    // assume is neutral no or some assertion is violated, else 6 where some assertion is undecided, else 0.
+    // assume is neutral no, some assertion is violated or the certificate is refused, else 6 where some assertion is
+    // undecided, else 0.
     ensures status { result.status ≡ status_of result.outcome result.fault }
 
-    // Each fault has its cause; without one, nothing that is told is refused.
-    ensures cause { Explained (Rose (O.state out.old).faults (O.state out.new).faults ⊎ Rose (E.state err.old).faults (E.state err.new).faults)
+    // Each fault has its cause; without one, nothing that is told is refused. Writing has failed only where the count of
+    // an output rose, or where the certificate of a proved assertion was to be written and the count of writing rose.
+    ensures cause { Explained (Rose (O.state out.old).faults (O.state out.new).faults ⊎ (Rose (E.state err.old).faults (E.state err.new).faults
+        ⊎ FailsToWrite (map string_bytes words.now) result.outcome (F.state files.old) (F.state files.new)))
         (F.state files.old) (F.state files.new) (FirstRefusal (map string_bytes words.now)) result.fault }
 
     // Words that are no command are told so, whatever the files tell, unless that cannot be written.
@@ -52,7 +63,8 @@ pub fn run<F: Shelf, O: Sink, E: Sink>(
 
     // The verdicts are satisfaction of the sampled word in the three views, the lines what the directives mean, and each
     // finding has its evidence: a shortest run that violates what is owed; or a certificate, and all runs satisfy it; or
-    // the limit that was met, and no run that was looked for violates it.
+    // the limit that was met, and no run that was looked for violates it. What is answered to a certificate is its first
+    // refusal, or that it has none, and then all runs satisfy what is owed.
     ensures outcome { OfTold (F.state files.old) (λ told. IsOutcomeOf (map string_bytes words.now) told result.outcome) }
 
     // Without a fault something was found out, and with one nothing, unless it is of writing.
@@ -61,54 +73,76 @@ pub fn run<F: Shelf, O: Sink, E: Sink>(
 
     // What is printed is the outcome's text whole, or the fault's line, or their first bytes, or those of the line of a
     // fault that was to be told.
-    ensures printed { Prints (HadToTell (map string_bytes words.now) (F.state files.old) (F.state files.new)) result.outcome result.fault (O.state out.old) (O.state out.new) (E.state err.old) (E.state err.new) }
+    ensures printed { Prints (FailsToWrite (map string_bytes words.now) result.outcome (F.state files.old) (F.state files.new))
+        (HadToTell (map string_bytes words.now) (F.state files.old) (F.state files.new)) result.outcome result.fault (O.state out.old) (O.state out.new) (E.state err.old) (E.state err.new) }
 
     // A count that is larger after the run than before it comes with the status of such a fault.
-    ensures counted { ((F.state files.old).read_faults < (F.state files.new).read_faults) ⊎ (((O.state out.old).faults < (O.state out.new).faults) ⊎ ((E.state err.old).faults < (E.state err.new).faults))
+    ensures counted { ((F.state files.old).read_faults < (F.state files.new).read_faults) ⊎ (((F.state files.old).write_faults < (F.state files.new).write_faults) ⊎ (((O.state out.old).faults < (O.state out.new).faults) ⊎ ((E.state err.old).faults < (E.state err.new).faults)))
         → IsDeviceStatus result.status }
 
     // Where all contents are told and nothing fails, the answer is the first refusal, or that there is
     // none; want of memory alone may come instead.
     ensures complete { (told : Contents) → (F.state files.old).told ≡ Some told → (Rose (F.state files.old).read_faults (F.state files.new).read_faults → ⊥)
+        → (Rose (F.state files.old).write_faults (F.state files.new).write_faults → ⊥)
         → (Rose (O.state out.old).faults (O.state out.new).faults → ⊥) → (Rose (E.state err.old).faults (E.state err.new).faults → ⊥)
         → FirstRefusal (map string_bytes words.now) told result.fault ⊎ IsOutOfMemory result.fault }
 
-    // Every content is as before.
-    ensures kept { OnlyReads (F.state files.old) (F.state files.new) }
+    // Where a prefix is given, the certificate of each proved assertion is written to its name, `PREFIX.N.cert`, and every
+    // other content is as before; with a fault of writing the first ones are, and the next may be in part. With any other
+    // fault, and where nothing is to be written, every content is as before.
+    ensures saved { IsSavedBy (map string_bytes words.now) result.outcome result.fault (F.state files.old) (F.state files.new) }
 {
     let planned = plan(alloc, words, files);
-    finish(alloc, planned, out, err)
+    finish(alloc, planned, files, out, err)
 }
 
-/// What the command finds out, with its text. Nothing is written.
+/// What the command finds out, with the files that are to be written and its text. Nothing is written.
 fn plan<F: Shelf>(alloc: Global, words: &[String], files: &mut F) -> Result<Planned, Fault>
     ensures answer { IsAnswer (λ (made : Planned). made.outcome) (map string_bytes words.now) (F.state files.old) (F.state files.new) result }
     ensures text { IfOk result (λ made. made.text ≡ text_of made.outcome) }
+    ensures saves { IfOk result (λ made. AreToWrite (map string_bytes words.now) made.outcome (map file_of made.saves)) }
 {
-    let outcome = command(alloc, words, files)?;
-    made(alloc, outcome)
+    let command = command(alloc, words)?;
+    let outcome = outcome(alloc, files, command)?;
+    made(alloc, prefix_of(command), outcome)
 }
 
-/// The outcome of the command.
-fn command<F: Shelf>(alloc: Global, words: &[String], files: &mut F) -> Result<Outcome, Fault>
-    ensures showable { IfOk result IsShowable }
-    ensures answer { IsAnswer (λ (outcome : Outcome). outcome) (map string_bytes words.now) (F.state files.old) (F.state files.new) result }
+/// The command that the words are.
+fn command(alloc: Global, words: &[String]) -> Result<Command<'_>, Fault>
+    ensures command { IfOk result (λ command. IsCommand (map string_bytes words.entry.now) (meaning_of command)) }
+    ensures range { IfOk result (λ command. IsInRange sample_limit (meaning_of command)) }
+    ensures fault { IfErr result (λ fault. (fault ≡ of_none Reason.NoMemory)
+        ⊎ ((fault ≡ of_none Reason.Usage) × IsNoCommand (map string_bytes words.entry.now))) }
 {
+    one_command();
     match read_words(alloc, words, SAMPLE_LIMIT) {
-        Ok(Command::Wave { unit, recording }) => {
+        Ok(command) => Ok(command),
+        Err(WordsFault::Usage) => Err(of_none(Reason::Usage)),
+        Err(WordsFault::NoMemory) => Err(of_none(Reason::NoMemory)),
+    }
+}
+
+/// What a command finds out.
+fn outcome<F: Shelf>(alloc: Global, files: &mut F, command: Command<'_>) -> Result<Outcome, Fault>
+    requires { IsInRange sample_limit (meaning_of command) }
+    ensures showable { IfOk result IsShowable }
+    ensures answer { (words : List (List ℕ)) → IsCommand words (meaning_of command.entry)
+        → IsAnswer (λ (outcome : Outcome). outcome) words (F.state files.old) (F.state files.new) result }
+{
+    match command {
+        Command::Wave { unit, recording } => {
             Ok(Outcome::Wave(wave(alloc, files, unit, recording)?))
         }
-        Ok(Command::Show { unit, names }) => Ok(Outcome::Shown(show(alloc, files, unit, names)?)),
-        Ok(Command::ShowNetlist { unit, netlist }) => {
+        Command::Show { unit, names } => Ok(Outcome::Shown(show(alloc, files, unit, names)?)),
+        Command::ShowNetlist { unit, netlist } => {
             Ok(Outcome::Shown(show_netlist(alloc, files, unit, netlist)?))
         }
-        Ok(
-            Command::Prove {
-                unit,
-                netlist,
-                limits,
-            },
-        ) => {
+        Command::Prove {
+            unit,
+            netlist,
+            limits,
+            cert: _,
+        } => {
             let request = Request {
                 unit,
                 netlist,
@@ -117,9 +151,31 @@ fn command<F: Shelf>(alloc: Global, words: &[String], files: &mut F) -> Result<O
             let found = prove(alloc, files, request)?;
             Ok(findings_outcome(found, limits))
         }
-        Ok(Command::Gen { seed, samples }) => generate(alloc, seed, samples),
-        Err(WordsFault::Usage) => Err(of_none(Reason::Usage)),
-        Err(WordsFault::NoMemory) => Err(of_none(Reason::NoMemory)),
+        Command::Check {
+            unit,
+            netlist,
+            number,
+            certificate,
+        } => {
+            let question = Question {
+                unit,
+                netlist,
+                number,
+                certificate,
+            };
+            Ok(Outcome::Checked(number, check(alloc, files, question)?))
+        }
+        Command::Gen { seed, samples } => generate(alloc, seed, samples),
+    }
+}
+
+/// The prefix of the names of the files that a command writes.
+fn prefix_of(command: Command<'_>) -> Option<&str>
+    ensures { option_map (λ s. s.now) result ≡ prefix_of (meaning_of command.entry) }
+{
+    match command {
+        Command::Prove { cert, .. } => cert,
+        _ => None,
     }
 }
 
@@ -135,18 +191,19 @@ fn findings_outcome(found: Found, limits: Limits) -> Outcome
     }
 }
 
-/// An outcome with its text.
-fn made(alloc: Global, outcome: Outcome) -> Result<Planned, Fault>
+/// An outcome with its files, whose names have this prefix, and its text.
+fn made(alloc: Global, prefix: Option<&str>, outcome: Outcome) -> Result<Planned, Fault>
     requires { IsShowable outcome }
     ensures outcome { IfOk result (λ made. made.outcome ≡ outcome) }
     ensures text { IfOk result (λ made. made.text ≡ text_of made.outcome) }
+    ensures saves { IfOk result (λ made. map file_of made.saves ≡ certificates (option_map (λ s. s.now) prefix.entry) outcome) }
     ensures memory { IfErr result (λ fault. fault ≡ of_none Reason.NoMemory) }
 {
+    let saves = saves_of(alloc, prefix, &outcome)?;
     let text = report(alloc, &outcome)?;
-    Ok(Planned { outcome, text })
+    Ok(Planned {
+        outcome,
+        saves,
+        text,
+    })
 }
-
-/// A law of the definitions: words over contents have one first refusal, or none.
-pub fn one_refusal()
-    ensures { (words : List (List ℕ)) (files : Contents) (first second : Option Fault) → FirstRefusal words files first → FirstRefusal words files second → first ≡ second }
-{}

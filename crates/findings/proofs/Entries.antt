@@ -1,12 +1,13 @@
 -- One finding more.
-use Rattle.std.proofs.Common.{◌≡◌, ap, subst, sym, ◌∙◌, ℕ, ◌+◌, ◌<◌, Bool, true, false, cond, List, [], ◌∷◌, ◌++◌, length, take}
-use Rattle.std.specs.Prelude.{filter, slice_index_or}
+use Rattle.std.proofs.Common.{◌≡◌, ap, subst, sym, ◌∙◌, ℕ, ◌+◌, ◌<◌, true, false, cond, List, [], ◌∷◌, ◌++◌, length, take}
+use Rattle.std.specs.Prelude.{slice_index_or}
 use Rattle.std.proofs.lemmas.List.{append-nil}
 use Rattle.std.proofs.lemmas.List.Elements.{filter_more}
 use Rattle.netlist.specs.Design.{Design}
+use Rattle.owed.specs.Owed.{is_assertion}
 use Rattle.prover.specs.declared.options.Options.{Options}
 use Rattle.psl_tree.specs.declared.directive.Directive.{Directive}
-use Rattle.findings.specs.Assertions.{assertions, is_assertion}
+use Rattle.findings.specs.Assertions.{assertions}
 use Rattle.findings.specs.Entries.{AreEntries, IsEntry}
 use Rattle.findings.specs.declared.entry.FindingEntry.{FindingEntry}
 

@@ -1,14 +1,13 @@
 -- A text has one answer: all of its assertions are within the limits, or one of them is the first that is not.
 use Rattle.std.proofs.Common.{◌≡◌, inl, inr, refl, sym, ap, ◌∙◌, subst, ℕ, ◌<◌, ◌≤◌, true, List, length, take, arith}
-use Rattle.std.specs.Prelude.{All, slice_get}
+use Rattle.std.specs.Prelude.{slice_get}
 use Rattle.std.proofs.lemmas.Bool.{cases_lt}
 use Rattle.std.proofs.lemmas.List.{get_or-take, length-take-le}
 use Rattle.std.proofs.lemmas.List.Elements.{All-get_or}
 use Rattle.std.proofs.lemmas.Option.{slice_get_within, get_or_from_slice_get, same_Some}
 use Rattle.netlist.specs.Design.{Design}
-use Rattle.owed.specs.Owed.{plain_owed}
+use Rattle.owed.specs.Owed.{is_assertion}
 use Rattle.psl_tree.specs.declared.directive.Directive.{Directive}
-use Rattle.findings.specs.Assertions.{is_assertion}
 use Rattle.findings.specs.Sizes.{AreWithin, IsFirstRefused, IsRefused, IsWithin}
 use Rattle.findings.specs.declared.sizes.SizeFault.{SizeFault}
 use Rattle.findings.specs.declared.sizes.SizeFault.TheVariants.{SereTooLarge, AutomatonTooLarge, UnrollTooLarge, NoMemory}

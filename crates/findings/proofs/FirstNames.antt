@@ -1,10 +1,10 @@
 -- The first names of signals.
-use Rattle.std.proofs.Common.{◌≡◌, refl, sym, ◌∙◌, ap, subst, ℕ, ◌+◌, ◌<◌, Bool, true, false, cond, List, [], ◌∷◌, ◌++◌, length, map, take, drop, Option, None, Some, arith}
-use Rattle.std.specs.Prelude.{◌==◌, ◌≢◌, Any, All, get_or, replicate, set, slice_get, slice_index, slice_index_or}
-use Rattle.std.proofs.lemmas.List.{drop_all, drop_more, get_or-replicate, get_or-set_other, get_or-set_same, map-append, map_more}
+use Rattle.std.proofs.Common.{◌≡◌, refl, sym, ◌∙◌, ap, ℕ, ◌+◌, ◌<◌, Bool, true, false, cond, List, [], ◌∷◌, ◌++◌, length, map, drop, Option, None, Some, arith}
+use Rattle.std.specs.Prelude.{◌==◌, ◌≢◌, Any, get_or, replicate, set, slice_get, slice_index, slice_index_or}
+use Rattle.std.proofs.lemmas.List.{drop_all, drop_more, get_or-replicate, get_or-set_other, get_or-set_same, map-append}
 use Rattle.std.proofs.lemmas.Option.{slice_get-get_or, slice_get_past}
 use Rattle.psl_tree.proofs.FirstNames.{is-named}
-use Rattle.psl_tree.specs.Names.{first_name, indices}
+use Rattle.psl_tree.specs.Names.{first_name}
 use Rattle.psl_tree.specs.declared.atom.Edge.TheVariants.{Value}
 use Rattle.psl_tree.specs.declared.name.Name.{Name}
 

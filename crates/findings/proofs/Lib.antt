@@ -1,4 +1,6 @@
+pub mod Certified
 pub mod Entries
 pub mod Faults
 pub mod FirstNames
+pub mod Numbers
 pub mod Shown

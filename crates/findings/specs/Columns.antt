@@ -1,5 +1,5 @@
 -- The signals whose values are shown of a run.
-use Rattle.std.specs.Prelude.{◌≡◌, ℕ, ◌<◌, Bool as Truth, List, map, length, slice_get, slice_index, Option, Some, All}
+use Rattle.std.specs.Prelude.{◌≡◌, ℕ, ◌<◌, Bool as Truth, List, map, length, slice_get, slice_index, Some, All}
 use Rattle.netlist.specs.Design.{Design, free_of}
 use Rattle.psl_tree.specs.Names.{first_name}
 use Rattle.psl_tree.specs.declared.name.Name.{Name}

@@ -1,12 +1,11 @@
 -- Whether the assertions of a text are within the limits of a search up to a depth, and the first that is not.
 use Rattle.std.specs.Prelude.{◌≡◌, ℕ, true, List, Some, All, take, slice_get}
 use Rattle.netlist.specs.Design.{Design}
-use Rattle.owed.specs.Owed.{plain_owed}
+use Rattle.owed.specs.Owed.{is_assertion, plain_owed}
 use Rattle.psl_tree.specs.declared.directive.Directive.{Directive}
 use Rattle.work_limits.specs.Sized as sized
 use Rattle.work_limits.specs.Sized.{IsSized}
 use Rattle.work_limits.specs.declared.sizes.LimitFault.TheVariants as limits
-use Rattle.findings.specs.Assertions.{is_assertion}
 use Rattle.findings.specs.declared.sizes.SizeFault.{SizeFault}
 use Rattle.findings.specs.declared.sizes.SizeFault.TheVariants.{SereTooLarge, AutomatonTooLarge, UnrollTooLarge, NoMemory}
 

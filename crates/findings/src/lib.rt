@@ -3,11 +3,13 @@
 #![tactic(auto)]
 
 mod entry;
+mod laws;
 mod names;
 mod proving;
 mod sizes;
 
 pub use entry::{FindingEntry, Findings};
+pub use laws::passed_law;
 pub use names::columns;
 pub use proving::prove_all;
 pub use sizes::{SizeFault, check_all};

@@ -1,4 +1,5 @@
 ghost use Rattle.std.specs.Prelude.{◌≡◌, ◌≤◌, All, IfOk};
+ghost use Rattle.findings.specs.Assertions.{AreNumbered, IsAssertionOf};
 ghost use Rattle.findings.specs.Entries.{AreFindings, IsEntry};
 ghost use Rattle.findings.specs.Sizes.{AreWithin};
 ghost use Rattle.prover.specs.Tasks.{IsProvable};
@@ -7,15 +8,15 @@ ghost use Rattle.psl_tree.specs.Names.{AtomInRange};
 ghost use Rattle.psl_tree.specs.Trees.{formula_of};
 
 use crate::entry::{FindingEntry, Findings};
-use crate::sizes::is_assertion;
 use netlist::Netlist;
+use owed::is_assertion;
 use prover::{Options, Task, prove};
 use psl_base::{NoMemory, Text};
-use psl_tree::Unit;
+use psl_tree::{Directive, Unit};
 use std::alloc::Global;
 
 /// What is found out of each assertion of a text on a netlist. They are within the limits, and all that the text names
-/// are signals of the netlist.
+/// are signals of the netlist. The certificate of one that is proved is passed by the checker.
 pub fn prove_all(
     alloc: Global,
     unit: &Unit,
@@ -24,7 +25,9 @@ pub fn prove_all(
 ) -> Result<Findings, NoMemory>
     requires within { AreWithin netlist.now options.depth unit.now }
     requires in_range { All (λ directive. AtomsOfFormula (AtomInRange netlist.now.names) (formula_of directive.formula)) unit.now }
+    requires numbered { AreNumbered unit.now }
     requires depth { 1 ≤ options.depth }
+    requires most { options.depth ≤ 1000 }
     requires visits { options.visits ≤ 16 }
     ensures { IfOk result (AreFindings netlist.now unit.now options) }
 {
@@ -44,15 +47,25 @@ pub fn prove_all(
 }
 
 fn entry_of(alloc: Global, task: Task) -> Result<FindingEntry, NoMemory>
-    requires { IsProvable task }
+    requires provable { IsProvable task }
+    requires assertion { IsAssertionOf task.unit.now task.assertion.now }
+    requires depth { task.options.depth ≤ 1000 }
     ensures { IfOk result (IsEntry task.entry.netlist.now task.entry.unit.now task.entry.options task.entry.assertion.now) }
 {
     let finding = prove(alloc, task)?;
     Ok(FindingEntry {
-        number: task.assertion.number,
+        number: number_of(task.assertion),
         label: copy_of(alloc, &task.assertion.label)?,
         finding,
     })
+}
+
+// The number of a directive, which is within the range of numbers that certificates have.
+fn number_of(directive: &Directive) -> u32
+    ensures is { result ≡ directive.now.number }
+    ensures few { result ≤ 4294967295 }
+{
+    directive.number
 }
 
 fn copy_of(alloc: Global, label: &Option<Text>) -> Result<Option<Text>, NoMemory>

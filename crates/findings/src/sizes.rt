@@ -1,14 +1,13 @@
-ghost use Rattle.std.specs.Prelude.{◌≡◌, ◌-◌, ◌^◌, ◌<◌, List, OnOk, IfErr};
-ghost use Rattle.findings.specs.Assertions as spec;
+ghost use Rattle.std.specs.Prelude.{◌-◌, ◌^◌, ◌<◌, List, OnOk, IfErr};
 ghost use Rattle.findings.specs.Sizes.{AreWithin, IsSizeFault, IsWithin, MayRefuse};
 ghost use Rattle.owed.specs.Owed.{plain_assumed};
 ghost use Rattle.owed.specs.Sizes.{AreSizesOf};
 ghost use Rattle.psl_tree.specs.declared.directive.Directive.{Directive};
 
 use netlist::Netlist;
-use owed::{Size, assumed_size};
+use owed::{Size, assumed_size, is_assertion};
 use psl_base::{NoMemory, Place};
-use psl_tree::{Directive, Kind, Unit};
+use psl_tree::{Directive, Unit};
 use std::alloc::Global;
 use thiserror::Error;
 use work_limits::{LimitFault, check_sizes};
@@ -82,15 +81,5 @@ fn check_one(
         Err(LimitFault::AutomatonTooLarge) => Err(SizeFault::AutomatonTooLarge(directive.place)),
         Err(LimitFault::UnrollTooLarge) => Err(SizeFault::UnrollTooLarge),
         Err(LimitFault::NoMemory) => Err(SizeFault::NoMemory),
-    }
-}
-
-/// Whether a directive is an assertion.
-pub(crate) fn is_assertion(kind: Kind) -> bool
-    ensures { result ≡ spec.is_assertion kind }
-{
-    match kind {
-        Kind::Assert => true,
-        Kind::Assume | Kind::Cover => false,
     }
 }

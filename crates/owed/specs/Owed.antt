@@ -6,6 +6,11 @@ use Rattle.psl_tree.specs.declared.directive.Directive.{Directive}
 use Rattle.psl_tree.specs.declared.directive.Kind.{Kind}
 use Rattle.psl_tree.specs.declared.directive.Kind.TheVariants.{Assert, Assume, Cover}
 
+abbrev pub is_assertion : Kind → Truth
+is_assertion Assert = true
+is_assertion Assume = false
+is_assertion Cover = false
+
 abbrev pub is_assumption : Kind → Truth
 is_assumption Assert = false
 is_assumption Assume = true

@@ -6,7 +6,7 @@ ghost use Rattle.clock_rewrite.specs.Clock.{HasSameWords};
 ghost use Rattle.psl_meaning.specs.Clockless.{IsPlain};
 ghost use Rattle.psl_tree.specs.Trees.{formula_of};
 
-use crate::size::is_assumed;
+use crate::kinds::is_assumed;
 use clock_rewrite::unclock;
 use psl_base::{NoMemory, boxed};
 use psl_tree::{Directive, Fl, Unit};

@@ -3,6 +3,7 @@
 #![tactic(auto)]
 
 mod formula;
+mod kinds;
 mod laws;
 mod size;
 #[cfg(test)]
@@ -10,6 +11,7 @@ mod tests;
 mod violations;
 
 pub use formula::owed;
+pub use kinds::is_assertion;
 pub use laws::{owes, violating_runs};
 pub use size::{Size, assumed_size, owed_size};
 pub use violations::violation;

@@ -1,14 +1,15 @@
 ghost use Rattle.std.specs.Prelude.{◌≡◌, List, Option, None, Some, IfOk};
-ghost use Rattle.owed.specs.Owed.{is_assumption, joined, plain_assumed, plain_owed, under, with_directive};
+ghost use Rattle.owed.specs.Owed.{joined, plain_assumed, plain_owed, under, with_directive};
 ghost use Rattle.owed.specs.Sizes.{AreSizesOf, IsSizeOf};
 ghost use Rattle.psl_meaning.specs.Plain.{plain};
 ghost use Rattle.psl_tree.specs.Trees.{Formula, formula_of};
 ghost use Rattle.psl_tree.specs.declared.directive.Directive.{Directive};
 
+use crate::kinds::is_assumed;
 use alternating::has_large_sequence;
 use clock_rewrite::unclock;
 use psl_base::NoMemory;
-use psl_tree::{Directive, Fl, Kind, Unit, measure, obligations};
+use psl_tree::{Directive, Fl, Unit, measure, obligations};
 use std::alloc::Global;
 
 /// How large a formula is.
@@ -46,16 +47,6 @@ pub fn owed_size(
 {
     let size = size_of(alloc, &assertion.formula)?;
     Ok(size_under(assumed, size))
-}
-
-/// Whether a directive is an assumption.
-pub(crate) fn is_assumed(kind: Kind) -> bool
-    ensures { result ≡ is_assumption kind }
-{
-    match kind {
-        Kind::Assume => true,
-        Kind::Assert | Kind::Cover => false,
-    }
 }
 
 // How large a formula is with its clocks rewritten away.

@@ -9,7 +9,7 @@ use Rattle.clauses.proofs.Soundness.{no_model}
 use Rattle.clauses.specs.Literals.{clause_words}
 use Rattle.clauses.specs.Logs.{LogEntry, Refutes, log_words}
 use Rattle.clauses.specs.declared.cnf.Cnf.{Cnf}
-use Rattle.clauses.specs.declared.flat.TheConstants.{MOST_VARIABLES}
+use Rattle.clauses.specs.declared.flat.TheConstants.{MOST_VARIABLES, MOST_WORDS}
 use Rattle.clauses.specs.declared.log.TheConstants.{MOST_LOG_WORDS}
 use Rattle.joint_theory.proofs.Soundness.{none-accepted}
 use Rattle.joint_theory.specs.Paths.{IsClosedAt, IsOpen, SomeOpen}
@@ -35,10 +35,18 @@ use Rattle.prover.specs.declared.finding.Query.{Query}
 use Rattle.prover.specs.declared.finding.Query.TheVariants.{Base, Induction}
 use Rattle.prover.specs.declared.options.Options.{Options}
 
+-- a formula of so few words is not too large
+not-large : (formula : Cnf) → clause_words formula.clauses ≤ MOST_WORDS → IsTooLarge formula.variables formula.clauses → ⊥
+not-large formula few (inl many) = omega (arith, many, formula.few)
+not-large formula few (inr long) = omega (arith, long, few)
+
 -- the log that refutes a formula refutes that of the query
 pub refuted : (design : Design) (unit : List Directive) (d : Directive) (steps : ℕ) (query : Query) (formula : Cnf) (log : List LogEntry)
-    → IsFormulaOf design unit d query formula → IsRefutation formula steps log → IsRefuted design unit d steps query log
-refuted design unit d steps query formula log is r = record {
+    → IsFormulaOf design unit d query formula → clause_words formula.clauses ≤ MOST_WORDS → IsRefutation formula steps log
+    → IsRefuted design unit d steps query log
+refuted design unit d steps query formula log is small r = record {
+  fits = subst (λ (cs : List (List ℤ)). IsTooLarge (variables_of design unit d query) cs → ⊥) is.clauses
+      (subst (λ (n : ℕ). IsTooLarge n formula.clauses → ⊥) is.variables (not-large formula small));
   refutes = subst (λ (cs : List (List ℤ)). Refutes (variables_of design unit d query) cs log) is.clauses
       (subst (λ (n : ℕ). Refutes n formula.clauses log) is.variables r.refutes);
   words = subst (λ (cs : List (List ℤ)). clause_words cs + log_words log ≤ MOST_LOG_WORDS) is.clauses r.words;

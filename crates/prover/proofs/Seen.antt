@@ -1,13 +1,15 @@
 -- The joint paths of a kind, in the words of their query.
-use Rattle.std.proofs.Common.{◌≡◌, ◌∙◌, refl, ap, sym, subst, ◌↔◌, ℕ, ℤ, Bool as Truth, true, false, List}
+use Rattle.std.proofs.Common.{◌≡◌, ◌∙◌, refl, ap, sym, subst, ◌↔◌, ◌≤◌, ℕ, ℤ, Bool as Truth, true, false, List}
 use Rattle.alternating_theory.specs.Obligations.{Automaton}
 use Rattle.cdcl.specs.Answers.{IsModelOf, IsRefutation}
 use Rattle.circuit_theory.specs.Sizes.{IsTooLarge}
+use Rattle.clauses.specs.Literals.{clause_words}
 use Rattle.clauses.specs.Logs.{LogEntry}
 use Rattle.clauses.specs.Models.{IsModel}
 use Rattle.clauses.specs.declared.cnf.Cnf.{Cnf}
 use Rattle.clauses.specs.declared.flat.CnfFault.{CnfFault}
 use Rattle.clauses.specs.declared.flat.CnfFault.TheVariants as faults
+use Rattle.clauses.specs.declared.flat.TheConstants.{MOST_WORDS}
 use Rattle.joint.specs.Joined.{Joined}
 use Rattle.joint_theory.specs.Paths.{IsOpen, SomeOpen}
 use Rattle.joint_theory.specs.Queries.{query, query_variables}
@@ -102,11 +104,11 @@ view-seen task view joint path is =
 pub view-closed : (task : Task) (view : View) (joint : Joined) (formula : Cnf) (log : List LogEntry) → IsJointOf task view.visits joint
     → IsFormulaOf task.netlist.now task.unit.now task.assertion.now (view_query view) formula
     → (HasModel formula.variables formula.clauses ↔ SomeOpen joint.design joint.automaton joint.visits view.window view.initial)
-    → IsRefutation formula task.options.steps log
+    → clause_words formula.clauses ≤ MOST_WORDS → IsRefutation formula task.options.steps log
     → IsRefuted task.netlist.now task.unit.now task.assertion.now task.options.steps (view_query view) log
     × ((path : JointPath) → IsSeen task view path → ⊥)
-view-closed task view joint formula log is f models r = (
-  refuted task.netlist.now task.unit.now task.assertion.now task.options.steps (view_query view) formula log f r,
+view-closed task view joint formula log is f models small r = (
+  refuted task.netlist.now task.unit.now task.assertion.now task.options.steps (view_query view) formula log f small r,
   none-open task.netlist.now (violation_of task.unit.now task.assertion.now) view.visits view.window view.initial formula log
       (subst (λ (j : Joined). HasModel formula.variables formula.clauses ↔ SomeOpen j.design j.automaton j.visits view.window view.initial) is models)
       r.refutes,

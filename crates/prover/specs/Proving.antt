@@ -2,6 +2,7 @@
 use Rattle.std.specs.Prelude.{◌≡◌, ◌+◌, ◌≤◌, ℕ, List, None}
 use Rattle.cdcl.specs.Evidence.{IsTidy}
 use Rattle.certificate.specs.declared.certificate.Certificate.{Certificate}
+use Rattle.circuit_theory.specs.Sizes.{IsTooLarge}
 use Rattle.clauses.specs.Literals.{clause_words}
 use Rattle.clauses.specs.Logs.{LogEntry, Refutes, lemmas, log_words}
 use Rattle.clauses.specs.declared.log.TheConstants.{MOST_LOG_WORDS}
@@ -17,9 +18,10 @@ use Rattle.prover.specs.declared.finding.Query.{Query}
 use Rattle.prover.specs.declared.finding.Query.TheVariants.{Base, Induction}
 use Rattle.prover.specs.declared.options.Options.{Options}
 
--- a log of the solver refutes the formula of a query
+-- a log of the solver refutes the formula of a query, which is not too large
 pub record IsRefuted (design : Design) (unit : List Directive) (assertion : Directive) (steps : ℕ)
     (query : Query) (log : List LogEntry) : Type 0 where
+  pub fits : IsTooLarge (variables_of design unit assertion query) (clauses_of design unit assertion query) → ⊥
   pub refutes : Refutes (variables_of design unit assertion query) (clauses_of design unit assertion query) log
   pub words : clause_words (clauses_of design unit assertion query) + log_words log ≤ MOST_LOG_WORDS
   pub few : lemmas log ≤ steps

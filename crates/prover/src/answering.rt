@@ -1,5 +1,7 @@
 // What the solver answers to the formula of a query.
-ghost use Rattle.std.specs.Prelude.{IfOk, IfErr};
+ghost use Rattle.std.specs.Prelude.{◌≤◌, IfOk, IfErr};
+ghost use Rattle.clauses.specs.Literals.{clause_words};
+ghost use Rattle.clauses.specs.declared.flat.TheConstants.{MOST_WORDS};
 ghost use Rattle.prover.specs.Stops.{ComesUpFor, IsFormulaFor, IsSolved, IsStopOf};
 
 use crate::context::Prover;
@@ -26,7 +28,9 @@ impl Prover<'_> {
         requires formula { IsFormulaFor self.task query formula }
         ensures solved { IfOk result (IsSolved formula self.entry.task.options.steps) }
         ensures stop { IfErr result (IsStopOf self.entry.task) }
+        ensures small { clause_words formula.clauses ≤ MOST_WORDS }
     {
+        let _words = formula.clauses.words();
         match solve(alloc, &formula, self.task.options.steps)? {
             Answer::Model(values) => Ok(Solved::Model(values)),
             Answer::Refuted(log) => Ok(Solved::Refuted(log)),

@@ -1,5 +1,5 @@
-use Rattle.command_line.proofs.Meanings.{one_meaning}
+use Rattle.command_line.proofs.Meanings.{no_command, numbers_in_range, one_meaning}
 use Rattle.command_line.proofs.one_command.Goals as goal
 
-pub returns-clause-one : goal.returns-clause-one
-returns-clause-one c = one_meaning
+pub returns : goal.returns
+returns c = record { one = one_meaning; refused = no_command; ranges = numbers_in_range }

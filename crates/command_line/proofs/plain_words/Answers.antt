@@ -1,4 +1,4 @@
-use Rattle.command_line.proofs.Plain.{plain_depth, plain_gen, plain_netlist, plain_prove, plain_show, plain_wave, show_behind, wave_behind}
+use Rattle.command_line.proofs.Plain.{plain_check, plain_depth, plain_gen, plain_netlist, plain_options, plain_prove, plain_show, plain_wave, show_behind, wave_behind}
 use Rattle.command_line.proofs.plain_words.Goals as goal
 
 pub returns : goal.returns
@@ -8,6 +8,8 @@ returns c = record {
   netlist = plain_netlist;
   prove = plain_prove;
   depth = plain_depth;
+  options = plain_options;
+  check = plain_check;
   wave_behind = wave_behind;
   show_behind = show_behind;
   generate = plain_gen;

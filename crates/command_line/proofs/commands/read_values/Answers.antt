@@ -14,3 +14,11 @@ returns-in-Prove-clause-command c =
 pub returns-in-Prove-clause-usage : goal.returns-in-Prove-clause-usage
 returns-in-Prove-clause-usage c =
     rw c.in-Prove.is (IfErr-weaker c.prove.result _ _ (λ fault is. is c.args.most_samples) c.prove.ensures.usage)
+
+pub returns-in-Check-clause-command : goal.returns-in-Check-clause-command
+returns-in-Check-clause-command c =
+    rw c.in-Check.is (IfOk-weaker c.check.result _ _ (λ command is. is c.args.most_samples) c.check.ensures.command)
+
+pub returns-in-Check-clause-usage : goal.returns-in-Check-clause-usage
+returns-in-Check-clause-usage c =
+    rw c.in-Check.is (IfErr-weaker c.check.result _ _ (λ fault is. is c.args.most_samples) c.check.ensures.usage)

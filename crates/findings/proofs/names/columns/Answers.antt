@@ -1,4 +1,4 @@
-use Rattle.std.proofs.Common.{◌≡◌, ◌<◌, length, sym, subst, ◌∙◌, arith}
+use Rattle.std.proofs.Common.{◌≡◌, ◌<◌, length, ◌∙◌}
 use Rattle.std.specs.Prelude.{All}
 use Rattle.findings.proofs.names.columns.Goals as goal
 use Rattle.netlist.proofs.Driving.{inputs-within, latches-within}

@@ -1,6 +1,5 @@
 use Rattle.std.proofs.Common.{◌≡◌, ◌++◌, map, take, Some}
 use Rattle.psl_tree.specs.Names.{first_name}
-use Rattle.psl_tree.specs.declared.name.Name.{Name}
 use Rattle.findings.proofs.names.columns.Given as goal
 
 abbrev pub invariant-loop-signal : goal.invariant-loop-signal

@@ -1,5 +1,4 @@
 use Rattle.std.proofs.Common.{◌≡◌, ◌+◌, ◌-◌, ◌<◌, ◌∙◌, ap, sym, subst, arith, drop, length}
-use Rattle.std.specs.Prelude.{slice_get, slice_index}
 use Rattle.std.proofs.lemmas.List.{length-replicate, length-set}
 use Rattle.findings.proofs.FirstNames.{at-name, none-yet}
 use Rattle.findings.proofs.names.first_places.Goals as goal

@@ -1,7 +1,13 @@
-use Rattle.std.proofs.Common.{◌≡◌, sym, ◌∙◌}
+use Rattle.std.proofs.Common.{sym, ◌∙◌}
 use Rattle.findings.proofs.Entries.{with-assertion, with-other}
+use Rattle.findings.proofs.Numbers.{is-assertion-of}
 use Rattle.findings.proofs.proving.prove_all.Goals as goal
 use Rattle.findings.proofs.proving.prove_all.Goals.{then-is_assertion+in_ok-entry_of+in_ok-push, else-is_assertion}
+
+pub entry_of-requires-clause-assertion : goal.entry_of-requires-clause-assertion
+entry_of-requires-clause-assertion c =
+    is-assertion-of c.args.unit.now c.as_slice-directive-items.result.now c.loop-directive.directive-index c.directive-item.result c.as_slice-directive-items.ensures
+    c.loop-directive-test.true c.directive-item.is (sym c.is_assertion.ensures ∙ c.if-is_assertion.true) c.requires.numbered
 
 pub loop-directive-preserved : goal.loop-directive-preserved
 loop-directive-preserved c = elim c.if-is_assertion.branch [

@@ -24,4 +24,4 @@ returns-in-Refuted-clause-kind c =
     subst (λ (s : Solved). IsSolved c.in-Ok.formula c.args.self.task.options.steps s) c.in-Refuted.is c.in_ok-log.ensures.solved in
     view-closed c.args.self.task c.args.view c.args.joint.now c.in-Ok.formula c.in-Refuted.log c.requires.joint
     (view-formula c.args.self.task c.args.view c.args.joint.now c.in-Ok.formula c.requires.joint c.in-Ok.ensures.variables c.in-Ok.ensures.clauses)
-    c.in-Ok.ensures.models r
+    c.in-Ok.ensures.models c.in_ok-log.ensures.small r

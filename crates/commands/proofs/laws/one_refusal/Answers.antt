@@ -1,5 +1,5 @@
 use Rattle.commands.proofs.OneAnswer.{one-first}
-use Rattle.commands.proofs.top.one_refusal.Goals as goal
+use Rattle.commands.proofs.laws.one_refusal.Goals as goal
 
 pub returns : goal.returns
 returns c = one-first

@@ -1,0 +1,62 @@
+use Rattle.std.proofs.lemmas.Result.{err_from_is_err_and}
+use Rattle.commands.proofs.Answering.{wave-answers, wave-refuses, show-answers, show-refuses, netlist-answers, netlist-refuses, proof-answers, proof-refuses, check-answers, check-refuses}
+use Rattle.commands.proofs.top.outcome.Goals as goal
+
+pub returns-in_ok-wave-in-Wave-clause-answer : goal.returns-in_ok-wave-in-Wave-clause-answer
+returns-in_ok-wave-in-Wave-clause-answer g c words is =
+    wave-answers words c.in-Wave.unit.now c.in-Wave.recording.now (g.F.Shelf.state c.args.files.now) (g.F.Shelf.state c.wave.new.files)
+    _ (rw c.in-Wave.is at is) c.in_ok-wave-in-Wave.ensures
+
+pub returns-in_err-wave-in-Wave-clause-answer : goal.returns-in_err-wave-in-Wave-clause-answer
+returns-in_err-wave-in-Wave-clause-answer g c words is =
+    let p = err_from_is_err_and c.from_residual.result c.from_residual.ensures.1 in
+    rw (p.1, p.2) (wave-refuses words c.in-Wave.unit.now c.in-Wave.recording.now (g.F.Shelf.state c.args.files.now)
+    (g.F.Shelf.state c.wave.new.files) _ (rw c.in-Wave.is at is) c.in_err-wave-in-Wave.ensures)
+
+pub returns-in_ok-show-in-Show-clause-answer : goal.returns-in_ok-show-in-Show-clause-answer
+returns-in_ok-show-in-Show-clause-answer g c words is =
+    show-answers words c.in-Show.unit.now c.in-Show.names.now (g.F.Shelf.state c.args.files.now) (g.F.Shelf.state c.show.new.files)
+    _ (rw c.in-Show.is at is) c.in_ok-show-in-Show.ensures
+
+pub returns-in_err-show-in-Show-clause-answer : goal.returns-in_err-show-in-Show-clause-answer
+returns-in_err-show-in-Show-clause-answer g c words is =
+    let p = err_from_is_err_and c.from_residual-in_err-show-in-Show.result c.from_residual-in_err-show-in-Show.ensures.1 in
+    rw (p.1, p.2) (show-refuses words c.in-Show.unit.now c.in-Show.names.now (g.F.Shelf.state c.args.files.now)
+    (g.F.Shelf.state c.show.new.files) _ (rw c.in-Show.is at is) c.in_err-show-in-Show.ensures)
+
+pub returns-in_ok-show_netlist-in-ShowNetlist-clause-answer : goal.returns-in_ok-show_netlist-in-ShowNetlist-clause-answer
+returns-in_ok-show_netlist-in-ShowNetlist-clause-answer g c words is =
+    netlist-answers words c.in-ShowNetlist.unit.now c.in-ShowNetlist.netlist.now (g.F.Shelf.state c.args.files.now)
+    (g.F.Shelf.state c.show_netlist.new.files) _ (rw c.in-ShowNetlist.is at is) c.in_ok-show_netlist-in-ShowNetlist.ensures
+
+pub returns-in_err-show_netlist-in-ShowNetlist-clause-answer : goal.returns-in_err-show_netlist-in-ShowNetlist-clause-answer
+returns-in_err-show_netlist-in-ShowNetlist-clause-answer g c words is =
+    let p = err_from_is_err_and c.from_residual-in_err-show_netlist-in-ShowNetlist.result c.from_residual-in_err-show_netlist-in-ShowNetlist.ensures.1 in
+    rw (p.1, p.2) (netlist-refuses words c.in-ShowNetlist.unit.now c.in-ShowNetlist.netlist.now (g.F.Shelf.state c.args.files.now)
+    (g.F.Shelf.state c.show_netlist.new.files) _ (rw c.in-ShowNetlist.is at is) c.in_err-show_netlist-in-ShowNetlist.ensures)
+
+pub returns-in_ok-found-in-Prove-clause-answer : goal.returns-in_ok-found-in-Prove-clause-answer
+returns-in_ok-found-in-Prove-clause-answer g c words is =
+    rw c.findings_outcome.ensures (proof-answers words c.in-Prove.unit.now c.in-Prove.netlist.now c.in-Prove.limits _
+    (g.F.Shelf.state c.args.files.now) (g.F.Shelf.state c.prove.new.files)
+    _ (rw c.in-Prove.is at is) c.in_ok-found-in-Prove.ensures.stage)
+
+pub returns-in_err-found-in-Prove-clause-answer : goal.returns-in_err-found-in-Prove-clause-answer
+returns-in_err-found-in-Prove-clause-answer g c words is =
+    let p = err_from_is_err_and c.from_residual-in_err-found-in-Prove.result c.from_residual-in_err-found-in-Prove.ensures.1 in
+    rw (p.1, p.2) (proof-refuses words c.in-Prove.unit.now c.in-Prove.netlist.now c.in-Prove.limits _
+    (g.F.Shelf.state c.args.files.now) (g.F.Shelf.state c.prove.new.files)
+    _ (rw c.in-Prove.is at is) c.in_err-found-in-Prove.ensures.stage)
+
+pub returns-in_ok-check-in-Check-clause-answer : goal.returns-in_ok-check-in-Check-clause-answer
+returns-in_ok-check-in-Check-clause-answer g c words is =
+    check-answers words c.in-Check.unit.now c.in-Check.netlist.now c.in-Check.number c.in-Check.certificate.now
+    (g.F.Shelf.state c.args.files.now) (g.F.Shelf.state c.check.new.files)
+    _ (rw c.in-Check.is at is) c.in_ok-check-in-Check.ensures
+
+pub returns-in_err-check-in-Check-clause-answer : goal.returns-in_err-check-in-Check-clause-answer
+returns-in_err-check-in-Check-clause-answer g c words is =
+    let p = err_from_is_err_and c.from_residual-in_err-check-in-Check.result c.from_residual-in_err-check-in-Check.ensures.1 in
+    rw (p.1, p.2) (check-refuses words c.in-Check.unit.now c.in-Check.netlist.now c.in-Check.number c.in-Check.certificate.now
+    (g.F.Shelf.state c.args.files.now) (g.F.Shelf.state c.check.new.files)
+    _ (rw c.in-Check.is at is) c.in_err-check-in-Check.ensures)

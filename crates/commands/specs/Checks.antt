@@ -1,0 +1,66 @@
+-- What `check UNIT NETLIST NUMBER CERTIFICATE` gives: whether the text of a certificate shows that each run of the netlist
+-- satisfies what is owed of the assertion of that number.
+use Rattle.std.specs.Prelude.{◌≡◌, ◌≢◌, ℕ, List, Some, Result, Ok, Err}
+use Rattle.cert_check.specs.Claims.{IsProved, asked_of, directive_of, queries_of}
+use Rattle.cert_check.specs.Limits.{FitsLimits, IsFault}
+use Rattle.cert_check.specs.declared.fault.CertFault.{CertFault}
+use Rattle.cert_check.specs.declared.fault.CertFault.TheVariants as limits
+use Rattle.certificate.specs.Headers.{HasHeader}
+use Rattle.certificate.specs.Texts.{IsAnswer}
+use Rattle.certificate.specs.declared.answer.CertAnswer.{CertAnswer}
+use Rattle.certificate.specs.declared.answer.CertAnswer.TheVariants.{Passed}
+use Rattle.certificate.specs.declared.header.Header.{Header}
+use Rattle.psl_base.specs.Shelf.{Contents}
+use Rattle.psl_tree.specs.declared.directive.Directive.{Directive}
+use Rattle.commands.specs.Diagnostics.{directive_place}
+use Rattle.commands.specs.Faults.{fault_in, of_file, of_none}
+use Rattle.commands.specs.Stages.{OfFile, Then}
+use Rattle.commands.specs.Waves.{SubjectStage}
+use Rattle.commands.specs.declared.outcome.Fault.{Fault}
+use Rattle.commands.specs.declared.reason.Diagnostic.{Diagnostic}
+use Rattle.commands.specs.declared.reason.Reason.{Reason}
+use Rattle.commands.specs.declared.reason.Reason.TheVariants as reasons
+use Rattle.commands.specs.declared.subject.Subject.{Subject}
+
+-- what is said at the word of the directive of a number
+abbrev pub at_directive : Reason → List Directive → ℕ → Diagnostic
+at_directive reason directives number = record { reason = reason; place = directive_place directives number }
+
+-- what is told of a certificate that is not checked: at the place of the assertion in the text, or of the netlist
+abbrev pub cert_fault : List ℕ → List ℕ → List Directive → ℕ → CertFault → Fault
+cert_fault unit netlist directives number limits.SereTooLarge =
+    fault_in unit (at_directive reasons.SereTooLarge directives number)
+cert_fault unit netlist directives number limits.AutomatonTooLarge =
+    fault_in unit (at_directive reasons.AutomatonTooLarge directives number)
+cert_fault unit netlist directives number limits.UnrollTooLarge = of_file reasons.UnrollTooLarge netlist
+cert_fault unit netlist directives number limits.FormulaTooLarge = of_file reasons.FormulaTooLarge netlist
+cert_fault unit netlist directives number limits.NoMemory = of_none reasons.NoMemory
+
+-- what is answered to a text
+pub record IsChecked (subject : Subject) (number : ℕ) (content : List ℕ) (answer : CertAnswer) : Type 0 where
+  -- that no line is refused, or the first line that is
+  pub answers : IsAnswer (asked_of subject.directives number) (queries_of subject.netlist subject.directives number) content answer
+  -- behind a header that is not refused, the limits are kept
+  pub fits : (header : Header) (directive : Directive) → HasHeader (asked_of subject.directives number) content header
+      → directive_of subject.directives number ≡ Some directive → FitsLimits subject.netlist subject.directives directive header
+  -- where no line is refused, each run of the netlist satisfies what is owed of the assertion
+  pub proved : answer ≡ Passed → IsProved subject.netlist subject.directives number
+
+-- the text passes a limit behind a header that is not refused, and this is told of it
+pub record IsUnchecked (unit netlist : List ℕ) (number : ℕ) (subject : Subject) (content : List ℕ) (fault : Fault) : Type 0 where
+  pub limit : CertFault
+  pub passed : IsFault subject.netlist subject.directives number content limit
+  pub is_limit : limit ≢ limits.NoMemory
+  pub fault_is : fault ≡ cert_fault unit netlist subject.directives number limit
+
+abbrev pub CertReading : List ℕ → List ℕ → ℕ → Subject → List ℕ → Result CertAnswer Fault → Type 0
+CertReading unit netlist number subject content (Ok answer) = IsChecked subject number content answer
+CertReading unit netlist number subject content (Err fault) = IsUnchecked unit netlist number subject content fault
+
+-- the certificate in a file
+abbrev pub CertStage : List ℕ → List ℕ → ℕ → List ℕ → Subject → Contents → Result CertAnswer Fault → Type 0
+CertStage unit netlist number certificate subject = OfFile (CertReading unit netlist number subject) certificate
+
+-- `check UNIT NETLIST NUMBER CERTIFICATE`
+abbrev pub CheckStage : List ℕ → List ℕ → ℕ → List ℕ → Contents → Result CertAnswer Fault → Type 0
+CheckStage unit netlist number certificate = Then (SubjectStage unit netlist) (CertStage unit netlist number certificate)

@@ -1,0 +1,103 @@
+ghost use Rattle.std.specs.Prelude.{◌≡◌, ◌≢◌, ◌⊎◌, ◌≤◌, ◌∷◌, [], length, All};
+ghost use Rattle.commands.specs.Checks as spec;
+ghost use Rattle.commands.specs.Checks.{CertReading, CertStage, CheckStage};
+ghost use Rattle.commands.specs.Faults.{of_none};
+ghost use Rattle.commands.specs.Stages.{IsStage, IsReading};
+ghost use Rattle.psl_base.specs.Places.{file_limit};
+ghost use Rattle.psl_tree.specs.Atoms.{AtomsOfFormula};
+ghost use Rattle.psl_tree.specs.Names.{AtomInRange};
+ghost use Rattle.psl_tree.specs.Trees.{formula_of};
+
+use crate::faults::{at_directive, fault_in, of_none, whole};
+use crate::inputs::load;
+use crate::outcome::Fault;
+use crate::reason::Reason;
+use crate::subject::{Subject, load_subject};
+use cert_check::{CertAnswer, CertFault, check_cert};
+use psl_base::Shelf;
+use psl_tree::Unit;
+use std::alloc::Global;
+
+/// What the words of `check` ask for: the names of the files, and the number of the assertion.
+#[derive(Clone, Copy)]
+pub struct Question<'a> {
+    pub unit: &'a str,
+    pub netlist: &'a str,
+    pub number: u32,
+    pub certificate: &'a str,
+}
+
+/// Checks whether a certificate shows that each run of a netlist satisfies what is owed of an assertion of a text, all
+/// three read from files: `check UNIT NETLIST NUMBER CERTIFICATE`.
+pub fn check<F: Shelf>(
+    alloc: Global,
+    files: &mut F,
+    question: Question<'_>,
+) -> Result<CertAnswer, Fault>
+    ensures { IsStage (question.entry.unit.now ∷ question.entry.netlist.now ∷ question.entry.certificate.now ∷ [])
+        (CheckStage question.entry.unit.now question.entry.netlist.now question.entry.number question.entry.certificate.now)
+        (F.state files.old) (F.state files.new) result }
+{
+    let subject = load_subject(alloc, files, question.unit, question.netlist)?;
+    check_file(alloc, files, &subject, question)
+}
+
+/// The same of a netlist and directives that were read.
+fn check_file<F: Shelf>(
+    alloc: Global,
+    files: &mut F,
+    subject: &Subject,
+    question: Question<'_>,
+) -> Result<CertAnswer, Fault>
+    requires { All (λ directive. AtomsOfFormula (AtomInRange subject.now.netlist.names) (formula_of directive.formula)) subject.now.directives }
+    ensures { IsStage (question.entry.unit.now ∷ question.entry.netlist.now ∷ question.entry.certificate.now ∷ [])
+        (CertStage question.entry.unit.now question.entry.netlist.now question.entry.number question.entry.certificate.now subject.now)
+        (F.state files.old) (F.state files.new) result }
+{
+    let text = load(alloc, files, question.certificate)?;
+    check_text(alloc, text.as_slice(), subject, question)
+}
+
+/// The same of a text.
+fn check_text(
+    alloc: Global,
+    text: &[u8],
+    subject: &Subject,
+    question: Question<'_>,
+) -> Result<CertAnswer, Fault>
+    requires in_range { All (λ directive. AtomsOfFormula (AtomInRange subject.now.netlist.names) (formula_of directive.formula)) subject.now.directives }
+    requires few { length text.now ≤ file_limit }
+    ensures { IsReading (question.entry.unit.now ∷ question.entry.netlist.now ∷ [])
+        (CertReading question.entry.unit.now question.entry.netlist.now question.entry.number subject.now text.now) result }
+{
+    let (directives, netlist) = (&subject.directives, &subject.netlist);
+    match check_cert(alloc, directives, question.number, netlist, text) {
+        Ok(answer) => Ok(answer),
+        Err(fault) => Err(cert_fault(alloc, question, directives, fault)),
+    }
+}
+
+/// The fault of a certificate that is not checked: at the place of the assertion in the text, or of the netlist. It may be
+/// want of memory.
+fn cert_fault(alloc: Global, question: Question<'_>, directives: &Unit, fault: CertFault) -> Fault
+    ensures { (result ≡ of_none Reason.NoMemory) ⊎ ((fault ≢ CertFault.NoMemory)
+        × (result ≡ spec.cert_fault question.entry.unit.now question.entry.netlist.now directives.now question.entry.number fault)) }
+{
+    let Question {
+        unit,
+        netlist,
+        number,
+        ..
+    } = question;
+    match fault {
+        CertFault::SereTooLarge => {
+            fault_in(alloc, unit, at_directive(Reason::SereTooLarge, directives, number))
+        }
+        CertFault::AutomatonTooLarge => {
+            fault_in(alloc, unit, at_directive(Reason::AutomatonTooLarge, directives, number))
+        }
+        CertFault::UnrollTooLarge => fault_in(alloc, netlist, whole(Reason::UnrollTooLarge)),
+        CertFault::FormulaTooLarge => fault_in(alloc, netlist, whole(Reason::FormulaTooLarge)),
+        CertFault::NoMemory => of_none(Reason::NoMemory),
+    }
+}

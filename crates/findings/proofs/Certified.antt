@@ -1,0 +1,154 @@
+-- The text of a certificate that the prover gives is passed, and passes no limit of the checker.
+use Rattle.std.proofs.Common.{◌≡◌, ◌⊎◌, ◌∙◌, refl, sym, ap, subst, ℕ, suc, ◌*◌, ◌<◌, ◌≤◌, List, [], ◌∷◌, ◌++◌, Option, Some, Result, Ok, Err, inl, inr, arith}
+use Rattle.std.specs.Prelude.{IfOk, IfErr}
+use Rattle.std.proofs.lemmas.Nat.{mul-le}
+use Rattle.std.proofs.lemmas.Option.{same_Some}
+use Rattle.cdcl.specs.Evidence as solver
+use Rattle.cert_check.specs.Claims.{asked_of, directive_of, is_some_assertion, queries_by, queries_of}
+use Rattle.cert_check.specs.Limits.{HasCause, IsFault, IsFaultBehind}
+use Rattle.cert_check.specs.declared.fault.CertFault.{CertFault}
+use Rattle.cert_check.specs.declared.fault.CertFault.TheVariants.{SereTooLarge, AutomatonTooLarge, UnrollTooLarge, FormulaTooLarge, NoMemory}
+use Rattle.certificate.proofs.HeaderLines.{header_once}
+use Rattle.certificate.proofs.OneAnswer.{one_answer}
+use Rattle.certificate.specs.Headers.{MayBe}
+use Rattle.certificate.specs.Printed.{cert_text, header_of}
+use Rattle.certificate.specs.Sections.{NamesLive, Query}
+use Rattle.certificate.specs.Texts.{IsAnswer}
+use Rattle.certificate.specs.declared.answer.CertAnswer.{CertAnswer}
+use Rattle.certificate.specs.declared.answer.CertAnswer.TheVariants.{Passed}
+use Rattle.certificate.specs.declared.certificate.Certificate.{Certificate}
+use Rattle.certificate.specs.declared.header.Field.TheVariants.{Assertion}
+use Rattle.certificate.specs.declared.header.Header.{Header}
+use Rattle.certificate.specs.declared.header.Section.TheVariants as sections
+use Rattle.certificate.specs.declared.header.Version.{Version}
+use Rattle.certificate_text.proofs.Passing.{text_header, text_passes}
+use Rattle.certificate_text.specs.Evidence.{EachDrop, IsEvidence, IsRefuted}
+use Rattle.clauses.specs.Logs.{LogEntry}
+use Rattle.clauses.specs.Logs.LogEntry.{Lemma, Forget}
+use Rattle.clauses.specs.declared.flat.TheConstants.{MOST_VARIABLES}
+use Rattle.gates.specs.declared.limits.TheConstants.{MOST_WORK}
+use Rattle.netlist.specs.Design.{Design}
+use Rattle.owed.specs.Owed.{plain_owed}
+use Rattle.prover.specs.Findings.{IsFinding}
+use Rattle.prover.specs.Proving as found
+use Rattle.prover.specs.Proving.{IsProved}
+use Rattle.prover.specs.Queries.{clauses_of, variables_of}
+use Rattle.prover.specs.Tasks.{IsProvable}
+use Rattle.prover.specs.declared.finding.Finding.{Finding}
+use Rattle.prover.specs.declared.finding.Finding.TheVariants.{Proved}
+use Rattle.prover.specs.declared.finding.Query as asked
+use Rattle.prover.specs.declared.finding.Query.TheVariants.{Base, Induction}
+use Rattle.prover.specs.declared.options.Options.{Options}
+use Rattle.prover.specs.declared.task.Task.{Task}
+use Rattle.psl_tree.specs.declared.directive.Directive.{Directive}
+use Rattle.work_limits.specs.Sized.{IsSized, bulk_of}
+use Rattle.findings.specs.Assertions.{IsAssertionOf}
+use Rattle.findings.specs.Entries.{IsPassedFor}
+
+-- what a law of the solver says of drops
+drops-live : (query : Query) (before log : List LogEntry) → solver.DropsLive query.clauses before log → EachDrop (NamesLive query) before log
+drops-live query before [] drops = tt
+drops-live query before (Lemma literals hints ∷ log) drops = drops-live query (before ++ Lemma literals hints ∷ []) log drops
+drops-live query before (Forget number ∷ log) drops = (drops.0, drops-live query (before ++ Forget number ∷ []) log drops.1)
+
+-- a smaller window takes no more work
+less-work : (w d bulk : ℕ) → w ≤ d → suc w * suc w * bulk ≤ suc d * suc d * bulk
+less-work w d bulk le =
+    let more : suc w ≤ suc d = omega (arith, le) in
+    mul-le (suc w * suc w) bulk (suc d * suc d) bulk (mul-le (suc w) (suc w) (suc d) (suc d) more more) (omega arith)
+
+module _ (design : Design) (unit : List Directive) (d : Directive) (options : Options) where
+  -- a log of the solver shows it
+  refuted : (query : asked.Query) (log : List LogEntry) → found.IsRefuted design unit d options.steps query log
+      → IsRefuted (record { variables = variables_of design unit d query; clauses = clauses_of design unit d query }) log
+  refuted query log is =
+      let few : MOST_VARIABLES < variables_of design unit d query → ⊥ = λ many. is.fits (inl many) in
+      record {
+        variables = omega (arith, few);
+        words = is.words;
+        refutes = is.refutes;
+        drops_live = drops-live (record { variables = variables_of design unit d query; clauses = clauses_of design unit d query }) [] log is.tidy.drops_live;
+        empty_last = is.tidy.empty_last;
+      }
+
+  -- so the certificate is evidence
+  evidence : IsAssertionOf unit d → d.number ≤ 4294967295 → options.visits ≤ 16 → options.depth ≤ 1000
+      → (certificate : Certificate) → IsProved design unit d options certificate
+      → IsEvidence (asked_of unit d.number) (queries_of design unit d.number) certificate
+  evidence assertion few visits depth certificate proved = record {
+    is_asked = (proved.number, ap is_some_assertion assertion.is ∙ assertion.kind);
+    number = subst (MayBe Assertion) (sym proved.number) (record { least = assertion.some; most = few });
+    visits = record { least = omega arith; most = omega (arith, proved.visits, visits) };
+    window = record { least = proved.some; most = omega (arith, proved.within, depth) };
+    base =
+        subst (λ (f : Option Directive). IsRefuted (queries_by design unit f sections.Base certificate.visits certificate.window) certificate.base) (sym assertion.is)
+        (refuted (Base certificate.visits certificate.window) certificate.base proved.base);
+    induction =
+        subst (λ (f : Option Directive). IsRefuted (queries_by design unit f sections.Induction certificate.visits certificate.window) certificate.induction) (sym assertion.is)
+        (refuted (Induction certificate.visits certificate.window) certificate.induction proved.induction);
+  }
+
+  -- what it says of itself passes no limit
+  within-limits : IsSized design options.depth (plain_owed unit d) → (version : Version) (certificate : Certificate) → IsProved design unit d options certificate
+      → (fault : CertFault) → IsFaultBehind design unit d (header_of version certificate) fault → fault ≡ NoMemory
+  within-limits sized version certificate proved SereTooLarge cause = absurd (sized.sequences cause)
+  within-limits sized version certificate proved AutomatonTooLarge cause =
+      absurd (let few = sized.obligations in let many = cause.1 in omega (arith, few, many))
+  within-limits sized version certificate proved UnrollTooLarge cause =
+      let bulk = bulk_of design (plain_owed unit d) in
+      let few : suc options.depth * suc options.depth * bulk ≤ MOST_WORK = sized.unrolled in
+      let many : MOST_WORK < suc certificate.window * suc certificate.window * bulk = cause.2 in
+      absurd (omega (arith, few, many, less-work certificate.window options.depth bulk proved.within))
+  within-limits sized version certificate proved FormulaTooLarge cause = elim cause.1 as (λ _. FormulaTooLarge ≡ NoMemory) [
+    | inl large ↦ absurd (proved.base.fits large)
+    | inr large ↦ absurd (proved.induction.fits large)
+  ]
+  within-limits sized version certificate proved NoMemory cause = refl
+
+  -- a limit that is passed is passed by its own header
+  by-header : (there : directive_of unit d.number ≡ Some d) → IsSized design options.depth (plain_owed unit d) → (version : Version) (certificate : Certificate)
+      → IsProved design unit d options certificate → IsEvidence (asked_of unit d.number) (queries_of design unit d.number) certificate → (fault : CertFault)
+      → HasCause design unit d.number (cert_text version certificate) fault → fault ≡ NoMemory
+  by-header there sized version certificate proved is fault cause =
+      let header : cause.header ≡ header_of version certificate =
+      header_once (asked_of unit d.number) (cert_text version certificate) cause.header (header_of version certificate) cause.has
+      (text_header (asked_of unit d.number) (queries_of design unit d.number) version certificate is) in
+      let directive : cause.directive ≡ d = same_Some cause.directive d (sym cause.is ∙ there) in
+      within-limits sized version certificate proved fault
+      (subst (λ (e : Directive). IsFaultBehind design unit e (header_of version certificate) fault) directive
+      (subst (λ (h : Header). IsFaultBehind design unit cause.directive h fault) header cause.fault_is))
+
+  no-fault : directive_of unit d.number ≡ Some d → IsSized design options.depth (plain_owed unit d) → (version : Version) (certificate : Certificate)
+      → IsProved design unit d options certificate → IsEvidence (asked_of unit d.number) (queries_of design unit d.number) certificate → (fault : CertFault)
+      → IsFault design unit d.number (cert_text version certificate) fault → fault ≡ NoMemory
+  no-fault there sized version certificate proved is SereTooLarge cause = by-header there sized version certificate proved is SereTooLarge cause
+  no-fault there sized version certificate proved is AutomatonTooLarge cause = by-header there sized version certificate proved is AutomatonTooLarge cause
+  no-fault there sized version certificate proved is UnrollTooLarge cause = by-header there sized version certificate proved is UnrollTooLarge cause
+  no-fault there sized version certificate proved is FormulaTooLarge cause = by-header there sized version certificate proved is FormulaTooLarge cause
+  no-fault there sized version certificate proved is NoMemory cause = refl
+
+-- what is found of a task
+pub passed-for : (task : Task) → IsProvable task → IsAssertionOf task.unit.now task.assertion.now → task.options.depth ≤ 1000 → task.assertion.now.number ≤ 4294967295
+    → (finding : Finding) → IsFinding task.netlist.now task.unit.now task.assertion.now task.options finding
+    → (certificate : Certificate) → finding ≡ Proved certificate → IsPassedFor task.netlist.now task.unit.now task.assertion.now.number certificate
+passed-for task provable assertion depth few finding is certificate same =
+    let design = task.netlist.now in
+    let unit = task.unit.now in
+    let d = task.assertion.now in
+    let proved : IsProved design unit d task.options certificate = subst (IsFinding design unit d task.options) same is in
+    let shows = evidence design unit d task.options assertion few provable.visits depth certificate proved in
+    record {
+      passed = λ version. text_passes (asked_of unit d.number) (queries_of design unit d.number) version certificate shows;
+      checked = λ version fault cause. no-fault design unit d task.options assertion.is provable.sized version certificate proved shows fault cause;
+    }
+
+-- so it is passed by whoever answers as the checker does
+pub result-passed : (design : Design) (unit : List Directive) (number : ℕ) (certificate : Certificate) (version : Version) → IsPassedFor design unit number certificate
+    → (result : Result CertAnswer CertFault)
+    → IfOk result (IsAnswer (asked_of unit number) (queries_of design unit number) (cert_text version certificate))
+    → IfErr result (IsFault design unit number (cert_text version certificate))
+    → (result ≡ Ok Passed) ⊎ (result ≡ Err NoMemory)
+result-passed design unit number certificate version is (Ok answer) answers fails =
+    inl (ap (λ (a : CertAnswer). Ok a) (one_answer (asked_of unit number) (queries_of design unit number) (cert_text version certificate) answer Passed answers (is.passed version)))
+result-passed design unit number certificate version is (Err fault) answers fails =
+    inr (ap (λ (f : CertFault). Err f) (is.checked version fault fails))

@@ -1,0 +1,15 @@
+use Rattle.std.proofs.Common.{◌≤◌, arith}
+use Rattle.certificate.specs.declared.certificate.Certificate.{Certificate}
+use Rattle.findings.proofs.Certified.{passed-for}
+use Rattle.findings.proofs.proving.entry_of.Goals as goal
+
+pub returns : goal.returns
+returns c =
+    let few : c.args.task.assertion.now.number ≤ 4294967295 = omega (arith, c.number_of.ensures.is, c.number_of.ensures.few) in
+    record {
+      number = c.number_of.ensures.is;
+      label = c.in_ok-copy_of.ensures;
+      finding = c.in_ok-finding.ensures;
+      passed = λ (certificate : Certificate) same. rw c.number_of.ensures.is
+          (passed-for c.args.task c.requires.provable c.requires.assertion c.requires.depth few c.in_ok-finding.finding c.in_ok-finding.ensures certificate same);
+    }
