@@ -22,6 +22,8 @@ pub struct Section<'a> {
     pub form: Form,
     /// Whether the last line feed is taken off.
     pub is_cut: bool,
+    /// Whether it is what a file has after the run, and not before it.
+    pub is_written: bool,
     pub lines: Vec<&'a str>,
 }
 
@@ -35,6 +37,8 @@ pub struct Case<'a> {
     pub unread: Numbers,
     /// How many bytes a call of the files gives at the most.
     pub piece: Option<u32>,
+    /// How many bytes the names and the contents of new files may have together.
+    pub file_room: Option<u32>,
     /// The calls of the standard output that fail, and how many bytes it takes.
     pub unwritten: Numbers,
     pub room: Option<u32>,
@@ -53,6 +57,7 @@ impl<'a> Section<'a> {
             after: None,
             form: Form::Plain,
             is_cut: false,
+            is_written: false,
             lines: Vec::new(alloc),
         };
         let mut is_named = false;
@@ -66,6 +71,7 @@ impl<'a> Section<'a> {
                 "escaped" => section.form = Form::Escaped,
                 "made" => section.form = Form::Made,
                 "cut" => section.is_cut = true,
+                "written" => section.is_written = true,
                 _ => return None,
             }
         }
@@ -82,6 +88,7 @@ impl<'a> Case<'a> {
             status: None,
             unread: Numbers::new(alloc),
             piece: None,
+            file_room: None,
             unwritten: Numbers::new(alloc),
             room: None,
             untold: Numbers::new(alloc),
@@ -97,6 +104,15 @@ impl<'a> Case<'a> {
             .iter()
             .rev()
             .find(|section| section.name == name)
+    }
+
+    /// The last section of a name that is written.
+    pub fn written(&self, name: &str) -> Option<&Section<'a>> {
+        self.sections
+            .as_slice()
+            .iter()
+            .rev()
+            .find(|section| section.is_written && section.name == name)
     }
 
     /// Takes a line of the case; `None` where it is of no case.
@@ -127,6 +143,7 @@ impl<'a> Case<'a> {
             (Some("piece"), Some(size), None) => self.piece = size.parse::<u32>().ok(),
             (Some("room"), Some("out"), Some(size)) => self.room = size.parse::<u32>().ok(),
             (Some("room"), Some("err"), Some(size)) => self.error_room = size.parse::<u32>().ok(),
+            (Some("room"), Some("files"), Some(size)) => self.file_room = size.parse::<u32>().ok(),
             (Some("fail"), Some(where_), Some(number)) => {
                 let Ok(number) = number.parse::<u32>() else {
                     return Ok(None);

@@ -1,6 +1,6 @@
 ghost use Rattle.std.specs.Prelude.{◌<◌};
 
-use crate::case::Case;
+use crate::case::{Case, Section};
 use crate::content::content_of;
 use crate::fault::Fault;
 use crate::pieces::Pieces;
@@ -14,9 +14,10 @@ const ROOM: u32 = 16_777_216;
 /// How much of a line is shown.
 const SHOWN: usize = 200;
 
-/// What the outputs have after a run, and its status.
+/// What files and outputs have after a run, and its status.
 #[derive(Drop)]
 struct Outputs {
+    shelf: MemShelf,
     out: MemSink,
     err: MemSink,
     status: u8,
@@ -40,6 +41,8 @@ pub fn difference<'a>(
             add_line(alloc, name, wanted.as_slice(), bytes, &mut found)?;
         }
     }
+    add_files_found(alloc, common, case, common, &ran.shelf, &mut found)?;
+    add_files_found(alloc, common, case, case, &ran.shelf, &mut found)?;
     Ok(if found.is_empty() { None } else { Some(found) })
 }
 
@@ -63,7 +66,13 @@ fn outputs_of<'a>(alloc: Global, common: &Case<'a>, case: &Case<'a>) -> Result<O
     add_files(alloc, common, common, &mut files)?;
     add_files(alloc, common, case, &mut files)?;
     let mut shelf = Pieces {
-        shelf: MemShelf::new(alloc, &files, 0, 0, &case.unread)?,
+        shelf: MemShelf::new(
+            alloc,
+            &files,
+            written_in(common).saturating_add(written_in(case)),
+            case.file_room.unwrap_or(ROOM),
+            &case.unread,
+        )?,
         most: most_of(case.piece),
     };
     let room = case.room.unwrap_or(ROOM);
@@ -72,7 +81,23 @@ fn outputs_of<'a>(alloc: Global, common: &Case<'a>, case: &Case<'a>) -> Result<O
     let mut err = MemSink::new(alloc, room, &case.untold)?;
     let report = run(alloc, words.as_slice(), &mut shelf, &mut out, &mut err);
     let status = report.status;
-    Ok(Outputs { out, err, status })
+    Ok(Outputs {
+        shelf: shelf.shelf,
+        out,
+        err,
+        status,
+    })
+}
+
+/// How many files are written in a case. A run has no room for the name of another one.
+fn written_in(case: &Case<'_>) -> u32 {
+    let mut count = 0u32;
+    for section in case.sections.as_slice() {
+        if section.is_written {
+            count = count.saturating_add(1);
+        }
+    }
+    count
 }
 
 /// How many bytes a call gives at the most: at least one, and as many as are asked for where nothing is said.
@@ -97,7 +122,62 @@ fn words<'a>(alloc: Global, common: &Case<'a>, case: &Case<'a>) -> Result<Vec<St
     Ok(words)
 }
 
-/// The files of a case; its outputs are none.
+/// What differs in the files of a part after a run. A file that is not written has what it had before.
+fn add_files_found<'a, 'b>(
+    alloc: Global,
+    common: &'b Case<'a>,
+    case: &'b Case<'a>,
+    part: &Case<'a>,
+    shelf: &MemShelf,
+    found: &mut String,
+) -> Result<(), Fault> {
+    for section in part.sections.as_slice() {
+        let name = section.name;
+        if let (Some(after), false) = (section_after(common, case, name), is_output(name)) {
+            add_file_found(alloc, common, after, shelf.content(name), found)?;
+        }
+    }
+    Ok(())
+}
+
+/// What a file has after a run: what is written to it, and else what it had before.
+fn section_after<'a, 'b>(
+    common: &'b Case<'a>,
+    case: &'b Case<'a>,
+    name: &str,
+) -> Option<&'b Section<'a>> {
+    case.written(name)
+        .or(common.written(name))
+        .or(case.section(name))
+        .or(common.section(name))
+}
+
+/// What differs in a file after a run.
+fn add_file_found<'a>(
+    alloc: Global,
+    common: &Case<'a>,
+    section: &Section<'a>,
+    content: Option<&[u8]>,
+    found: &mut String,
+) -> Result<(), Fault> {
+    let wanted = content_of(alloc, common, section)?;
+    match content {
+        Some(bytes) if bytes == wanted.as_slice() => {}
+        Some(bytes) => add_line(alloc, section.name, wanted.as_slice(), bytes, found)?,
+        None => {
+            let name = section.name;
+            found.push_str(format!(in alloc; "  {name} is not there\n")?.as_str())?;
+        }
+    }
+    Ok(())
+}
+
+/// Whether a section is of an output.
+fn is_output(name: &str) -> bool {
+    name == "stdout" || name == "stderr"
+}
+
+/// The files of a case before a run; its outputs are none.
 fn add_files<'a>(
     alloc: Global,
     common: &Case<'a>,
@@ -105,7 +185,7 @@ fn add_files<'a>(
     files: &mut Files,
 ) -> Result<(), Fault> {
     for section in case.sections.as_slice() {
-        if section.name != "stdout" && section.name != "stderr" {
+        if !section.is_written && !is_output(section.name) {
             files.push(File {
                 name: Bytes::from_slice(alloc, section.name.as_bytes())?,
                 content: content_of(alloc, common, section)?,
