@@ -77,7 +77,9 @@ pub fn run<F: Shelf, O: Sink, E: Sink>(
         (HadToTell (map string_bytes words.now) (F.state files.old) (F.state files.new)) result.outcome result.fault (O.state out.old) (O.state out.new) (E.state err.old) (E.state err.new) }
 
     // A count that is larger after the run than before it comes with the status of such a fault.
-    ensures counted { ((F.state files.old).read_faults < (F.state files.new).read_faults) ⊎ (((F.state files.old).write_faults < (F.state files.new).write_faults) ⊎ (((O.state out.old).faults < (O.state out.new).faults) ⊎ ((E.state err.old).faults < (E.state err.new).faults)))
+    ensures counted { ((F.state files.old).read_faults < (F.state files.new).read_faults)
+        ⊎ (((F.state files.old).write_faults < (F.state files.new).write_faults)
+        ⊎ (((O.state out.old).faults < (O.state out.new).faults) ⊎ ((E.state err.old).faults < (E.state err.new).faults)))
         → IsDeviceStatus result.status }
 
     // Where all contents are told and nothing fails, the answer is the first refusal, or that there is
