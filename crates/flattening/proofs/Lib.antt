@@ -1,6 +1,7 @@
 pub mod Beginning
 pub mod Keeping
 pub mod Lines
+pub mod Listed
 pub mod Members
 pub mod Mentions
 pub mod Numbering

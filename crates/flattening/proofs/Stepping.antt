@@ -5,7 +5,7 @@ use Rattle.flattening.specs.declared.model.Model.{Model}
 use Rattle.flattening.specs.declared.walk.Progress.{Progress}
 use Rattle.flattening.specs.Hierarchy.{Path, items_of, model_at, items_at, lines_by, expand}
 use Rattle.flattening.specs.Walks.{Walks}
-use Rattle.flattening.proofs.Walking.{Walks-none}
+use Rattle.flattening.proofs.Walking.{Walks-same}
 
 -- what is so many levels deep, is the lines of the items, with what is one level less deep in the place of placements
 pub expand-step : {Line : Type 0} (models : List (Model Line)) (levels : ℕ) (path : Path) (model : ℕ) (items : List (Item Line))
@@ -17,8 +17,8 @@ expand-step models (suc levels) path model items some is listed =
     ap (λ n. lines_by (expand models n) path 0 (items_at models path)) less
     ∙ ap (lines_by (expand models (suc levels - 1)) path 0) (ap (items_of models) (sym is) ∙ listed)
 
-pub Walks-nothing : (Line : Type 0) (mentions : Line → List ℕ) (models : List (Model Line)) (levels : ℕ) (path : Path) (model : ℕ) (progress : Progress)
-    → levels ≢ 0 → model ≡ model_at models path → items_of models model ≡ [] → Walks mentions models (expand models levels path) progress progress
-Walks-nothing Line mentions models levels path model progress some is none =
-    subst (λ lines. Walks mentions models lines progress progress) (sym (expand-step models levels path model [] some is none))
-    (Walks-none Line mentions models progress)
+pub Walks-nothing : (Line : Type 0) (mentions : Line → List ℕ) (models : List (Model Line)) (levels : ℕ) (path : Path) (model : ℕ) (old new : Progress)
+    → new.table ≡ old.table → new.lines ≡ old.lines → levels ≢ 0 → model ≡ model_at models path → items_of models model ≡ [] → Walks mentions models (expand models levels path) old new
+Walks-nothing Line mentions models levels path model old new table same some is none =
+    subst (λ lines. Walks mentions models lines old new) (sym (expand-step models levels path model [] some is none))
+    (Walks-same Line mentions models old new table same)

@@ -1,15 +1,16 @@
 -- The table of signals: one more cell, and one more mention.
-use Rattle.std.proofs.Common.{◌≡◌, ◌≢◌, ℕ, ◌+◌, ◌<◌, ◌⊎◌, inl, inr, List, [], ◌∷◌, ◌++◌, length, map, set, get_or, Some, None, sym, ap, ◌∙◌, subst, ⊎_elim, arith}
+use Rattle.std.proofs.Common.{◌≡◌, ◌≢◌, ℕ, ◌+◌, ◌<◌, ◌⊎◌, inl, inr, true, false, Option, List, [], ◌∷◌, ◌++◌, length, map, set, get_or, Some, None, refl, sym, ap, ◌∙◌, subst, ⊎_elim, arith}
 use Rattle.std.proofs.lemmas.List.{map-set, map_push, length-set, length-map, length_push, set-get_or, get_or-map, get_or-set_same, get_or-set_other, get_or_append_left, get_or_push, ext_get_or}
 use Rattle.std.proofs.lemmas.Option.{none-some, same_Some}
 use Rattle.std.proofs.lemmas.Bool.{cases_lt, cases_eq}
 use Rattle.flattening.specs.declared.model.Signal.{Signal}
 use Rattle.flattening.specs.declared.cells.Cell.{Cell}
 use Rattle.flattening.specs.Members.{Among, Apart}
-use Rattle.flattening.specs.Numbers.{onto, place_of}
+use Rattle.flattening.specs.Listing.{number_in_list}
+use Rattle.flattening.specs.Numbers.{is_among, onto, place_of}
 use Rattle.flattening.specs.Cells.{SignalTable, no_signal, signals_of, signal_in, number_in, seen_of, table_of, IsTable, with_owner}
 use Rattle.flattening.proofs.Members.{Among-at, Among-place, from_append, from_map}
-use Rattle.flattening.proofs.Numbering.{Apart-push, onto-seen, onto-new, place_of-get_or}
+use Rattle.flattening.proofs.Numbering.{Among-told, Apart-push, onto-seen, onto-new, place_of-get_or}
 
 -- a place of a list with one more member is old, or the last one
 pub pushed_place : (i n : ℕ) → i < n + 1 → (i < n) ⊎ (i ≡ n)
@@ -254,3 +255,24 @@ module _ (cells : List Cell) (order : List ℕ) (table : IsTable cells order) wh
     table-added =
         let make : List Signal → List Signal → SignalTable = λ owners seen. record { owners = owners; seen = seen } in
         ap (λ owners. make owners (seen_of more order)) owners-more ∙ ap (λ seen. make (signals_of cells ++ signal ∷ []) seen) seen-same
+
+none-among : (xs : List Signal) (x : Signal) → (Among x xs → ⊥) → is_among xs x ≡ false
+none-among xs x not = ⊎_elim (λ yes. absurd (not yes.1)) (λ no. no.0) (Among-told xs x)
+
+some-among : (xs : List Signal) (x : Signal) → Among x xs → is_among xs x ≡ true
+some-among xs x there = ⊎_elim (λ yes. yes.0) (λ no. absurd (no.1 there)) (Among-told xs x)
+
+-- the number that a cell has is that of its signal, where it was mentioned
+pub number-asked : (cells : List Cell) (order : List ℕ) (place : ℕ) (found : Option ℕ) → IsTable cells order → place < length cells → number_in cells place ≡ found
+    → found ≡ number_in_list (seen_of cells order) (signal_in (signals_of cells) place)
+number-asked cells order place None table lt is =
+    rw (none-among (seen_of cells order) (signal_in (signals_of cells) place) (table.unseen place lt is)) refl
+number-asked cells order place (Some number) table lt is =
+    let seen = seen_of cells order in
+    let signal = signal_in (signals_of cells) place in
+    let at = table.numbered place number lt is in
+    let inside : number < length seen = omega (arith, at.0, length-map order (signal_in (signals_of cells))) in
+    let same : signal_in seen number ≡ signal =
+    get_or-map (signal_in (signals_of cells)) order number 0 no_signal at.0 ∙ ap (signal_in (signals_of cells)) at.1 in
+    rw (some-among seen signal (subst (λ s. Among s seen) same (Among-at seen number no_signal inside)))
+    (ap Some (number-mentioned cells order table place number lt is))

@@ -8,6 +8,7 @@ use Rattle.flattening.specs.declared.model.Item.TheVariants.{Own, Place}
 use Rattle.flattening.specs.declared.model.Model.{Model}
 use Rattle.flattening.specs.declared.instance.Instance.{Instance}
 use Rattle.flattening.specs.declared.walk.Progress.{Progress}
+use Rattle.flattening.specs.Cells.{SignalTable}
 use Rattle.flattening.specs.Members.{Among}
 use Rattle.flattening.specs.Hierarchy.{Path, Placed, items_of, placements_in, model_at, owner, lines_by, mentioned_by, mentioned}
 use Rattle.flattening.specs.Numbers.{onto, place_of}
@@ -26,7 +27,7 @@ AreCells-grown old added cells count own are = record {
 }
 
 -- what is left of a list at one of its members
-drop-at : {X : Type 0} (xs : List X) (i : ℕ) (x : X) → slice_get xs i ≡ Some x → drop i xs ≡ x ∷ drop (i + 1) xs
+pub drop-at : {X : Type 0} (xs : List X) (i : ℕ) (x : X) → slice_get xs i ≡ Some x → drop i xs ≡ x ∷ drop (i + 1) xs
 drop-at [] i x is = cc
 drop-at (y ∷ xs) zero x is = let same : y ≡ x = cc in ap (λ z. z ∷ xs) same
 drop-at (y ∷ xs) (suc i) x is =
@@ -98,6 +99,12 @@ module _ (Line : Type 0) (mentions : Line → List ℕ) (models : List (Model Li
   pub Walks-none : (progress : Progress) → Walks mentions models [] progress progress
   Walks-none progress = record { seen = refl; found = sym (append-nil (map (line_view models) progress.lines)) }
 
+  pub Walks-same : (old new : Progress) → new.table ≡ old.table → new.lines ≡ old.lines → Walks mentions models [] old new
+  Walks-same old new table lines = record {
+    seen = ap (λ (t : SignalTable). t.seen) table;
+    found = ap (map (line_view models)) lines ∙ sym (append-nil (map (line_view models) old.lines));
+  }
+
   pub Walks-append : (xs ys : List (Placed Line)) (old mid new : Progress) → Walks mentions models xs old mid → Walks mentions models ys mid new
       → Walks mentions models (xs ++ ys) old new
   Walks-append xs ys old mid new first second =
@@ -125,13 +132,13 @@ module _ (Line : Type 0) (mentions : Line → List ℕ) (models : List (Model Li
       pub places : (j : ℕ) → slice_get (placements_in (drop item items)) j ≡ slice_get (placements_in items) (k + j)
       pub few : k ≤ item
 
-    pub walking-start : IsFresh old.table.owners path 0 → Walking old 0 0
-    walking-start fresh = record {
+    pub walking-start : (now : Progress) → now.table ≡ old.table → now.lines ≡ old.lines → IsFresh old.table.owners path 0 → Walking now 0 0
+    walking-start now table lines fresh = record {
       consumed = [];
-      walks = Walks-none old;
+      walks = Walks-same old now table lines;
       left = refl;
-      grows = Grows-none path old.table.owners;
-      fresh = fresh;
+      grows = record { added = []; is = ap (λ (t : SignalTable). t.owners) table ∙ sym (append-nil old.table.owners); below = λ signal none. absurd none };
+      fresh = subst (λ (t : SignalTable). IsFresh t.owners path 0) (sym table) fresh;
       places = λ j. let same : 0 + j ≡ j = omega arith in ap (λ n. slice_get (placements_in items) n) (sym same);
       few = omega arith;
     }

@@ -2,6 +2,7 @@ pub mod Cells
 pub mod Example
 pub mod Hierarchy
 pub mod Instances
+pub mod Listing
 pub mod Members
 pub mod Numbers
 pub mod Trees

@@ -47,6 +47,7 @@ pub record Walks {Line : Type 0} (mentions : Line → List ℕ) (models : List (
 pub record AddsLine (instance : Instance) (item : ℕ) (names : List ℕ) (old new : Progress) : Type 0 where
   pub owners : new.table.owners ≡ old.table.owners
   pub seen : new.table.seen ≡ onto old.table.seen (named old.table.owners instance.cells names)
+  pub instances : new.instances ≡ old.instances
   pub lines : new.lines ≡ old.lines ++ record {
     model = instance.model;
     item = item;

@@ -3,6 +3,7 @@ ghost use Rattle.std.specs.Prelude.{◌≡◌, ◌+◌, ◌<◌, ◌≤◌, ◌^
 ghost use Rattle.flattening.specs.Members.{Among};
 ghost use Rattle.flattening.specs.Numbers.{onto, place_of};
 ghost use Rattle.flattening.specs.Cells.{signal_in, with_owner, named};
+ghost use Rattle.flattening.specs.Listing.{number_in_list};
 
 use crate::model::Signal;
 use psl_base::{Items, NoMemory, Numbers};
@@ -82,6 +83,31 @@ impl Cells {
         self.order.push(cell)?;
         self.cells[cell].number = Some(number);
         Ok(number)
+    }
+
+    /// The number of the signal of a cell, where it was mentioned.
+    pub(crate) fn number(&self, cell: usize) -> Option<u32>
+        requires { cell < length self.now.owners }
+        ensures { result ≡ number_in_list self.now.seen (signal_in self.now.owners cell) }
+    {
+        self.cells[cell].number
+    }
+
+    /// The numbers of the signals of cells, where they were mentioned.
+    pub(crate) fn numbers(
+        &self,
+        alloc: Global,
+        cells: &[usize],
+    ) -> Result<Items<Option<u32>>, NoMemory>
+        requires { All (λ cell. cell < length self.now.owners) cells.now }
+        ensures { IfOk result (λ numbers. numbers
+            ≡ map (λ cell. number_in_list self.now.seen (signal_in self.now.owners cell)) cells.now) }
+    {
+        let mut numbers = Items::new(alloc);
+        for cell in cells {
+            numbers.push(self.number(*cell))?;
+        }
+        Ok(numbers)
     }
 
     /// The numbers of the signals that names mention, where `cells` has the cell of each name.

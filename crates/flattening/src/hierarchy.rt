@@ -1,10 +1,12 @@
 // Hierarchies flattened.
 ghost use Rattle.std.specs.Prelude.{◌≡◌, ◌≤◌, ◌^◌, length, map, IfOk};
 ghost use Rattle.flattening.specs.Hierarchy.{flat_lines};
+ghost use Rattle.flattening.specs.Listing.{AreSmall, flat_instance, instances};
 ghost use Rattle.flattening.specs.Numbers.{signals};
 ghost use Rattle.flattening.specs.Instances.{IsNamed};
 ghost use Rattle.flattening.specs.Walks.{line_view, placed_view};
 
+use crate::listing::{FlatInstance, listed};
 use crate::model::{DEEPEST, Line, Model};
 use crate::walk::{FlatLine, Progress, open_top, walk};
 use psl_base::{Items, NoMemory};
@@ -17,6 +19,8 @@ pub struct Flat {
     pub signals: usize,
     /// The lines.
     pub lines: Items<FlatLine>,
+    /// The instances, the top first, and those that a placement makes in its place.
+    pub instances: Items<FlatInstance>,
 }
 
 /// The lines of all instances, in flat order, which has the lines of a model in the place of each of its placements.
@@ -33,14 +37,23 @@ pub fn flatten<L: Line>(alloc: Global, models: &Items<Model<L>>) -> Result<Flat,
     ensures signals { IfOk result (λ flat. flat.signals ≡ length (signals L.mentions models.now)) }
     ensures lines { IfOk result (λ flat. map (line_view models.now) flat.lines
         ≡ map (placed_view L.mentions models.now (signals L.mentions models.now)) (flat_lines models.now)) }
+    ensures instances { IfOk result (λ flat. flat.instances
+        ≡ map (flat_instance L.mentions models.now) (instances models.now)) }
+    ensures small { IfOk result (λ flat. AreSmall flat.instances) }
 {
     let mut out = Progress::new(alloc);
     let top = open_top(alloc, models, &mut out)?;
     walk(alloc, models, &mut out, &top, levels())?;
-    let Progress { table, lines } = out;
+    let Progress {
+        table,
+        lines,
+        instances,
+    } = out;
+    let instances = listed(alloc, &table, &instances)?;
     Ok(Flat {
         signals: table.seen(),
         lines,
+        instances,
     })
 }
 

@@ -9,6 +9,7 @@ mod cells;
 mod hierarchy;
 mod instance;
 mod laws;
+mod listing;
 mod model;
 #[cfg(test)]
 mod tests;
@@ -16,6 +17,7 @@ mod walk;
 
 pub use hierarchy::{Flat, flatten};
 pub use laws::unfolding_is_one_to_one;
+pub use listing::FlatInstance;
 pub use model::{Connection, DEEPEST, Item, Line, Model, Placement, Signal};
 pub use psl_base::NoMemory;
 pub use walk::FlatLine;

@@ -1,9 +1,10 @@
 // The walk through all instances, in flat order.
-ghost use Rattle.std.specs.Prelude.{◌≡◌, ◌+◌, ◌<◌, ◌≤◌, ◌^◌, [], ◌∷◌, length, All, IfOk, OnOk, Some, slice_get};
+ghost use Rattle.std.specs.Prelude.{◌≡◌, ◌+◌, ◌<◌, ◌≤◌, ◌^◌, [], ◌∷◌, ◌++◌, length, All, IfOk, OnOk, Some, slice_get};
 ghost use Rattle.flattening.specs.Hierarchy.{items_of, placement_at, mentioned, expand};
 ghost use Rattle.flattening.specs.Numbers.{onto};
 ghost use Rattle.flattening.specs.Cells.{named};
 ghost use Rattle.flattening.specs.Instances.{names_of, IsNamed, IsOpened, IsFresh, Opens, Grows};
+ghost use Rattle.flattening.specs.Listing.{IsSmall, Lists, instances_from, item_instances};
 ghost use Rattle.flattening.specs.Walks.{Walks, AddsLine, IsPlacedAs, item_lines, next_place};
 
 use crate::cells::Cells;
@@ -23,11 +24,12 @@ pub struct FlatLine {
     pub numbers: Numbers,
 }
 
-/// How far a walk has come: the signals of the instances that were opened, and the lines that were found.
+/// How far a walk has come: the signals of the instances that were opened, the lines that were found, and the instances.
 #[derive(Drop)]
 pub(crate) struct Progress {
     pub(crate) table: Cells,
     pub(crate) lines: Items<FlatLine>,
+    pub(crate) instances: Items<Instance>,
 }
 
 impl Progress {
@@ -36,15 +38,32 @@ impl Progress {
         ensures owners { result.table.owners ≡ [] }
         ensures seen { result.table.seen ≡ [] }
         ensures lines { result.lines ≡ [] }
+        ensures instances { result.instances ≡ [] }
     {
         Progress {
             table: Cells::new(alloc),
             lines: Items::new(alloc),
+            instances: Items::new(alloc),
         }
+    }
+
+    /// An instance is listed.
+    pub(crate) fn list(&mut self, alloc: Global, instance: &Instance) -> Result<(), NoMemory>
+        ensures table { self.new.table ≡ self.old.table }
+        ensures lines { self.new.lines ≡ self.old.lines }
+        ensures instances { OnOk result (self.new.instances ≡ self.old.instances ++ instance.now ∷ []) }
+    {
+        let path = instance.path.copy(alloc)?;
+        let cells = instance.cells.copy(alloc)?;
+        self.instances.push(Instance {
+            path,
+            model: instance.model,
+            cells,
+        })
     }
 }
 
-/// Finds the lines of an instance and of those below it, so many levels deep.
+/// Lists an instance and those below it, and finds their lines, so many levels deep.
 #[cycle(walking)]
 pub(crate) fn walk<L: Line>(
     alloc: Global,
@@ -55,16 +74,20 @@ pub(crate) fn walk<L: Line>(
 ) -> Result<(), NoMemory>
     requires named { IsNamed L.mentions models.now }
     requires opened { IsOpened models.now out.old.table.owners instance.now }
+    requires small { IsSmall instance.now.path }
     requires fresh { IsFresh out.old.table.owners instance.now.path 0 }
     requires room { length (onto out.old.table.seen
         (mentioned L.mentions models.now (expand models.now levels instance.now.path))) ≤ 2 ^ 32 }
     ensures walks { OnOk result
         (Walks L.mentions models.now (expand models.now levels instance.now.path) out.old out.new) }
+    ensures lists { OnOk result
+        (Lists models.now (instances_from models.now levels instance.now.path) out.old.instances out.new) }
     ensures grows { OnOk result (Grows instance.now.path out.old.table.owners out.new.table.owners) }
 {
     if levels == 0 {
         return Ok(());
     }
+    out.list(alloc, instance)?;
     let Some(model) = models.as_slice().get(instance.model) else {
         return Ok(());
     };
@@ -98,6 +121,7 @@ fn visit<L: Line>(
 ) -> Result<usize, NoMemory>
     requires named { IsNamed L.mentions models.now }
     requires opened { IsOpened models.now out.old.table.owners instance.now }
+    requires small { IsSmall instance.now.path }
     requires fresh { IsFresh out.old.table.owners instance.now.path k }
     requires listed { slice_get (items_of models.now instance.now.model) item ≡ Some entry.now }
     requires placed { IsPlacedAs models.now instance.now.path k entry.now }
@@ -106,6 +130,8 @@ fn visit<L: Line>(
         (item_lines (expand models.now levels) instance.now.path k entry.now))) ≤ 2 ^ 32 }
     ensures walks { OnOk result (Walks L.mentions models.now
         (item_lines (expand models.now levels) instance.now.path k entry.now) out.old out.new) }
+    ensures lists { OnOk result (Lists models.now
+        (item_instances (instances_from models.now levels) instance.now.path k entry.now) out.old.instances out.new) }
     ensures grows { OnOk result (Grows instance.now.path out.old.table.owners out.new.table.owners) }
     ensures fresh { IfOk result (λ next. IsFresh out.new.table.owners instance.now.path next) }
     ensures next { IfOk result (λ next. next ≡ next_place k entry.now) }
@@ -142,6 +168,7 @@ fn open_placement<L: Line>(
         Opens child.path (names_of models.now child.model) out.old.table.owners out.new.table.owners) }
     ensures seen { OnOk result (out.new.table.seen ≡ out.old.table.seen) }
     ensures lines { OnOk result (out.new.lines ≡ out.old.lines) }
+    ensures instances { OnOk result (out.new.instances ≡ out.old.instances) }
 {
     let path = path_below(alloc, instance.path.as_slice(), k)?;
     let model = placement.model as usize;
@@ -169,6 +196,7 @@ pub(crate) fn open_top<L>(
     ensures fresh { OnOk result (IsFresh out.new.table.owners [] 0) }
     ensures seen { OnOk result (out.new.table.seen ≡ out.old.table.seen) }
     ensures lines { OnOk result (out.new.lines ≡ out.old.lines) }
+    ensures instances { OnOk result (out.new.instances ≡ out.old.instances) }
 {
     let path = Items::new(alloc);
     let actuals = actuals_of(alloc, &[], name_count(models, 0))?;

@@ -1,7 +1,11 @@
-use Rattle.std.proofs.Common.{◌≤◌, ◌-◌, ◌^◌, ◌∷◌, length, slice_get, ap, refl, ◌∙◌, sym, subst, arith}
+use Rattle.std.proofs.Common.{◌≤◌, ◌-◌, ◌^◌, [], ◌∷◌, length, slice_get, ap, refl, ◌∙◌, sym, subst, arith}
 use Rattle.flattening.specs.Hierarchy.{items_of, mentioned, lines_by, expand}
+use Rattle.flattening.specs.Cells.{SignalTable}
+use Rattle.flattening.specs.Instances.{IsOpened}
+use Rattle.flattening.specs.Listing.{instances_from}
 use Rattle.flattening.specs.Numbers.{onto}
 use Rattle.flattening.specs.Walks.{Walks}
+use Rattle.flattening.proofs.Listed.{Lists-none, Lists-self, Lists-after, level-step, listing-start, listing-next, listing-end, small-below}
 use Rattle.flattening.proofs.Visiting.{names-within, cells-within, room-line, Walks-line, items_of-get, items_of-none, model-read, model-none}
 use Rattle.flattening.proofs.Placing.{fresh-below, Grows-placed, fresh-next, Walks-after}
 use Rattle.flattening.proofs.Walking.{IsOpened-grown, walking-start, placed-as, room-item, walking-next, walking-end}
@@ -51,10 +55,13 @@ visit-walk-requires g t c κs within =
           (
             c.in_ok-child-in-Place.ensures.opened,
             (
-              rw path
-                  (fresh-below g.row.L.Denot g.L.Line.mentions c.args.models.now c.requires.named c.args.instance.now c.args.out.now.table.owners c.requires.opened c.args.k
-                  c.in-Place.placement placed c.requires.fresh _ c.open_placement.new.out.table.owners c.open_placement.new.out.table.owners opens),
-              rw (path, c.in_ok-child-in-Place.ensures.seen) room,
+              rw path (small-below c.args.instance.now.path c.args.k c.requires.few c.requires.small),
+              (
+                rw path
+                    (fresh-below g.row.L.Denot g.L.Line.mentions c.args.models.now c.requires.named c.args.instance.now c.args.out.now.table.owners c.requires.opened c.args.k
+                    c.in-Place.placement placed c.requires.fresh _ c.open_placement.new.out.table.owners c.open_placement.new.out.table.owners opens),
+                rw (path, c.in_ok-child-in-Place.ensures.seen) room,
+              ),
             ),
           ),
         ),
@@ -67,6 +74,18 @@ visit-returns-in_ok-walk-in-Place-clause-walks g t c =
     rw c.in-Place.is
     (Walks-after g.row.L.Denot g.L.Line.mentions c.args.models.now (expand c.args.models.now c.args.levels (c.args.k ∷ c.args.instance.now.path)) c.args.out.now c.open_placement.new.out c.walk.new.out
     c.in_ok-child-in-Place.ensures.seen c.in_ok-child-in-Place.ensures.lines walks)
+
+pub visit-returns-in_ok-add_line-in-Own-clause-lists : goal.visit-returns-in_ok-add_line-in-Own-clause-lists
+visit-returns-in_ok-add_line-in-Own-clause-lists g t c =
+    rw c.in-Own.is
+    (Lists-none g.row.L.Denot g.L.Line.mentions c.args.models.now c.args.out.now.instances c.add_line.new.out c.in_ok-add_line-in-Own.ensures.instances)
+
+pub visit-returns-in_ok-walk-in-Place-clause-lists : goal.visit-returns-in_ok-walk-in-Place-clause-lists
+visit-returns-in_ok-walk-in-Place-clause-lists g t c =
+    let lists = rw c.in_ok-child-in-Place.ensures.path at c.in_ok-walk-in-Place.ensures.lists in
+    rw c.in-Place.is
+    (Lists-after g.row.L.Denot g.L.Line.mentions c.args.models.now (instances_from c.args.models.now c.args.levels (c.args.k ∷ c.args.instance.now.path))
+    c.args.out.now.instances c.open_placement.new.out.instances c.walk.new.out c.in_ok-child-in-Place.ensures.instances lists)
 
 pub visit-returns-in_ok-walk-in-Place-clause-grows : goal.visit-returns-in_ok-walk-in-Place-clause-grows
 visit-returns-in_ok-walk-in-Place-clause-grows g t c =
@@ -86,15 +105,34 @@ visit-returns-in_ok-walk-in-Place-clause-fresh g t c =
 
 pub walk-returns-in_default-clause-walks : goal.walk-returns-in_default-clause-walks
 walk-returns-in_default-clause-walks g t c =
-    Walks-nothing g.row.L.Denot g.L.Line.mentions c.args.models.now c.args.levels c.args.instance.now.path c.args.instance.now.model c.args.out.now
+    Walks-nothing g.row.L.Denot g.L.Line.mentions c.args.models.now c.args.levels c.args.instance.now.path c.args.instance.now.model c.args.out.now c.list.new.self
+    c.list.ensures.table c.list.ensures.lines
     c.if-levels-eq0.false c.requires.opened.model
     (items_of-none c.args.models.now c.args.instance.now.model
     (model-none c.args.models.now c.as_slice.result.now c.args.instance.now.model c.as_slice.ensures c.in_default.ensures.lookup.3))
 
+pub walk-returns-in_default-clause-lists : goal.walk-returns-in_default-clause-lists
+walk-returns-in_default-clause-lists g t c =
+    let none = items_of-none c.args.models.now c.args.instance.now.model
+    (model-none c.args.models.now c.as_slice.result.now c.args.instance.now.model c.as_slice.ensures c.in_default.ensures.lookup.3) in
+    rw (level-step c.args.models.now c.args.levels c.args.instance.now.path c.args.instance.now.model [] c.if-levels-eq0.false c.requires.opened.model none)
+    (Lists-self g.row.L.Denot g.L.Line.mentions c.args.models.now c.args.instance.now c.args.out.now.instances c.list.new.self c.in_ok-list.ensures.instances
+    (subst (λ (table : SignalTable). IsOpened c.args.models.now table.owners c.args.instance.now) (sym c.list.ensures.table) c.requires.opened) c.requires.small)
+
+pub walk-returns-then-levels-eq0-clause-lists : goal.walk-returns-then-levels-eq0-clause-lists
+walk-returns-then-levels-eq0-clause-lists g t c =
+    rw c.if-levels-eq0.true
+    (Lists-none g.row.L.Denot g.L.Line.mentions c.args.models.now c.args.out.now.instances c.args.out.now refl)
+
 pub walk-loop-item-init : goal.walk-loop-item-init
-walk-loop-item-init g t c =
-    walking-start g.row.L.Denot g.L.Line.mentions c.args.models.now c.args.instance.now.path (expand c.args.models.now (c.args.levels - 1))
-    c.in-Some.model.now.items c.args.out.now c.requires.fresh
+walk-loop-item-init g t c = record {
+  walking = walking-start g.row.L.Denot g.L.Line.mentions c.args.models.now c.args.instance.now.path (expand c.args.models.now (c.args.levels - 1))
+      c.in-Some.model.now.items c.args.out.now c.list.new.self c.list.ensures.table c.list.ensures.lines c.requires.fresh;
+  listing = listing-start g.row.L.Denot g.L.Line.mentions c.args.models.now c.args.instance.now.path (instances_from c.args.models.now (c.args.levels - 1))
+      c.in-Some.model.now.items c.args.out.now.instances c.list.new.self
+      (Lists-self g.row.L.Denot g.L.Line.mentions c.args.models.now c.args.instance.now c.args.out.now.instances c.list.new.self c.in_ok-list.ensures.instances
+      (subst (λ (table : SignalTable). IsOpened c.args.models.now table.owners c.args.instance.now) (sym c.list.ensures.table) c.requires.opened) c.requires.small);
+}
 
 pub walk-visit-requires : goal.walk-visit-requires
 walk-visit-requires g t c κs within =
@@ -112,19 +150,22 @@ walk-visit-requires g t c κs within =
           c.requires.named,
           (
             IsOpened-grown g.row.L.Denot g.L.Line.mentions c.args.models.now c.args.instance.now.path c.args.out.now.table.owners c.loop-item.out.table.owners
-                c.args.instance.now c.loop-item.invariant.grows c.requires.opened,
+                c.args.instance.now c.loop-item.invariant.walking.grows c.requires.opened,
             (
-              c.loop-item.invariant.fresh,
+              c.requires.small,
               (
-                ap (λ items. slice_get items c.loop-item.item) listed ∙ c.at.ensures,
+                c.loop-item.invariant.walking.fresh,
                 (
-                  placed-as g.row.L.Denot g.L.Line.mentions c.args.models.now c.args.instance.now.path (expand c.args.models.now (c.args.levels - 1))
-                      c.in-Some.model.now.items c.args.out.now c.loop-item.out c.loop-item.item c.loop-item.k c.loop-item.invariant c.at.result.now c.at.ensures
-                      (sym listed ∙ ap (items_of c.args.models.now) c.requires.opened.model),
+                  ap (λ items. slice_get items c.loop-item.item) listed ∙ c.at.ensures,
                   (
-                    omega (arith, c.loop-item.invariant.few, c.loop-item-test.true),
-                    room-item g.row.L.Denot g.L.Line.mentions c.args.models.now c.args.instance.now.path (expand c.args.models.now (c.args.levels - 1))
-                        c.in-Some.model.now.items c.args.out.now c.loop-item.out c.loop-item.item c.loop-item.k c.loop-item.invariant c.at.result.now c.at.ensures (2 ^ 32) room,
+                    placed-as g.row.L.Denot g.L.Line.mentions c.args.models.now c.args.instance.now.path (expand c.args.models.now (c.args.levels - 1))
+                        c.in-Some.model.now.items c.args.out.now c.loop-item.out c.loop-item.item c.loop-item.k c.loop-item.invariant.walking c.at.result.now c.at.ensures
+                        (sym listed ∙ ap (items_of c.args.models.now) c.requires.opened.model),
+                    (
+                      omega (arith, c.loop-item.invariant.walking.few, c.loop-item-test.true),
+                      room-item g.row.L.Denot g.L.Line.mentions c.args.models.now c.args.instance.now.path (expand c.args.models.now (c.args.levels - 1))
+                          c.in-Some.model.now.items c.args.out.now c.loop-item.out c.loop-item.item c.loop-item.k c.loop-item.invariant.walking c.at.result.now c.at.ensures (2 ^ 32) room,
+                    ),
                   ),
                 ),
               ),
@@ -135,10 +176,22 @@ walk-visit-requires g t c κs within =
     )
 
 pub walk-loop-item-preserved : goal.walk-loop-item-preserved
-walk-loop-item-preserved g t c =
-    walking-next g.row.L.Denot g.L.Line.mentions c.args.models.now c.args.instance.now.path (expand c.args.models.now (c.args.levels - 1))
-    c.in-Some.model.now.items c.args.out.now c.loop-item.out c.loop-item.item c.loop-item.k c.loop-item.invariant c.at.result.now c.at.ensures
-    c.visit.new.out _ c.in_ok-k.ensures.walks c.in_ok-k.ensures.grows c.in_ok-k.ensures.fresh c.in_ok-k.ensures.next
+walk-loop-item-preserved g t c = record {
+  walking = walking-next g.row.L.Denot g.L.Line.mentions c.args.models.now c.args.instance.now.path (expand c.args.models.now (c.args.levels - 1))
+      c.in-Some.model.now.items c.args.out.now c.loop-item.out c.loop-item.item c.loop-item.k c.loop-item.invariant.walking c.at.result.now c.at.ensures
+      c.visit.new.out _ c.in_ok-k.ensures.walks c.in_ok-k.ensures.grows c.in_ok-k.ensures.fresh c.in_ok-k.ensures.next;
+  listing = listing-next g.row.L.Denot g.L.Line.mentions c.args.models.now c.args.instance.now.path (instances_from c.args.models.now (c.args.levels - 1))
+      c.in-Some.model.now.items c.args.out.now.instances c.loop-item.out c.visit.new.out c.loop-item.item c.loop-item.k _ c.at.result.now c.at.ensures
+      c.loop-item.invariant.listing c.in_ok-k.ensures.grows c.in_ok-k.ensures.lists c.in_ok-k.ensures.next;
+}
+
+pub walk-returns-clause-lists : goal.walk-returns-clause-lists
+walk-returns-clause-lists g t c =
+    let listed = items_of-get c.args.models.now c.args.instance.now.model c.in-Some.model.now
+    (model-read c.args.models.now c.as_slice.result.now c.args.instance.now.model c.in-Some.model.now c.as_slice.ensures c.in-Some.ensures.lookup.3.0 c.in-Some.ensures.lookup.1) in
+    rw (level-step c.args.models.now c.args.levels c.args.instance.now.path c.args.instance.now.model c.in-Some.model.now.items c.if-levels-eq0.false c.requires.opened.model listed)
+    (listing-end g.row.L.Denot g.L.Line.mentions c.args.models.now c.args.instance.now.path (instances_from c.args.models.now (c.args.levels - 1))
+    c.in-Some.model.now.items c.args.out.now.instances c.loop-item.out c.loop-item.item c.loop-item.k c.loop-item.invariant.listing (omega (arith, c.loop-item-test.false, c.len-item-end.ensures)))
 
 pub walk-returns-clause-walks : goal.walk-returns-clause-walks
 walk-returns-clause-walks g t c =
@@ -147,4 +200,4 @@ walk-returns-clause-walks g t c =
     subst (λ lines. Walks g.L.Line.mentions c.args.models.now lines c.args.out.now c.loop-item.out)
     (sym (expand-step c.args.models.now c.args.levels c.args.instance.now.path c.args.instance.now.model c.in-Some.model.now.items c.if-levels-eq0.false c.requires.opened.model listed))
     (walking-end g.row.L.Denot g.L.Line.mentions c.args.models.now c.args.instance.now.path (expand c.args.models.now (c.args.levels - 1))
-    c.in-Some.model.now.items c.args.out.now c.loop-item.out c.loop-item.item c.loop-item.k c.loop-item.invariant (omega (arith, c.loop-item-test.false, c.len-item-end.ensures))).0
+    c.in-Some.model.now.items c.args.out.now c.loop-item.out c.loop-item.item c.loop-item.k c.loop-item.invariant.walking (omega (arith, c.loop-item-test.false, c.len-item-end.ensures))).0

@@ -1,5 +1,7 @@
 use Rattle.std.proofs.Common.{◌+◌, ◌-◌, ◌*◌}
 use Rattle.flattening.specs.Hierarchy.{expand}
+use Rattle.flattening.specs.Listing.{instances_from}
+use Rattle.flattening.proofs.Listed.{Listing}
 use Rattle.flattening.proofs.Walking.{Walking}
 use Rattle.flattening.proofs.walk.+walking.Given as goal
 
@@ -10,5 +12,7 @@ abbrev pub decreases-walk : goal.decreases-walk
 decreases-walk g l = 2 * l.levels
 
 abbrev pub invariant-walk-loop-item : goal.invariant-walk-loop-item
-invariant-walk-loop-item g l =
-    Walking g.row.L.Denot g.L.Line.mentions l.models l.instance.path (expand l.models (l.levels - 1)) l.model.items l.fn.out l.out l.item l.k
+invariant-walk-loop-item g l = record {
+  walking : Walking g.row.L.Denot g.L.Line.mentions l.models l.instance.path (expand l.models (l.levels - 1)) l.model.items l.fn.out l.out l.item l.k;
+  listing : Listing g.row.L.Denot g.L.Line.mentions l.models l.instance.path (instances_from l.models (l.levels - 1)) l.model.items l.fn.out.instances l.out l.item l.k;
+}
