@@ -144,7 +144,7 @@ width-is names in_table statements lines (Some table) are =
     let last : last_table statements ≡ Some gate = ap last_table are.1.1.1.0 ∙ last-is are.1.0 gate in
     ap (λ (t : Opened). Some t.width) are.1.1.1.1.1 ∙ sym (ap (λ b. width_of b (last_table statements)) are.0 ∙ ap (width_of true) last)
 
-flags-are : (whole : List ℕ) (standing : Standing) (known : Known) → Follows whole standing known → flags_in known ≡ flags_of standing
+pub flags-are : (whole : List ℕ) (standing : Standing) (known : Known) → Follows whole standing known → flags_in known ≡ flags_of standing
 flags-are whole standing known follows =
     let width = width-is known.named.names standing.in_table standing.model.statements known.lines known.table follows.said.lines_are in
     rw (width, follows.begun, follows.titled, follows.ended) refl
@@ -187,7 +187,7 @@ latch-faults whole standing known words follows =
     ap (λ fault. option_or fault (latch_fault known.clocking (latch_of words))) (names-faults whole standing known mentions follows)
     ∙ ap (λ clocking. option_or (names_fault standing.model.mentions mentions) (latch_fault clocking (latch_of words))) follows.clocking
 
-command-fault-is : (whole : List ℕ) (standing : Standing) (known : Known) (command : Command) (head : PlacedToken) (words : List PlacedToken) → Follows whole standing known
+pub command-fault-is : (whole : List ℕ) (standing : Standing) (known : Known) (command : Command) (head : PlacedToken) (words : List PlacedToken) → Follows whole standing known
     → command_fault_in known command head words ≡ command_fault standing command head words
 command-fault-is whole standing known commands.Row head words follows =
     by-row (flags_in known) head words (row_fault_on known.table words) (row_fault (last_table standing.model.statements) words)
@@ -265,6 +265,11 @@ other-step : (whole : List ℕ) (standing : Standing) (known : Known) → Follow
     → IsSaid whole (record { mentions = standing.model.mentions ++ []; statements = standing.model.statements ++ [] }) false known.named (closed known.lines known.table) None
 other-step whole standing known follows = nothing-more whole standing.model standing.in_table known.named known.lines known.table follows.said
 
+pub model-step : (whole : List ℕ) (standing : Standing) (known : Known) (words : List PlacedToken) → Follows whole standing known
+    → Follows whole (standing_by_command standing commands.Model words) (known_by_command known commands.Model words)
+model-step whole standing known words follows =
+    record { said = other-step whole standing known follows; clocking = follows.clocking; begun = refl; titled = refl; ended = follows.ended }
+
 -- a row where no table is open is a fault
 no-row : (flags : Flags) (head : PlacedToken) (words : List PlacedToken) (later : Option BlifFault) → flags.width ≡ None
     → option_or (head_by flags commands.Row head words) later ≡ None → ⊥
@@ -293,7 +298,7 @@ row-step whole standing known (Some table) head words is follows faultless = rec
 no-names : (known : Known) (head : PlacedToken) → command_fault_in known commands.Names head [] ≡ None → ⊥
 no-names known head faultless = cc
 
-command-step : (whole : List ℕ) (standing : Standing) (known : Known) (command : Command) (head : PlacedToken) (words : List PlacedToken) → Follows whole standing known
+pub command-step : (whole : List ℕ) (standing : Standing) (known : Known) (command : Command) (head : PlacedToken) (words : List PlacedToken) → Follows whole standing known
     → command_fault_in known command head words ≡ None
     → Follows whole (standing_by_command standing command words) (known_by_command known command words)
 command-step whole standing known commands.Row head words follows faultless = row-step whole standing known known.table head words refl follows faultless
@@ -314,8 +319,7 @@ command-step whole standing known commands.Outputs head words follows faultless 
   titled = follows.titled;
   ended = follows.ended;
 }
-command-step whole standing known commands.Model head words follows faultless =
-    record { said = other-step whole standing known follows; clocking = follows.clocking; begun = refl; titled = refl; ended = follows.ended }
+command-step whole standing known commands.Model head words follows faultless = model-step whole standing known words follows
 command-step whole standing known commands.End head words follows faultless =
     record { said = other-step whole standing known follows; clocking = follows.clocking; begun = refl; titled = follows.titled; ended = refl }
 command-step whole standing known commands.Clock head words follows faultless =

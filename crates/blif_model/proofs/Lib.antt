@@ -1,7 +1,12 @@
 pub mod ExamplesHold
+pub mod FileExamplesHold
+pub mod FileRunning
+pub mod FileWhole
+pub mod Filed
 pub mod Following
 pub mod Going
 pub mod Growing
+pub mod Keeping
 pub mod Knowing
 pub mod Latches
 pub mod Mentioning
@@ -9,4 +14,5 @@ pub mod Naming
 pub mod Places
 pub mod Running
 pub mod Stepping
+pub mod Titles
 pub mod Undriving

@@ -73,7 +73,7 @@ agrees whole before (line ∷ rest) known follows =
     (λ none. agrees whole (before ++ line ∷ []) rest (known_after_words known line.words) (line-step whole before known line follows none))
 
 -- the names and the lines of what is known
-text-is : (whole : List ℕ) (standing : Standing) (known : Known) → Follows whole standing known → text_of known ≡ numbered standing.model
+pub text-is : (whole : List ℕ) (standing : Standing) (known : Known) → Follows whole standing known → text_of known ≡ numbered standing.model
 text-is whole standing known follows =
     let names : known.named.names ≡ names_of standing.model.mentions = ap (λ n. n.names) follows.said.named_are ∙ sym (naming-names whole standing.model.mentions) in
     let items : closed known.lines known.table ≡ items_of (names_of standing.model.mentions) standing.model.statements =

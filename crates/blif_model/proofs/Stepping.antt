@@ -37,7 +37,7 @@ latch-whole : (known : Known) (words : List PlacedToken) (latch : Option LatchPa
 latch-whole known words None is = rw is refl
 latch-whole known words (Some latch) is = rw is (mentions-whole known.named (used latch.input ∷ driven latch.output ∷ []))
 
-command-whole : (known : Known) (command : Command) (words : List PlacedToken) → (known_by_command known command words).named.whole ≡ known.named.whole
+pub command-whole : (known : Known) (command : Command) (words : List PlacedToken) → (known_by_command known command words).named.whole ≡ known.named.whole
 command-whole known commands.Row words = refl
 command-whole known commands.Inputs words = mentions-whole known.named (map driven words)
 command-whole known commands.Outputs words = mentions-whole known.named (map used words)

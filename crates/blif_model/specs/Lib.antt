@@ -2,6 +2,9 @@ pub mod Commands
 pub mod Examples
 pub mod Faults
 pub mod Known
+pub mod FileExamples
+pub mod FileKnown
+pub mod Files
 pub mod Lines
 pub mod Meaning
 pub mod Models

@@ -43,7 +43,7 @@ pub fn head_fault(
 }
 
 /// A `.model` without just one name, or a first one behind another command.
-fn is_bad_model(flags: &Flags, command: Command, words: &[Span]) -> bool
+pub fn is_bad_model(flags: &Flags, command: Command, words: &[Span]) -> bool
     ensures { (whole : List ℕ) → result ≡ is_bad_model flags.now command (map (word_of whole) words.now) }
 {
     match command {

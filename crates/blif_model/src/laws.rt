@@ -1,16 +1,19 @@
-ghost use Rattle.std.specs.Prelude.{◌≡◌, ℕ, List, ◌++◌, Ok, Err};
+ghost use Rattle.std.specs.Prelude.{◌≡◌, ℕ, List, ◌++◌, map, Ok, Err};
 ghost use Rattle.blif_model.specs.declared.fault.BlifFault.{BlifFault};
 ghost use Rattle.blif_model.specs.Known.{Known, nothing_known, running, text_of};
 ghost use Rattle.blif_model.specs.Lines.{lines};
 ghost use Rattle.blif_model.specs.Meaning.{model_of};
-ghost use Rattle.blif_model.specs.Models.{Mention, names_of};
-ghost use Rattle.blif_model.specs.Names.{named_by, names_fault_in, rule_of, with_mentions};
+ghost use Rattle.blif_model.specs.Models.{Mention, Model, names_of};
+ghost use Rattle.blif_model.specs.Names.{named_by, names_fault_in, place_of, rule_of, with_mentions};
 ghost use Rattle.blif_model.specs.Numbered.{Says};
 ghost use Rattle.blif_model.specs.Rules.{name_rule, names_fault};
 ghost use Rattle.blif_model.specs.Examples.{LinesAreJoined, BackslashIsPart, NamesInOrder, UnknownWord, ModelBehindInputs};
 ghost use Rattle.blif_model.specs.Examples.{RowWithoutTable, RowOfAnotherOutput, LatchOfOneWord, LatchOfALevel};
 ghost use Rattle.blif_model.specs.Examples.{LatchesOfTwoClocks, InputTwice, OutputOfNothing, BackslashAtTheEnd};
 ghost use Rattle.blif_model.specs.Examples.{LineBehindTheEnd};
+ghost use Rattle.blif_model.specs.FileExamples.{FurtherWithoutName, NoTitle, PlacedBehindTheEnd, RowBehindPlacement, TwiceNamed, TwoModels};
+ghost use Rattle.blif_model.specs.FileKnown.{FileKnown, file_running, no_file_known, numbered_part, parts_known};
+ghost use Rattle.blif_model.specs.Files.{Part, model_named, models_of};
 
 /// Worked examples of the definitions, as laws: texts with the words of their lines, and one text for each fault of a
 /// line.
@@ -49,4 +52,24 @@ pub fn reading_law()
         → Says whole (text_of known) }
     ensures refuses { (whole : List ℕ) (fault : BlifFault) → running (nothing_known whole) (lines whole) ≡ Err fault
         → model_of whole ≡ Err fault }
+{}
+
+/// A law of the definitions: what is known when the lines of a text of several models are over is what the text says.
+pub fn file_law()
+    ensures says { (whole : List ℕ) (known : FileKnown) → file_running (no_file_known whole) (lines whole) ≡ Ok known
+        → (parts : List (Part Model)) × (models_of whole ≡ Ok parts) × (parts_known known ≡ map (numbered_part whole) parts)
+        × ((name : List ℕ) → place_of known.titles name ≡ model_named parts name) }
+    ensures refuses { (whole : List ℕ) (fault : BlifFault) → file_running (no_file_known whole) (lines whole) ≡ Err fault
+        → models_of whole ≡ Err fault }
+{}
+
+/// Worked examples of texts with several models, as laws.
+#[tactic(auto, using(crate::proofs::FileExamplesHold::file_examples))]
+pub fn worked_files()
+    ensures two { TwoModels }
+    ensures title { NoTitle }
+    ensures twice { TwiceNamed }
+    ensures behind { PlacedBehindTheEnd }
+    ensures nameless { FurtherWithoutName }
+    ensures row { RowBehindPlacement }
 {}

@@ -5,6 +5,9 @@
 mod class;
 mod command;
 mod fault;
+mod file;
+mod file_reader;
+mod file_reading;
 mod flags;
 mod head;
 mod laws;
@@ -23,9 +26,13 @@ mod text;
 
 pub use command::Command;
 pub use fault::BlifFault;
-pub use laws::{naming_law, reading_law, worked_examples};
+pub use file::{FileModel, FileModels, FileText, OwnText, PlacementLine, Spans};
+pub use file_reading::read_models;
+pub use laws::{file_law, naming_law, reading_law, worked_examples, worked_files};
 pub use line::{LineKind, ModelLine, TableRows};
 pub use names::NameTable;
+pub use pieces::Span;
 pub use psl_base::NoMemory;
 pub use reading::read_model;
+pub use shapes::text_of;
 pub use text::ModelText;

@@ -1,6 +1,7 @@
-ghost use Rattle.std.specs.Prelude.{◌≡◌, ◌⊎◌, ◌+◌, ◌≤◌, ◌∷◌, ◌++◌, [], false, true, length, map, All, None, Some, Ok, IfOk, IfErr, IfSome, OnOk};
+ghost use Rattle.std.specs.Prelude.{◌≡◌, ◌⊎◌, ◌+◌, ◌≤◌, ◌∷◌, ◌++◌, List, [], false, true, length, map, All, None, Some, Ok, IfOk, IfErr, IfSome, OnOk};
 ghost use Rattle.std.specs.Option.{option_map};
 ghost use Rattle.psl_base.specs.Places.{file_limit};
+ghost use Rattle.psl_base.specs.Tokens.{PlacedToken};
 ghost use Rattle.blif_model.specs.Known.{after_command, command_fault_in, flags_in, known_after_words, known_by_command, nothing_known};
 ghost use Rattle.blif_model.specs.Known.{said_fault, said_with, text_of as text_of_known, with_closed, with_latch, with_latch_of, with_line, with_table, with_table_of};
 ghost use Rattle.blif_model.specs.Known.{latch_fault_of, words_fault_in};
@@ -13,6 +14,7 @@ ghost use Rattle.blif_model.specs.Words.{clocking_in, IsClockingWithin, IsLatchW
 
 use crate::BlifFault;
 use crate::command::{Command, command_of};
+use crate::file::OwnText;
 use crate::flags::Flags;
 use crate::head::head_fault;
 use crate::line::{LineKind, ModelLine};
@@ -100,7 +102,7 @@ impl<'a> Reader<'a> {
     }
 
     /// A command and its words, which of a row are all of its line.
-    fn command(
+    pub fn command(
         &mut self,
         alloc: Global,
         command: Command,
@@ -124,7 +126,7 @@ impl<'a> Reader<'a> {
     }
 
     /// What the lines so far have said of the form of the next.
-    fn flags(&self) -> Flags
+    pub fn flags(&self) -> Flags
         ensures { result ≡ flags_in self.now }
     {
         let width = match &self.table {
@@ -309,7 +311,7 @@ impl<'a> Reader<'a> {
     }
 
     /// What the text says, where these were all of its lines.
-    pub fn finish(mut self) -> Result<ModelText<'a>, BlifFault>
+    pub fn finish(self) -> Result<ModelText<'a>, BlifFault>
         ensures text { IfOk result (λ text. text ≡ text_of_known self.entry) }
         ensures faultless { OnOk result (undriven_in self.entry.named ≡ None) }
         ensures fault { IfErr result (λ fault. (fault ≡ BlifFault.NoMemory) ⊎ (undriven_in self.entry.named ≡ Some fault)) }
@@ -317,16 +319,53 @@ impl<'a> Reader<'a> {
         if let Some(fault) = self.signals.undriven() {
             return Err(fault);
         }
+        let OwnText { text, .. } = self.end()?;
+        Ok(text)
+    }
+
+    /// What the lines say, where these were all lines of the model. Names that nothing drives are not looked for.
+    pub fn end(mut self) -> Result<OwnText<'a>, NoMemory>
+        ensures text { IfOk result (λ own. own.text ≡ text_of_known self.entry) }
+        ensures driven { IfOk result (λ own. own.driven ≡ self.entry.named.driven) }
+        ensures firsts { IfOk result (λ own. map (word_of self.entry.named.whole) own.firsts ≡ self.entry.named.firsts) }
+        ensures within { IfOk result (λ own. All (IsWithin self.entry.named.whole) own.firsts) }
+    {
         self.close()?;
         let Reader { signals, lines, .. } = self;
-        let names = signals.into_names();
+        let (names, driven, firsts) = signals.into_parts();
         let count = names.len() as u32;
-        Ok(ModelText {
-            names,
-            model: FlatModel {
-                names: count,
-                items: lines,
-            },
+        let model = FlatModel {
+            names: count,
+            items: lines,
+        };
+        Ok(OwnText {
+            text: ModelText { names, model },
+            driven: Items::from_vec(driven),
+            firsts: Items::from_vec(firsts),
         })
+    }
+
+    /// A `.model` stood there.
+    pub fn title(&mut self) -> Result<(), NoMemory>
+        ensures { OnOk result ((words : List PlacedToken) → self.new ≡ known_by_command self.old Command.Model words) }
+    {
+        self.close()?;
+        self.stand(Command::Model);
+        Ok(())
+    }
+
+    /// How many lines were read that say something of the model, but for the table whose rows may follow.
+    pub fn len(&self) -> usize
+        ensures { result ≡ length self.now.lines }
+    {
+        self.lines.len()
+    }
+
+    /// The text.
+    pub fn whole(&self) -> &'a [u8]
+        ensures is { result.now ≡ self.now.named.whole }
+        ensures limit { length result.now ≤ file_limit }
+    {
+        self.signals.whole()
     }
 }

@@ -129,13 +129,21 @@ impl<'a> Signals<'a> {
         first_undriven(self.whole, &self.driven, &self.firsts)
     }
 
-    /// The names in order.
-    pub fn into_names(self) -> NameTable<'a>
-        ensures names { result ≡ self.entry.names }
-        ensures few { length result ≤ signal_limit }
+    /// The names in order, which of them are driven, and the word that mentions each first.
+    pub fn into_parts(self) -> (NameTable<'a>, Vec<bool>, Vec<Span>)
+        ensures names { result.0 ≡ self.entry.names }
+        ensures few { length result.0 ≤ signal_limit }
+        ensures driven { result.1.items ≡ self.entry.driven }
+        ensures firsts { map (word_of self.entry.whole) result.2.items ≡ self.entry.firsts }
+        ensures within { All (IsWithin self.entry.whole) result.2.items }
     {
-        let Signals { names, .. } = self;
-        names
+        let Signals {
+            names,
+            driven,
+            firsts,
+            ..
+        } = self;
+        (names, driven, firsts)
     }
 }
 

@@ -1,5 +1,7 @@
 // What no clause says: that texts are read with ample memory.
-use crate::{BlifFault, LineKind, ModelLine, ModelText, NoMemory, read_model};
+use crate::{
+    BlifFault, FileText, LineKind, ModelLine, ModelText, NoMemory, read_model, read_models,
+};
 use flattening::Item;
 use netlist::{Init, Mark};
 use psl_base::Place;
@@ -109,5 +111,43 @@ fn the_first_fault_is_named(rt: HostRuntime) -> Result<(), Fail> {
             Err(BlifFault::MixedRows(Place { line: 4, column: 3 }))
         )
     );
+    Ok(())
+}
+
+// How many names the own lines of models mention, how many words stand behind their `.subckt`s, and how many names in their
+// `.clock`s.
+fn counts(text: &FileText) -> (usize, usize, usize) {
+    let mut names = 0usize;
+    let mut words = 0usize;
+    let mut clocks = 0usize;
+    for model in text.models.as_slice() {
+        names = names.saturating_add(model.own.text.names.len());
+        clocks = clocks.saturating_add(model.clocks.len());
+        for placement in model.placements.as_slice() {
+            words = words.saturating_add(placement.words.len());
+        }
+    }
+    (names, words, clocks)
+}
+
+#[test]
+fn reads_models(rt: HostRuntime) -> Result<(), Fail> {
+    let source = ".model a
+.outputs y
+.subckt b q=y x=y
+.clock k
+.model b
+.inputs x
+.names x q
+.outputs q
+.end
+";
+    match read_models(rt.alloc(), source.as_bytes()) {
+        Ok(text) => {
+            assert_eq!(rt; (text.titles.len(), text.models.len()), (2, 2));
+            assert_eq!(rt; counts(&text), (3, 3, 1));
+        }
+        Err(_) => assert!(rt; false),
+    }
     Ok(())
 }
