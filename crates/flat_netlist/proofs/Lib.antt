@@ -1,7 +1,9 @@
 pub mod Counts
 pub mod Lines
+pub mod Listed
+pub mod Made
 pub mod Names
-pub mod Splitting
 pub mod Sound
+pub mod Splitting
 pub mod Unfolded
 pub mod Worked

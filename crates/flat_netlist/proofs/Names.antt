@@ -18,7 +18,8 @@ use Rattle.flattening.proofs.Numbering.{Among-told, Apart-onto, place-within, pl
 use Rattle.flattening.proofs.Unfolding.{signal-named}
 use Rattle.blif_model.specs.declared.line.ModelLine.{ModelLine}
 use Rattle.model_hierarchy.proofs.Few.{actual-below}
-use Rattle.flat_netlist.specs.Flat.{Models, signal_of, full_text, names_from, instances_by, instances_from, texts_at, flat_names}
+use Rattle.flattening.specs.Listing.{instances, instances_by, instances_from}
+use Rattle.flat_netlist.specs.Flat.{Models, signal_of, full_text, names_from, texts_at, flat_names}
 use Rattle.flat_netlist.specs.Lines.{mentions_of}
 
 module _ (models : Models) where
@@ -101,13 +102,14 @@ module _ (models : Models) where
       (inr (placed-there (instances_from models levels) path 0 k instance.1.0 found (placements_in (items_at models path)) instance.1.1
       (subst (λ n. Among found (instances_from models levels (n ∷ path))) (sym at) there)))
 
-  instance-there : (path : Path) → IsInstance models path → length path < DEEPEST → Among path (instances_from models DEEPEST [])
+  instance-there : (path : Path) → IsInstance models path → length path < DEEPEST → Among path (instances models)
+  unfolding instances
   instance-there path instance shallow =
       let levels : ℕ = DEEPEST - suc (length path) in
       rises path (suc levels) instance (omega arith) path (inl refl)
 
 pub names-bit : (models : Models) (texts : List (List (List ℕ))) → All (NamesBit (length (signals mentions_of models))) (flat_names models texts)
-names-bit models texts = bits-all models texts (instances_from models DEEPEST [])
+names-bit models texts = bits-all models texts (instances models)
 
 name-below : (models : Models) → IsNamed mentions_of models → (path : Path) (name : ℕ) → IsName mentions_of models path name → name < names_of models (model_at models path)
 name-below models named path name (inl mention) = named.lines (model_at models path) mention.0 mention.1 name mention.2
@@ -133,5 +135,5 @@ names-all models texts whole named titled k lt =
     found.2 ∙ ap (signal_of models by.0) at ∙ ap (place_of all) by.4
     ∙ place_of-get_or all k no_signal (Apart-onto [] (mentioned mentions_of models (flat_lines models)) tt) lt in
     any-among (flat_names models texts) found.0 k
-    (Among-flat_map (λ path. names_from models path 0 (texts_at texts (model_at models path))) by.0 found.0 (instances_from models DEEPEST [])
+    (Among-flat_map (λ path. names_from models path 0 (texts_at texts (model_at models path))) by.0 found.0 (instances models)
     (instance-there models by.0 by.2 (whole.shallow by.0 by.2)) found.1) is

@@ -8,7 +8,8 @@ use Rattle.flattening.specs.Instances.{names_of, IsNamed}
 use Rattle.flattening.specs.Members.{Among}
 use Rattle.flattening.specs.Numbers.{signals}
 use Rattle.blif_model.specs.declared.line.ModelLine.{ModelLine}
-use Rattle.flat_netlist.specs.Example.{latch_line, worked}
+use Rattle.flat_netlist.specs.Example.{latch_line, worked, worked_texts}
+use Rattle.flat_netlist.specs.Flat.{texts_at}
 use Rattle.flat_netlist.specs.Lines.{mentions_of}
 
 only-line : (model : ℕ) (line : ModelLine) → Among (Own line) (items_of worked model) → (line ≡ latch_line) × (model ≡ 0)
@@ -42,3 +43,11 @@ unfolding flat_lines
 worked_room models is =
     let two : length (signals mentions_of worked) ≡ 2 = refl in
     subst (λ (ms : List (Model ModelLine)). length (signals mentions_of ms) ≤ 2 ^ 32) (sym is) (omega (arith, two))
+
+titled : (model : ℕ) → length (texts_at worked_texts model) ≡ names_of worked model
+titled zero = refl
+titled (suc model) = refl
+
+pub worked_titled : (models : List (Model ModelLine)) (texts : List (List (List ℕ))) → models ≡ worked → texts ≡ worked_texts
+    → (model : ℕ) → length (texts_at texts model) ≡ names_of models model
+worked_titled models texts is these model = rw (is, these) (titled model)

@@ -1,13 +1,12 @@
 -- The netlist of a hierarchy of models: what the flat lines say, and the names of all instances.
-use Rattle.std.specs.Prelude.{◌≡◌, ℕ, zero, suc, ◌+◌, ◌≤◌, cond, List, [], ◌∷◌, ◌++◌, length, map, decimal, slice_index_or}
+use Rattle.std.specs.Prelude.{◌≡◌, ℕ, suc, ◌+◌, ◌≤◌, cond, List, [], ◌∷◌, ◌++◌, length, map, decimal, slice_index_or}
 use Rattle.std.specs.List.{flat_map}
 use Rattle.psl_tree.specs.declared.name.Name.{Name}
 use Rattle.flattening.specs.declared.model.Item.TheVariants.{Own}
 use Rattle.flattening.specs.declared.model.Model.{Model}
-use Rattle.flattening.specs.declared.model.Placement.{Placement}
-use Rattle.flattening.specs.declared.model.TheConstants.{DEEPEST}
-use Rattle.flattening.specs.Hierarchy.{Path, Placed, items_of, items_at, model_at, placements_in, owner, flat_lines, mentioned_by}
+use Rattle.flattening.specs.Hierarchy.{Path, Placed, items_of, model_at, owner, flat_lines, mentioned_by}
 use Rattle.flattening.specs.Instances.{names_of, IsNamed}
+use Rattle.flattening.specs.Listing.{instances}
 use Rattle.flattening.specs.Members.{Among}
 use Rattle.flattening.specs.Numbers.{is_among, number, signals}
 use Rattle.flattening.specs.Trees.{IsWhole}
@@ -58,23 +57,13 @@ names_from models path name (text ∷ texts) =
     ∷ names_from models path (suc name) texts)
     (names_from models path (suc name) texts)
 
--- an instance and those below it, in flat order, so many levels deep
-abbrev pub instances_by : (Path → List Path) → Path → ℕ → List Placement → List Path
-instances_by below path k [] = []
-instances_by below path k (placement ∷ placements) = below (k ∷ path) ++ instances_by below path (suc k) placements
-
-abbrev pub instances_from : Models → ℕ → Path → List Path
-instances_from models zero path = []
-instances_from models (suc levels) path =
-    path ∷ instances_by (instances_from models levels) path 0 (placements_in (items_at models path))
-
 -- the names of all instances, where each model has these texts as names
 abbrev pub texts_at : List (List (List ℕ)) → ℕ → List (List ℕ)
 texts_at texts model = slice_index_or texts model []
 
 abbrev pub flat_names : Models → List (List (List ℕ)) → List Name
 flat_names models texts =
-    flat_map (λ path. names_from models path 0 (texts_at texts (model_at models path))) (instances_from models DEEPEST [])
+    flat_map (λ path. names_from models path 0 (texts_at texts (model_at models path))) (instances models)
 
 -- the netlist
 unfoldable pub flat_design : Models → List (List (List ℕ)) → Design

@@ -1,11 +1,14 @@
 //! The netlist of a hierarchy of models: what its flat lines say, and why that is a netlist.
 #![tactic(auto)]
 
+mod flat;
+mod instance_names;
 mod laws;
 mod parts;
 #[cfg(test)]
 mod tests;
 
+pub use flat::{FlatNetlist, flat_netlist};
 pub use laws::{soundness_law, unfolding_law};
-pub use parts::{FlatParts, flat_parts};
+pub use parts::FlatParts;
 pub use psl_base::NoMemory;

@@ -1,16 +1,13 @@
 // The parts of a netlist, line by line.
-ghost use Rattle.std.specs.Prelude.{◌≡◌, ◌≤◌, ◌^◌, length, map, IfOk, OnOk, slice_get};
+ghost use Rattle.std.specs.Prelude.{◌≡◌, map, IfOk, OnOk, slice_get};
 ghost use Rattle.std.specs.Option.{option_map};
-ghost use Rattle.flattening.specs.Hierarchy.{flat_lines, items_of};
-ghost use Rattle.flattening.specs.Instances.{IsNamed};
-ghost use Rattle.flattening.specs.Numbers.{signals};
+ghost use Rattle.flattening.specs.Hierarchy.{items_of};
 ghost use Rattle.flattening.specs.Walks.{line_view};
-ghost use Rattle.flat_netlist.specs.Flat.{flat_latches, flat_outputs, flat_tables};
-ghost use Rattle.flat_netlist.specs.Lines.{mentions_of, table_by};
+ghost use Rattle.flat_netlist.specs.Lines.{table_by};
 ghost use Rattle.flat_netlist.specs.Listing.{parts_in, table_with, with_entry, with_kind};
 
 use blif_model::{LineKind, ModelLine, TableRows};
-use flattening::{FlatLine, Item, Model, flatten};
+use flattening::{FlatLine, Item, Model};
 use netlist::{Latch, Latches, Table, Tables};
 use psl_base::{Items, NoMemory, Numbers};
 use std::alloc::Global;
@@ -27,29 +24,8 @@ pub struct FlatParts {
     pub outputs: Numbers,
 }
 
-/// The latches and tables of a hierarchy of models, in flat order, and how many signals there are.
-///
-/// # Errors
-///
-/// `NoMemory` if memory is refused.
-pub fn flat_parts(
-    alloc: Global,
-    models: &Items<Model<ModelLine>>,
-) -> Result<(usize, FlatParts), NoMemory>
-    requires named { IsNamed mentions_of models.now }
-    requires room { length (signals mentions_of models.now) ≤ 2 ^ 32 }
-    ensures signals { IfOk result (λ made. made.0 ≡ length (signals mentions_of models.now)) }
-    ensures latches { IfOk result (λ made. made.1.latches ≡ flat_latches models.now (flat_lines models.now)) }
-    ensures tables { IfOk result (λ made. made.1.tables ≡ flat_tables models.now (flat_lines models.now)) }
-    ensures outputs { IfOk result (λ made. made.1.outputs ≡ flat_outputs (flat_lines models.now)) }
-{
-    let flat = flatten(alloc, models)?;
-    let parts = parts_of(alloc, models, &flat.lines)?;
-    Ok((flat.signals, parts))
-}
-
-// What flat lines list. The rows of tables are copied, as a model may be placed more than once.
-fn parts_of(
+/// What flat lines list. The rows of tables are copied, as a model may be placed more than once.
+pub(crate) fn parts_of(
     alloc: Global,
     models: &Items<Model<ModelLine>>,
     lines: &Items<FlatLine>,

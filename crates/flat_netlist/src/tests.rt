@@ -1,9 +1,9 @@
-// What no clause says: that the parts are found with ample memory.
+// What no clause says: that a hierarchy is made a netlist with ample memory.
 ghost use Rattle.std.specs.Prelude.{◌≡◌, IfOk};
-ghost use Rattle.flat_netlist.specs.Example.{worked};
+ghost use Rattle.flat_netlist.specs.Example.{worked, worked_texts};
 
-use crate::{NoMemory, flat_parts};
-use blif_model::{LineKind, ModelLine};
+use crate::{NoMemory, flat_netlist};
+use blif_model::{LineKind, ModelLine, NameTable};
 use flattening::{Item, Model};
 use netlist::Init;
 use psl_base::Items;
@@ -24,14 +24,32 @@ fn hierarchy(alloc: Global) -> Result<Items<Model<ModelLine>>, NoMemory>
     Ok(models)
 }
 
+// The names of the model.
+fn names<'a>(alloc: Global) -> Result<Items<NameTable<'a>>, NoMemory>
+    ensures { IfOk result (λ texts. texts ≡ worked_texts) }
+{
+    let mut names = NameTable::new(alloc);
+    names.add("n".as_bytes())?;
+    names.add("q".as_bytes())?;
+    let mut texts = Items::new(alloc);
+    texts.push(names)?;
+    Ok(texts)
+}
+
 #[test]
-#[tactic(auto, using(crate::proofs::Worked::worked_named, crate::proofs::Worked::worked_room))]
+#[tactic(auto, using(crate::proofs::Worked::worked_named, crate::proofs::Worked::worked_room, crate::proofs::Worked::worked_titled))]
 fn a_latch_alone(rt: HostRuntime) -> Result<(), Fail> {
     let models = hierarchy(rt.alloc())?;
-    let (signals, parts) = flat_parts(rt.alloc(), &models)?;
+    let texts = names(rt.alloc())?;
+    let made = flat_netlist(rt.alloc(), &models, &texts)?;
     assert_eq!(rt;
-        (signals, parts.latches.len(), parts.tables.len()),
-        (2, 1, 0)
+        (
+            made.signals,
+            made.parts.latches.len(),
+            made.parts.tables.len(),
+            made.names.len()
+        ),
+        (2, 1, 0, 2)
     );
     Ok(())
 }
