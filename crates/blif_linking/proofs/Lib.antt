@@ -1,0 +1,2 @@
+pub mod ExamplesHold
+pub mod Unknowing

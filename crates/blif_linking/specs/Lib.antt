@@ -1,0 +1,5 @@
+pub mod Examples
+pub mod Interfaces
+pub mod Linked
+pub mod Links
+pub mod Names

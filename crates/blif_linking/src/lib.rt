@@ -1,0 +1,9 @@
+//! How the models of a netlist's text are linked: which model each `.subckt` places, what its connections say, and what
+//! is wrong where models do not fit together.
+#![tactic(auto)]
+
+mod laws;
+mod unknown;
+
+pub use laws::worked_links;
+pub use unknown::first_unknown;
