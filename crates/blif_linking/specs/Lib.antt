@@ -1,3 +1,4 @@
+pub mod Connected
 pub mod Examples
 pub mod Interfaces
 pub mod Linked

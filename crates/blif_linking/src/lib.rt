@@ -3,7 +3,9 @@
 #![tactic(auto)]
 
 mod laws;
+mod links;
 mod unknown;
 
 pub use laws::worked_links;
+pub use links::{Connected, link_of};
 pub use unknown::first_unknown;
