@@ -68,7 +68,7 @@ Stay old new = (y : ℕ) → IsTrue (is_marked old y) → IsTrue (is_marked new 
 visit-marked : (m : Marking) (y : ℕ) → IsTrue (is_marked m.marks y) → visit m y ≡ m
 visit-marked m y e = ap (λ (t : Truth). if t then m else record { marks = slice_set m.marks y true; waiting = m.waiting ++ y ∷ [] }) e
 
-visit-stay : (m : Marking) (y : ℕ) → y < length m.marks → Stay m.marks (visit m y).marks
+pub visit-stay : (m : Marking) (y : ℕ) → y < length m.marks → Stay m.marks (visit m y).marks
 visit-stay m y l = (visits-all m (y ∷ []) (l, tt)).stay
 
 visit-length : (m : Marking) (y : ℕ) → y < length m.marks → length (visit m y).marks ≡ length m.marks

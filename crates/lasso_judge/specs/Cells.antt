@@ -1,6 +1,6 @@
 -- Cells: the states of an automaton at the places of a course. Which paths lead on from a cell, and the
 -- searches for these.
-use Rattle.std.specs.Prelude.{◌≡◌, ◌↔◌, Bool as Truth, not, ◌&&◌, ◌||◌, ℕ, zero, suc, ◌+◌, ◌*◌, ◌/◌, ◌%◌, ◌<◌, if◌then◌else◌, List, [], ◌∷◌, ◌++◌, length, slice_index, IsTrue}
+use Rattle.std.specs.Prelude.{◌≡◌, ◌↔◌, Bool as Truth, false, not, ◌&&◌, ◌||◌, ℕ, zero, suc, ◌+◌, ◌*◌, ◌/◌, ◌%◌, ◌<◌, if◌then◌else◌, List, [], ◌∷◌, ◌++◌, length, slice_index, IsTrue}
 use Rattle.std.specs.List.{list_any}
 use Rattle.psl_meaning.specs.Classical.{Exists}
 use Rattle.psl_meaning.specs.Trace.{first, cut}
@@ -9,7 +9,7 @@ use Rattle.psl_tree.specs.declared.letter.Letter.{Letter}
 use Rattle.sere_nfa.specs.Acceptance.{Edge, State, state_at, AcceptsFrom, ReachesEnd}
 use Rattle.sere_nfa.specs.Marking.{Marking, visit}
 use Rattle.lasso_theory.specs.Courses.{Course, walk, read_from}
-use Rattle.lasso_judge.specs.Arrows.{arrow_at, label_of}
+use Rattle.lasso_judge.specs.Arrows.{edge_at, arrow_at, label_of}
 use Rattle.lasso_judge.specs.Tables.{value_at}
 use Rattle.lasso_judge.specs.declared.chart.Arrow.{Arrow}
 
@@ -96,11 +96,28 @@ goes_on states letter marks first edges =
     list_any (λ (edge : Edge). holds letter edge.label
     && ((state_at states edge.target).is_final || not (value_at marks (first + edge.target)))) edges
 
+-- one edge does
+abbrev pub goes_along : List State → Letter → List Truth → ℕ → Edge → Truth
+goes_along states letter marks first edge =
+    holds letter edge.label && ((state_at states edge.target).is_final || not (value_at marks (first + edge.target)))
+
+-- none of so many first edges does
+abbrev pub NoneGoes : List State → Letter → List Truth → ℕ → List Edge → ℕ → Type 0
+NoneGoes states letter marks first edges count =
+    (number : ℕ) → number < count → goes_along states letter marks first (edge_at edges number) ≡ false
+
 -- the same of a cell
 abbrev pub lasts_at : List State → (ℕ → Letter) → List ℕ → List Truth → ℕ → Truth
 lasts_at states letter next marks cell =
     goes_on states (letter (cell / length states)) marks (slice_index next (cell / length states) * length states)
     (state_at states (cell % length states)).edges
+
+-- each cell passed so many of its first edges: none of these does
+pub record ArePassed (states : List State) (letter : ℕ → Letter) (next : List ℕ) (cells : ℕ) (marks : List Truth) (passed : List ℕ) : Type 0 where
+  pub same_length : length passed ≡ cells
+  pub none : (cell : ℕ) → cell < cells
+      → NoneGoes states (letter (cell / length states)) marks (slice_index next (cell / length states) * length states)
+      (state_at states (cell % length states)).edges (slice_index passed cell)
 
 -- a cell from which the sequence does not go on is visited
 abbrev pub fall : List State → (ℕ → Letter) → List ℕ → Marking → ℕ → Marking

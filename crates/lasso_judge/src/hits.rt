@@ -97,7 +97,7 @@ fn ends_by(chart: &Chart, word: &Word, flipped: bool, place: usize, edges: &[Nfa
     ensures { result ≡ ends_on chart.now.nfa.states (seen_at word.now flipped place) (edges_of edges.now) }
 {
     for edge in edges {
-        if holds_at(word, flipped, place, &edge.label) && chart.nfa.is_final(edge.target) {
+        if chart.nfa.is_final(edge.target) && holds_at(word, flipped, place, &edge.label) {
             return true;
         }
     }

@@ -1,8 +1,10 @@
-ghost use Rattle.std.specs.Prelude.{◌≡◌, ◌+◌, ◌*◌, ◌<◌, ◌≤◌, ℕ, All, [], length, slice_index, IfOk, OnOk};
+ghost use Rattle.std.specs.Prelude.{◌≡◌, ◌+◌, ◌*◌, ◌<◌, ◌≤◌, ◌&&◌, ℕ, All, [], length, not, nat_lt, replicate};
+ghost use Rattle.std.specs.Prelude.{slice_index, IfOk, OnOk};
 ghost use Rattle.sere_nfa.specs.MarkingView.{marking_of};
-ghost use Rattle.sere_nfa.specs.Views.{edges_of};
-ghost use Rattle.lasso_judge.specs.Arrows.{IsChart, IsDrawn};
-ghost use Rattle.lasso_judge.specs.Cells.{fall, fall_all, goes_on, lasts_at, AreDead, AreFallen, IsFirstFallen};
+ghost use Rattle.sere_nfa.specs.Views.{edge_of, edges_of};
+ghost use Rattle.lasso_judge.specs.Arrows.{edge_at, IsChart, IsDrawn};
+ghost use Rattle.lasso_judge.specs.Cells.{fall, fall_all, goes_along, goes_on, lasts_at, NoneGoes};
+ghost use Rattle.lasso_judge.specs.Cells.{AreDead, AreFallen, ArePassed, IsFirstFallen};
 ghost use Rattle.lasso_judge.specs.Seen.{course_by, seen_at, IsWhole};
 
 use crate::before::cells_before;
@@ -14,7 +16,8 @@ use sere_nfa::{Marking, NfaEdge};
 use std::alloc::Global;
 
 /// The cells from which the sequence does not last: some cut of the course leaves no prefix of it. A cell
-/// falls once each arrow that can be taken from it leads to no end and to a cell that fell.
+/// falls once each arrow that can be taken from it leads to no end and to a cell that fell. Each edge of a
+/// cell is passed once: a cell remembers how many of its edges lead to no cell from which the sequence lasts.
 #[inline(never)]
 pub(crate) fn fallen_cells(
     alloc: Global,
@@ -28,30 +31,53 @@ pub(crate) fn fallen_cells(
     ensures { IfOk result (λ cells.
         AreFallen chart.now.nfa.states (course_by word.now flipped next.now) (length next.now) cells.items) }
 {
-    let mut marking = first_fallen(alloc, chart, word, next, flipped)?;
+    let mut passed = none_passed(alloc, chart.cells)?;
+    let mut marking = first_fallen(alloc, chart, word, next, flipped, &mut passed)?;
     let mut found = Vec::new(alloc);
     while let Some(cell) = marking.waiting.pop() {
         cells_before(chart, word, next, flipped, &marking.marks, cell, &mut found)?;
-        fall_each(chart, word, next, flipped, &found, &mut marking)?;
+        fall_each(
+            chart,
+            word,
+            next,
+            flipped,
+            &found,
+            &mut marking,
+            &mut passed,
+        )?;
     }
     let Marking { marks, waiting: _ } = marking;
     Ok(marks)
 }
 
+// No edge of any cell was passed.
+fn none_passed(alloc: Global, cells: usize) -> Result<Vec<usize>, NoMemory>
+    ensures { IfOk result (λ passed. passed.items ≡ replicate cells 0) }
+{
+    let passed = vec![in alloc; 0; cells]?;
+    Ok(passed)
+}
+
 // The cells of dead states are marked, and then those from which the sequence goes on to no other cell;
 // these wait.
+#[tactic(auto, using(crate::proofs::Passed::passed_none))]
 fn first_fallen(
     alloc: Global,
     chart: &Chart,
     word: &Word,
     next: &[usize],
     flipped: bool,
+    passed: &mut Vec<usize>,
 ) -> Result<Marking, NoMemory>
     requires chart { IsChart next.now chart.now }
     requires within { (place : ℕ) → place < length next.now → slice_index next.now place < length next.now }
-    ensures { IfOk result (λ marking.
+    requires passed { passed.old.items ≡ replicate chart.now.cells 0 }
+    ensures fallen { IfOk result (λ marking.
         IsFirstFallen chart.now.nfa.states (λ place. seen_at word.now flipped place) next.now chart.now.cells
         (marking_of marking)) }
+    ensures passed { IfOk result (λ marking.
+        ArePassed chart.now.nfa.states (λ place. seen_at word.now flipped place) next.now chart.now.cells
+        marking.marks.items passed.new.items) }
 {
     let marks = dead_cells(alloc, chart)?;
     let mut marking = Marking {
@@ -59,7 +85,15 @@ fn first_fallen(
         waiting: Vec::new(alloc),
     };
     for cell in 0..chart.cells {
-        fall_one(chart, word, next, flipped, cell as u32, &mut marking)?;
+        fall_one(
+            chart,
+            word,
+            next,
+            flipped,
+            cell as u32,
+            &mut marking,
+            passed,
+        )?;
     }
     Ok(marking)
 }
@@ -85,23 +119,28 @@ fn fall_each(
     flipped: bool,
     cells: &[u32],
     marking: &mut Marking,
+    passed: &mut Vec<usize>,
 ) -> Result<(), NoMemory>
     requires chart { IsChart next.now chart.now }
     requires within { (place : ℕ) → place < length next.now → slice_index next.now place < length next.now }
     requires cells { All (λ cell. cell < chart.now.cells) cells.now }
     requires marks { length marking.old.marks.items ≡ chart.now.cells }
-    ensures { OnOk result (marking_of marking.new ≡
+    requires passed { ArePassed chart.now.nfa.states (λ place. seen_at word.now flipped place) next.now chart.now.cells
+        marking.old.marks.items passed.old.items }
+    ensures marking { OnOk result (marking_of marking.new ≡
         fall_all chart.now.nfa.states (λ place. seen_at word.now flipped place) next.now
         (marking_of marking.old) cells.now) }
+    ensures passed { OnOk result (ArePassed chart.now.nfa.states (λ place. seen_at word.now flipped place) next.now
+        chart.now.cells marking.new.marks.items passed.new.items) }
 {
     for cell in cells {
-        fall_one(chart, word, next, flipped, *cell, marking)?;
+        fall_one(chart, word, next, flipped, *cell, marking, passed)?;
     }
     Ok(())
 }
 
 // Visits a cell from which the sequence does not go on.
-#[tactic(auto, using(crate::proofs::Visiting::fall_marked))]
+#[tactic(auto, using(crate::proofs::Visiting::fall_marked, crate::proofs::Passed::passed_visit))]
 fn fall_one(
     chart: &Chart,
     word: &Word,
@@ -109,25 +148,40 @@ fn fall_one(
     flipped: bool,
     cell: u32,
     marking: &mut Marking,
+    passed: &mut Vec<usize>,
 ) -> Result<(), NoMemory>
     requires chart { IsChart next.now chart.now }
     requires within { (place : ℕ) → place < length next.now → slice_index next.now place < length next.now }
     requires cell { cell < chart.now.cells }
     requires marks { length marking.old.marks.items ≡ chart.now.cells }
+    requires passed { ArePassed chart.now.nfa.states (λ place. seen_at word.now flipped place) next.now chart.now.cells
+        marking.old.marks.items passed.old.items }
     ensures marking { OnOk result (marking_of marking.new ≡
         fall chart.now.nfa.states (λ place. seen_at word.now flipped place) next.now (marking_of marking.old) cell) }
     ensures len { OnOk result (length marking.new.marks.items ≡ length marking.old.marks.items) }
+    ensures passed { OnOk result (ArePassed chart.now.nfa.states (λ place. seen_at word.now flipped place) next.now
+        chart.now.cells marking.new.marks.items passed.new.items) }
 {
     if marking.marks[cell as usize] {
         return Ok(());
     }
-    if !lasts(chart, word, next, flipped, cell as usize, &marking.marks) {
+    if !lasts(
+        chart,
+        word,
+        next,
+        flipped,
+        cell as usize,
+        &marking.marks,
+        passed,
+    ) {
         marking.visit(cell)?;
     }
     Ok(())
 }
 
-// Whether the sequence goes on from a cell, to an end or to a cell that is not marked.
+// Whether the sequence goes on from a cell, to an end or to a cell that is not marked. The edges up to one by
+// which it does are passed.
+#[tactic(auto, using(crate::proofs::Passed::passed_set))]
 fn lasts(
     chart: &Chart,
     word: &Word,
@@ -135,22 +189,40 @@ fn lasts(
     flipped: bool,
     cell: usize,
     marks: &[bool],
+    passed: &mut Vec<usize>,
 ) -> bool
     requires chart { IsChart next.now chart.now }
     requires within { (place : ℕ) → place < length next.now → slice_index next.now place < length next.now }
     requires cell { cell < chart.now.cells }
     requires marks { length marks.now ≡ chart.now.cells }
-    ensures { result ≡ lasts_at chart.now.nfa.states (λ place. seen_at word.now flipped place) next.now marks.now cell }
+    requires passed { ArePassed chart.now.nfa.states (λ place. seen_at word.now flipped place) next.now chart.now.cells
+        marks.now passed.old.items }
+    ensures lasts { result ≡ lasts_at chart.now.nfa.states (λ place. seen_at word.now flipped place) next.now marks.now cell }
+    ensures passed { ArePassed chart.now.nfa.states (λ place. seen_at word.now flipped place) next.now chart.now.cells
+        marks.now passed.new.items }
 {
     let states = chart.nfa.len();
     let place = cell / states;
     let edges = chart.nfa.edges((cell % states) as u32);
     let first = next[place] * states;
-    goes_by(chart, word, flipped, place, edges.as_slice(), first, marks)
+    let number = first_along(
+        chart,
+        word,
+        flipped,
+        place,
+        edges.as_slice(),
+        first,
+        marks,
+        passed[cell],
+    );
+    passed[cell] = number;
+    number < edges.as_slice().len()
 }
 
-// Whether some edge that can be taken at a place leads to an end, or to a cell that is not marked.
-fn goes_by(
+// The number of the first edge, from one on, that can be taken at a place and leads to an end or to a cell
+// that is not marked. Those before it do not, and where none does, the number is past the last.
+#[tactic(auto, using(crate::proofs::Passed::more_passed))]
+fn first_along(
     chart: &Chart,
     word: &Word,
     flipped: bool,
@@ -158,19 +230,58 @@ fn goes_by(
     edges: &[NfaEdge],
     first: usize,
     marks: &[bool],
+    from: usize,
+) -> usize
+    requires edges { All (λ edge. edge.target < length chart.now.nfa.states) edges.now }
+    requires marks { first + length chart.now.nfa.states ≤ length marks.now }
+    requires passed { NoneGoes chart.now.nfa.states (seen_at word.now flipped place) marks.now first (edges_of edges.now) from }
+    ensures passed { NoneGoes chart.now.nfa.states (seen_at word.now flipped place) marks.now first (edges_of edges.now) result }
+    ensures goes { nat_lt result (length edges.now)
+        ≡ goes_on chart.now.nfa.states (seen_at word.now flipped place) marks.now first (edges_of edges.now) }
+{
+    let mut number = from;
+    while is_idle(chart, word, flipped, place, edges, first, marks, number) {
+        number += 1;
+    }
+    number
+}
+
+// Whether there is an edge of this number, and the sequence does not go on along it.
+fn is_idle(
+    chart: &Chart,
+    word: &Word,
+    flipped: bool,
+    place: usize,
+    edges: &[NfaEdge],
+    first: usize,
+    marks: &[bool],
+    number: usize,
 ) -> bool
     requires edges { All (λ edge. edge.target < length chart.now.nfa.states) edges.now }
     requires marks { first + length chart.now.nfa.states ≤ length marks.now }
-    ensures { result ≡ goes_on chart.now.nfa.states (seen_at word.now flipped place) marks.now first
-        (edges_of edges.now) }
+    ensures { result ≡ (nat_lt number (length edges.now)
+        && not (goes_along chart.now.nfa.states (seen_at word.now flipped place) marks.now first
+        (edge_at (edges_of edges.now) number))) }
 {
-    for edge in edges {
-        let target = edge.target;
-        if holds_at(word, flipped, place, &edge.label)
-            && (chart.nfa.is_final(target) || !marks[first + target as usize])
-        {
-            return true;
-        }
-    }
-    false
+    number < edges.len() && !is_along(chart, word, flipped, place, &edges[number], first, marks)
+}
+
+// Whether an edge can be taken at a place and leads to an end, or to a cell that is not marked.
+fn is_along(
+    chart: &Chart,
+    word: &Word,
+    flipped: bool,
+    place: usize,
+    edge: &NfaEdge,
+    first: usize,
+    marks: &[bool],
+) -> bool
+    requires edge { edge.now.target < length chart.now.nfa.states }
+    requires marks { first + length chart.now.nfa.states ≤ length marks.now }
+    ensures { result ≡ goes_along chart.now.nfa.states (seen_at word.now flipped place) marks.now first
+        (edge_of edge.now) }
+{
+    let target = edge.target;
+    (chart.nfa.is_final(target) || !marks[first + target as usize])
+        && holds_at(word, flipped, place, &edge.label)
 }

@@ -1,6 +1,6 @@
 use Rattle.std.proofs.Common.{◌≡◌, length, drop}
 use Rattle.sere_nfa.specs.MarkingView.{marking_of}
-use Rattle.lasso_judge.specs.Cells.{fall_all}
+use Rattle.lasso_judge.specs.Cells.{fall_all, ArePassed}
 use Rattle.lasso_judge.specs.Seen.{seen_at}
 use Rattle.lasso_judge.proofs.lasts.fall_each.Given as goal
 
@@ -9,4 +9,5 @@ invariant-loop-cell l = record {
   same : fall_all l.chart.nfa.states (λ place. seen_at l.word l.flipped place) l.next (marking_of l.marking) (drop l.cell-index l.cells)
       ≡ fall_all l.chart.nfa.states (λ place. seen_at l.word l.flipped place) l.next (marking_of l.initial.marking) l.cells;
   len : length l.marking.marks.items ≡ length l.initial.marking.marks.items;
+  passed : ArePassed l.chart.nfa.states (λ place. seen_at l.word l.flipped place) l.next l.chart.cells l.marking.marks.items l.passed.items;
 }

@@ -1,11 +1,16 @@
 use Rattle.std.proofs.Common.{[]}
 use Rattle.sere_nfa.proofs.Reach.{work}
 use Rattle.sere_nfa.specs.MarkingView.{marking_of}
+use Rattle.lasso_judge.specs.Cells.{ArePassed}
+use Rattle.lasso_judge.specs.Seen.{seen_at}
 use Rattle.lasso_judge.proofs.Lasting.{IsFallSearch}
 use Rattle.lasso_judge.proofs.lasts.fallen_cells.Given as goal
 
 abbrev pub invariant-loop-cell : goal.invariant-loop-cell
-invariant-loop-cell l = IsFallSearch l.word l.flipped l.next l.chart.nfa.states [] (marking_of l.marking)
+invariant-loop-cell l = record {
+  search : IsFallSearch l.word l.flipped l.next l.chart.nfa.states [] (marking_of l.marking);
+  passed : ArePassed l.chart.nfa.states (λ place. seen_at l.word l.flipped place) l.next l.chart.cells l.marking.marks.items l.passed.items;
+}
 
 abbrev pub decreases-loop-cell : goal.decreases-loop-cell
 decreases-loop-cell l = work (marking_of l.marking)
