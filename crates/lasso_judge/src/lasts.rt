@@ -16,8 +16,9 @@ use sere_nfa::{Marking, NfaEdge};
 use std::alloc::Global;
 
 /// The cells from which the sequence does not last: some cut of the course leaves no prefix of it. A cell
-/// falls once each arrow that can be taken from it leads to no end and to a cell that fell. Each edge of a
-/// cell is passed once: a cell remembers how many of its edges lead to no cell from which the sequence lasts.
+/// falls once each arrow that can be taken from it leads to no end and to a cell that fell. A cell keeps how
+/// many of its first edges were found to lead to neither, so that an arrow is tried at most twice at each
+/// place: once from the cell that it leaves, and once when the cell that it leads to has fallen.
 #[inline(never)]
 pub(crate) fn fallen_cells(
     alloc: Global,
@@ -197,7 +198,8 @@ fn lasts(
     requires marks { length marks.now ≡ chart.now.cells }
     requires passed { ArePassed chart.now.nfa.states (λ place. seen_at word.now flipped place) next.now chart.now.cells
         marks.now passed.old.items }
-    ensures lasts { result ≡ lasts_at chart.now.nfa.states (λ place. seen_at word.now flipped place) next.now marks.now cell }
+    ensures lasts { result
+        ≡ lasts_at chart.now.nfa.states (λ place. seen_at word.now flipped place) next.now marks.now cell }
     ensures passed { ArePassed chart.now.nfa.states (λ place. seen_at word.now flipped place) next.now chart.now.cells
         marks.now passed.new.items }
 {
@@ -234,8 +236,10 @@ fn first_along(
 ) -> usize
     requires edges { All (λ edge. edge.target < length chart.now.nfa.states) edges.now }
     requires marks { first + length chart.now.nfa.states ≤ length marks.now }
-    requires passed { NoneGoes chart.now.nfa.states (seen_at word.now flipped place) marks.now first (edges_of edges.now) from }
-    ensures passed { NoneGoes chart.now.nfa.states (seen_at word.now flipped place) marks.now first (edges_of edges.now) result }
+    requires passed { NoneGoes chart.now.nfa.states (seen_at word.now flipped place) marks.now first
+        (edges_of edges.now) from }
+    ensures passed { NoneGoes chart.now.nfa.states (seen_at word.now flipped place) marks.now first
+        (edges_of edges.now) result }
     ensures goes { nat_lt result (length edges.now)
         ≡ goes_on chart.now.nfa.states (seen_at word.now flipped place) marks.now first (edges_of edges.now) }
 {
