@@ -17,8 +17,7 @@ use std::alloc::Global;
 
 /// The cells from which the sequence does not last: some cut of the course leaves no prefix of it. A cell
 /// falls once each arrow that can be taken from it leads to no end and to a cell that fell. A cell keeps how
-/// many of its first edges were found to lead to neither, so that an arrow is tried at most twice at each
-/// place: once from the cell that it leaves, and once when the cell that it leads to has fallen.
+/// many of its first edges can not be taken or lead to a cell that fell, and does not try these again.
 #[inline(never)]
 pub(crate) fn fallen_cells(
     alloc: Global,
