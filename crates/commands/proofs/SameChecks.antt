@@ -192,5 +192,5 @@ module _ (unit netlist : List ℕ) (number : ℕ) (design : Design) (text : List
   one-checked-of u v s (Err f) (Err g) h k =
       let cause = moved-cause design u v s number text h.limit (cause-of design u number text h.limit h.is_limit h.passed) in
       let limit : h.limit ≡ k.limit = one-cause design v number text h.limit k.limit h.is_limit k.is_limit cause
-          (cause-of design v number text k.limit k.is_limit k.passed) in
+      (cause-of design v number text k.limit k.is_limit k.passed) in
       h.fault_is ∙ same-cert-fault design u v s unit netlist number h.limit ∙ ap (cert_fault unit netlist v number) limit ∙ sym k.fault_is

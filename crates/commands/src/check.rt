@@ -91,10 +91,18 @@ fn cert_fault(alloc: Global, question: Question<'_>, directives: &Unit, fault: C
     } = question;
     match fault {
         CertFault::SereTooLarge => {
-            fault_in(alloc, unit, at_directive(Reason::SereTooLarge, directives, number))
+            fault_in(
+                alloc,
+                unit,
+                at_directive(Reason::SereTooLarge, directives, number),
+            )
         }
         CertFault::AutomatonTooLarge => {
-            fault_in(alloc, unit, at_directive(Reason::AutomatonTooLarge, directives, number))
+            fault_in(
+                alloc,
+                unit,
+                at_directive(Reason::AutomatonTooLarge, directives, number),
+            )
         }
         CertFault::UnrollTooLarge => fault_in(alloc, netlist, whole(Reason::UnrollTooLarge)),
         CertFault::FormulaTooLarge => fault_in(alloc, netlist, whole(Reason::FormulaTooLarge)),

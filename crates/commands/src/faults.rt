@@ -152,7 +152,11 @@ pub fn judge_diagnostic(directives: &Unit, fault: JudgeFault) -> Diagnostic
 {
     match fault {
         JudgeFault::Sere(number) => at_directive(Reason::SereTooLarge, directives, number),
-        JudgeFault::Automaton(number) => at_directive(Reason::AutomatonTooLarge, directives, number),
+        JudgeFault::Automaton(number) => at_directive(
+            Reason::AutomatonTooLarge,
+            directives,
+            number,
+        ),
         JudgeFault::NoMemory => whole(Reason::NoMemory),
     }
 }

@@ -4,8 +4,11 @@ use Rattle.commands.proofs.finish.finish_outcome.Goals as goal
 
 pub returns-in-Err-clause-printed : goal.returns-in-Err-clause-printed
 returns-in-Err-clause-printed g c =
-    rw c.of_none.ensures (inl (rw (← c.requires.text, ← c.as_slice-2.ensures, ← c.as_slice.ensures)
-    (failed-text c.as_slice.result.now c.as_slice-2.result.now _ _ _ _ c.in-Err.ensures.failed), c.tell_write_fault.ensures))
+    rw c.of_none.ensures (inl (
+      rw (← c.requires.text, ← c.as_slice-2.ensures, ← c.as_slice.ensures)
+          (failed-text c.as_slice.result.now c.as_slice-2.result.now _ _ _ _ c.in-Err.ensures.failed),
+      c.tell_write_fault.ensures,
+    ))
 
 pub returns-in-Err-clause-made : goal.returns-in-Err-clause-made
 returns-in-Err-clause-made g c = record {
