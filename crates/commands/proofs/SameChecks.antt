@@ -1,8 +1,7 @@
 -- Of directives that are equal but for where the program keeps their parts, a certificate is not checked for one limit at
 -- most, and where it is checked, for none.
-use Rattle.std.proofs.Common.{◌≡◌, refl, sym, ◌∙◌, ap, subst, ℕ, ◌==◌, Bool, true, false, cond, List, [], ◌∷◌, Option, None, Some, Ok, Err, arith, inl, inr}
-use Rattle.std.specs.Prelude.{◌≢◌, Result}
-use Rattle.std.specs.List.{find}
+use Rattle.std.proofs.Common.{◌≡◌, refl, sym, ◌∙◌, ap, subst, ℕ, ◌==◌, Bool, true, false, cond, List, [], ◌∷◌, Option, None, Some, Ok, Err, arith}
+use Rattle.std.specs.Prelude.{◌≢◌}
 use Rattle.std.proofs.lemmas.Option.{same_Some}
 use Rattle.alternating_theory.specs.Obligations.{Automaton}
 use Rattle.cert_check.specs.Claims.{asked_of, directive_of as directive_at, is_some_assertion}
@@ -15,19 +14,16 @@ use Rattle.certificate.specs.declared.answer.CertAnswer.{CertAnswer}
 use Rattle.certificate.specs.declared.header.Asked.{Asked}
 use Rattle.certificate.specs.declared.header.Header.{Header}
 use Rattle.netlist.specs.Design.{Design}
-use Rattle.owed.specs.Owed.{is_assertion, plain_owed}
-use Rattle.owed.specs.Violations.{violation_of}
+use Rattle.owed.specs.Owed.{is_assertion}
 use Rattle.psl_elaboration.specs.Answers.{Numbered, directive_of}
 use Rattle.psl_tree.specs.Trees.{Formula}
 use Rattle.psl_tree.specs.declared.directive.Directive.{Directive}
-use Rattle.psl_tree.specs.declared.directive.Kind.{Kind}
 use Rattle.work_limits.specs.Sized.{IsRefused, IsSized}
 use Rattle.work_limits.specs.declared.sizes.LimitFault.TheVariants as limits
 use Rattle.commands.proofs.Alike.{Agree}
 use Rattle.commands.proofs.SameOwed.{same-kind, same-owed, same-violation}
 use Rattle.commands.proofs.SameUnits.{SameUnit, heads, none-some, same-place, tails}
 use Rattle.commands.specs.Checks.{CertReading, IsUnchecked, cert_fault}
-use Rattle.commands.specs.Diagnostics.{directive_place}
 use Rattle.commands.specs.Faults.{fault_in}
 use Rattle.commands.specs.declared.outcome.Fault.{Fault}
 use Rattle.commands.specs.declared.reason.Reason.TheVariants as reasons

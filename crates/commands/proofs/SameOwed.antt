@@ -1,7 +1,7 @@
 -- Of directives that are equal but for where the program keeps their parts, the same is owed, and the same assertion is
 -- the first that is too large.
-use Rattle.std.proofs.Common.{◌≡◌, refl, sym, ◌∙◌, ap, subst, ℕ, zero, suc, Bool, true, cond, List, [], ◌∷◌, map, take, Option, None, Some}
-use Rattle.std.specs.Prelude.{All, slice_get}
+use Rattle.std.proofs.Common.{◌≡◌, refl, sym, ◌∙◌, ap, subst, ℕ, cond, List, [], ◌∷◌, take, None}
+use Rattle.std.specs.Prelude.{All}
 use Rattle.std.proofs.lemmas.List.Elements.{All-nil, All-cons, All-head, All-tail}
 use Rattle.alternating_theory.specs.Built.{built}
 use Rattle.alternating_theory.specs.Dual.{opposite_automaton}
@@ -9,12 +9,11 @@ use Rattle.findings.specs.Sizes.{AreWithin, IsFirstRefused, IsRefused, IsWithin}
 use Rattle.findings.specs.declared.sizes.SizeFault.{SizeFault}
 use Rattle.findings.specs.declared.sizes.SizeFault.TheVariants as sizes
 use Rattle.netlist.specs.Design.{Design}
-use Rattle.owed.specs.Owed.{assumptions, conjunction, is_assertion, is_assumption, owed, plain_owed, under}
+use Rattle.owed.specs.Owed.{assumptions, conjunction, is_assertion, is_assumption, plain_owed, under}
 use Rattle.owed.specs.Violations.{violation_of}
 use Rattle.work_limits.specs.Sized as sized
 use Rattle.work_limits.specs.Sized.{IsSized}
 use Rattle.work_limits.specs.declared.sizes.LimitFault.TheVariants as limits
-use Rattle.psl_base.specs.declared.place.Place.{Place}
 use Rattle.psl_elaboration.specs.Answers.{Numbered, directive_of}
 use Rattle.psl_meaning.specs.Plain.{plain}
 use Rattle.psl_tree.specs.Trees.{Formula, formula_of}

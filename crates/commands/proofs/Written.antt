@@ -1,11 +1,8 @@
 -- A certificate that is written of a proof is passed, where the text and the netlist are as they were.
-use Rattle.std.proofs.Common.{◌≡◌, refl, sym, ◌∙◌, ap, subst, ℕ, zero, suc, ◌≤◌, List, [], ◌∷◌, length, Option, None, Some, Ok, Err, arith, inl, inr}
+use Rattle.std.proofs.Common.{◌≡◌, refl, sym, ap, subst, ℕ, zero, suc, ◌≤◌, List, [], ◌∷◌, length, Option, None, Some, Ok, Err, arith, inl, inr}
 use Rattle.std.specs.Prelude.{Result, slice_get}
 use Rattle.alternating_theory.specs.Obligations.{Automaton}
 use Rattle.cert_check.specs.Claims.{asked_of, directive_of as directive_at, queries_by, queries_for, queries_of}
-use Rattle.cert_check.specs.Limits.{HasCause, IsFault}
-use Rattle.cert_check.specs.declared.fault.CertFault.{CertFault}
-use Rattle.cert_check.specs.declared.fault.CertFault.TheVariants.{NoMemory}
 use Rattle.certificate.proofs.OneAnswer.{one_answer}
 use Rattle.certificate.specs.Printed.{cert_text}
 use Rattle.certificate.specs.Sections.{Queries}
@@ -29,7 +26,7 @@ use Rattle.commands.proofs.OneAnswer.{SameSubject, one-subject}
 use Rattle.commands.proofs.SameChecks.{SameFound, moved-cause, cause-of, fault-of, same-asked, same-found}
 use Rattle.commands.proofs.SameOwed.{same-violation}
 use Rattle.commands.proofs.SameUnits.{SameUnit}
-use Rattle.commands.specs.Checks.{CertReading, CheckStage, IsChecked, IsUnchecked}
+use Rattle.commands.specs.Checks.{CertReading, CheckStage}
 use Rattle.commands.specs.Provings.{ProveStage, options_of}
 use Rattle.commands.specs.Stages.{AndThen, OfContent}
 use Rattle.commands.specs.Waves.{CircuitStage, NetlistReading, NetlistStage, SubjectReading, SubjectStage, UnitReading, UnitStage, with_netlist}

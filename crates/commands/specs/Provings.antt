@@ -1,5 +1,5 @@
 -- What `prove UNIT NETLIST` gives: a finding for each assertion of the text on the netlist.
-use Rattle.std.specs.Prelude.{◌≡◌, ◌≤◌, ℕ, List, Result, Ok, Err}
+use Rattle.std.specs.Prelude.{◌≡◌, ℕ, List, Result, Ok, Err}
 use Rattle.command_line.specs.declared.Limits.{Limits}
 use Rattle.findings.specs.Columns.{AreColumns}
 use Rattle.findings.specs.Entries.{AreFindings}

@@ -1,4 +1,4 @@
-use Rattle.std.proofs.Common.{map, string_bytes, inl, inr}
+use Rattle.std.proofs.Common.{map, string_bytes}
 use Rattle.std.specs.Prelude.{◌⊎◌}
 use Rattle.psl_base.specs.Faults.{Rose}
 use Rattle.saving.specs.Saves.{SavesPart, file_of}
