@@ -19,7 +19,7 @@ pub enum Outcome {
         depth: u32,
         visits: u32,
     },
-    /// `check`: the number of the assertion that was asked for, and what is answered to the certificate.
+    /// `check`: the number that was asked for, counted from 1 as directives are, and what is answered to the certificate.
     Checked(u32, CertAnswer),
     /// `show`: what the directives of a text mean.
     Shown(Lines),
