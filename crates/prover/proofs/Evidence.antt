@@ -1,14 +1,11 @@
 -- What a model and a refutation of a search say of the runs of a netlist.
-use Rattle.std.proofs.Common.{◌≡◌, refl, ◌∙◌, ap, ℤ, ◌≤◌, ℕ, suc, sym, subst, ◌↔◌, List, length, None, Bool as Truth, All}
-use Rattle.std.proofs.Math.Arith.{lt_of_le-ne}
+use Rattle.std.proofs.Common.{◌≡◌, refl, ◌∙◌, ap, ◌≤◌, ℕ, suc, sym, subst, ◌↔◌, List, length, None, Bool as Truth, All, arith}
 use Rattle.std.proofs.lemmas.List.Elements.{All-weaker}
 use Rattle.alternating_loops.specs.Acceptance.{Accepts}
 use Rattle.alternating_theory.specs.Obligations.{Automaton}
 use Rattle.clauses.proofs.Soundness.{no_model}
 use Rattle.clauses.specs.declared.cnf.Cnf.{Cnf}
 use Rattle.clauses.specs.Logs.{LogEntry, Refutes}
-use Rattle.clauses.specs.Models.{IsModel}
-use Rattle.cdcl.specs.Answers.{IsModelOf}
 use Rattle.circuit_theory.specs.Sizes.{IsTooLarge}
 use Rattle.clock_rewrite.proofs.Meaning.{plain_words}
 use Rattle.netlist.specs.Design.{Design}
@@ -25,11 +22,11 @@ use Rattle.owed.specs.Violations.{violation_of}
 use Rattle.run_terms.specs.Formulas.{HasModel, values_of}
 use Rattle.search_theory.specs.Found.{IsFound, SomeFound, run_size}
 use Rattle.search_theory.specs.Searches.{search_clauses, search_variables}
+use Rattle.prover.proofs.Turned.{none-within}
 use Rattle.prover.specs.Findings.{IsShortest}
-use Rattle.prover.specs.Queries.{IsSought, IsFormulaOf, clauses_of, variables_of}
+use Rattle.prover.specs.Queries.{IsFormulaOf, clauses_of, variables_of}
 use Rattle.prover.specs.Violating.{NoneBelow, Violates}
 use Rattle.prover.specs.declared.finding.Query.TheVariants.{Search}
-use Rattle.prover.specs.declared.options.Options.{Options}
 
 -- a run that is found violates what is owed
 pub found-violates : (design : Design) (unit : List Directive) (d : Directive) (automaton : Automaton) (n : ℕ) (run : Run)
@@ -50,17 +47,16 @@ violates-found design unit d automaton run is v = record {
       ((violating-runs design unit d run v.is.loops).accepts.1 v.violates);
 }
 
--- where a search is refuted, no run of that size violates what is owed
+-- where a search is refuted, no run of that size or a smaller one violates what is owed
 pub none-more : (design : Design) (unit : List Directive) (d : Directive) (automaton : Automaton) (n : ℕ) (formula : Cnf) (log : List LogEntry)
-    → automaton ≡ violation_of unit d → NoneBelow design unit d n
+    → automaton ≡ violation_of unit d
     → (HasModel formula.variables formula.clauses ↔ SomeFound design automaton n)
     → Refutes formula.variables formula.clauses log → NoneBelow design unit d (suc n)
-none-more design unit d automaton n formula log is below models refutes run v =
+none-more design unit d automaton n formula log is models refutes =
     let none : (HasModel formula.variables formula.clauses) → ⊥ =
     λ h. h (λ values size model. no_model (values_of values) formula.variables formula.clauses log formula.within refutes model) in
-    let size : run_size run ≡ n → ⊥ =
-    λ e. none (models.1 (λ k. k run (subst (λ (m : ℕ). IsFound design automaton m run) e (violates-found design unit d automaton run is v)))) in
-    lt_of_le-ne (below run v) (λ e. size (sym e))
+    none-within design unit d n (λ run v e. none (models.1 (λ k. k run
+    (subst (λ (m : ℕ). IsFound design automaton m run) e (violates-found design unit d automaton run is v)))))
 
 -- what is owed with its clocks rewritten away is not satisfied by the word of such a run
 pub plain-violates : (design : Design) (unit : List Directive) (d : Directive) (run : Run) (formula : Formula) → formula ≡ plain_owed unit d
@@ -74,20 +70,6 @@ pub are-sized : (design : Design) (valuations : List (List Truth)) → All (IsVa
     → All (λ valuation. length valuation ≡ design.signals) valuations
 are-sized design valuations h =
     All-weaker (IsValuation design) (λ valuation. length valuation ≡ design.signals) (λ v is. is.size) valuations h
-
--- a model of a query is one of the search for its automaton
-pub query-model : (design : Design) (unit : List Directive) (d : Directive) (automaton : Automaton) (n : ℕ) (formula : Cnf) (values : List Truth)
-    → automaton ≡ violation_of unit d → IsFormulaOf design unit d (Search n) formula → IsModelOf formula values
-    → IsModel (values_of values) (search_clauses design automaton n)
-query-model design unit d automaton n formula values is f m =
-    subst (λ (a : Automaton). IsModel (values_of values) (search_clauses design a n)) (sym is)
-    (subst (λ (cs : List (List ℤ)). IsModel (values_of values) cs) f.clauses m.model)
-
-pub query-size : (design : Design) (unit : List Directive) (d : Directive) (automaton : Automaton) (n : ℕ) (formula : Cnf) (values : List Truth)
-    → automaton ≡ violation_of unit d → IsFormulaOf design unit d (Search n) formula → IsModelOf formula values
-    → length values ≡ search_variables design automaton n
-query-size design unit d automaton n formula values is f m =
-    m.size ∙ f.variables ∙ ap (λ a. search_variables design a n) (sym is)
 
 -- the formula of a search is that of the query
 pub query-formula : (design : Design) (unit : List Directive) (d : Directive) (automaton : Automaton) (n : ℕ) (formula : Cnf)
@@ -104,11 +86,15 @@ pub query-large : (design : Design) (unit : List Directive) (d : Directive) (aut
 query-large design unit d automaton n is large =
     subst (λ (a : Automaton). IsTooLarge (search_variables design a n) (search_clauses design a n)) is large
 
--- a run of the size that is sought is a shortest one
-pub shortest : (design : Design) (unit : List Directive) (d : Directive) (options : Options) (n : ℕ) (run : Run) → IsSought design unit d options n
-    → Violates design unit d run → run_size run ≡ n → IsShortest design unit d options.depth run
-shortest design unit d options n run sought v size = record {
+-- a run of a size below which there is none is a shortest one
+pub shortest : (design : Design) (unit : List Directive) (d : Directive) (depth n : ℕ) (run : Run) → n ≤ depth → NoneBelow design unit d n
+    → Violates design unit d run → run_size run ≡ n → IsShortest design unit d depth run
+shortest design unit d depth n run within none v size = record {
   is = v;
-  within = subst (λ (m : ℕ). m ≤ options.depth) (sym size) sought.within;
-  none_below = subst (λ (m : ℕ). NoneBelow design unit d m) (sym size) sought.none_below;
+  within = subst (λ (m : ℕ). m ≤ depth) (sym size) within;
+  none_below = subst (λ (m : ℕ). NoneBelow design unit d m) (sym size) none;
 }
+
+-- what none is shorter than, none is shorter than what is less
+pub none-fewer : (design : Design) (unit : List Directive) (d : Directive) (most n : ℕ) → n ≤ most → NoneBelow design unit d most → NoneBelow design unit d n
+none-fewer design unit d most n fewer none run v = omega (arith, fewer, none run v)

@@ -1,4 +1,7 @@
 pub mod Evidence
+pub mod Kept
 pub mod Opened
 pub mod Seen
 pub mod Small
+pub mod Turned
+pub mod Turning

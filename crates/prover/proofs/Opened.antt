@@ -1,6 +1,5 @@
 -- Windows that are open for each number of visits, and those that are not for one.
-use Rattle.std.proofs.Common.{◌≡◌, ◌∙◌, refl, ap, sym, subst, ◌↔◌, ℕ, zero, suc, ◌+◌, ◌-◌, ◌*◌, ◌<◌, ◌≤◌, ℤ, Bool as Truth, true, false, List, [], ◌∷◌, ◌++◌, length, get_or, slice_get, ◌⊎◌, Some, None, inl, inr, arith, length-append}
-use Rattle.std.proofs.lemmas.Option.{slice_get-get_or}
+use Rattle.std.proofs.Common.{◌≡◌, refl, ap, subst, ◌↔◌, ℕ, zero, suc, ◌+◌, ◌-◌, ◌*◌, ◌<◌, ◌≤◌, ℤ, Bool as Truth, true, false, List, [], ◌∷◌, ◌++◌, length, slice_get, ◌⊎◌, Some, None, inl, inr, arith}
 use Rattle.alternating_theory.specs.Obligations.{Automaton}
 use Rattle.cdcl.specs.Answers.{IsRefutation}
 use Rattle.cdcl.specs.Evidence.{IsTidy}
@@ -25,12 +24,10 @@ use Rattle.psl_meaning.specs.Satisfaction.{Sat}
 use Rattle.psl_meaning.specs.Trace.{trace_of}
 use Rattle.psl_tree.specs.declared.directive.Directive.{Directive}
 use Rattle.run_terms.specs.Formulas.{HasModel, values_of}
-use Rattle.prover.specs.Findings.{IsUndecided}
 use Rattle.prover.specs.Proving.{IsProved, IsRefuted}
 use Rattle.prover.specs.Queries.{IsFormulaOf, IsLookedAt, IsSought, clauses_of, variables_of}
 use Rattle.prover.specs.Violating.{NoneBelow}
-use Rattle.prover.specs.Windows.{AreOpenPaths, StaysOpen}
-use Rattle.prover.specs.declared.finding.OpenPath.{OpenPath}
+use Rattle.prover.specs.Windows.{StaysOpen}
 use Rattle.prover.specs.declared.finding.Query.{Query}
 use Rattle.prover.specs.declared.finding.Query.TheVariants.{Base, Induction}
 use Rattle.prover.specs.declared.options.Options.{Options}
@@ -78,17 +75,8 @@ all-satisfied design unit d visits window c run is =
     (violating-runs design unit d run is.loops).satisfied
     (none-accepted design (violation_of unit d) visits window c run is)
 
--- open paths are some
-pub stays-open : (design : Design) (unit : List Directive) (d : Directive) (count window : ℕ) (paths : List OpenPath)
-    → AreOpenPaths design unit d count window paths → StaysOpen design unit d count window
-stays-open design unit d count window [] are visits below = absurd (omega (arith, are.many))
-stays-open design unit d count window (first ∷ rest) are visits below =
-    let at = slice_get-get_or (first ∷ rest) visits first (omega (arith, are.many)) in
-    let is = are.each visits (get_or (first ∷ rest) visits first) at in
-    ((get_or (first ∷ rest) visits first).initial, (get_or (first ∷ rest) visits first).path, is.1)
-
 -- a member behind others stands at the place of their number
-get-pushed : {A : Type 0} (xs : List A) (x y : A) (place : ℕ) → slice_get (xs ++ x ∷ []) place ≡ Some y
+pub get-pushed : {A : Type 0} (xs : List A) (x y : A) (place : ℕ) → slice_get (xs ++ x ∷ []) place ≡ Some y
     → (slice_get xs place ≡ Some y) ⊎ ((place ≡ length xs) × (y ≡ x))
 get-pushed [] x y zero e = inr (refl, cc)
 get-pushed [] x y (suc place) e = absurd cc
@@ -98,48 +86,17 @@ get-pushed (z ∷ xs) x y (suc place) e = elim (get-pushed xs x y place e) [
   | inr last ↦ inr (ap suc last.0, last.1)
 ]
 
--- no path is open for no number of visits
-pub no-paths : (design : Design) (unit : List Directive) (d : Directive) (window : ℕ) → AreOpenPaths design unit d 0 window []
-no-paths design unit d window = record {
-  many = refl;
-  each = λ visits member e. absurd cc;
-}
-
--- a path more, for the next number of visits
-with-path : (design : Design) (unit : List Directive) (d : Directive) (count window : ℕ) (paths : List OpenPath) (path : OpenPath)
-    → AreOpenPaths design unit d count window paths → path.visits ≡ count
-    → IsOpen design (violation_of unit d) count window path.initial path.path
-    → AreOpenPaths design unit d (suc count) window (paths ++ path ∷ [])
-with-path design unit d count window paths path are e is = record {
-  many = omega (arith, length-append paths (path ∷ []), are.many);
-  each = λ visits member at. elim (get-pushed paths path member visits at) [
-    | inl there ↦ are.each visits member there
-    | inr last ↦ subst (λ (n : ℕ). (member.visits ≡ n) × IsOpen design (violation_of unit d) n window member.initial member.path)
-        (sym (last.0 ∙ are.many))
-        (subst (λ (p : OpenPath). (p.visits ≡ count) × IsOpen design (violation_of unit d) count window p.initial p.path) (sym last.1) (e, is))
-  ];
-}
-
-pub one-more : (design : Design) (unit : List Directive) (d : Directive) (count next window : ℕ) (paths new : List OpenPath) (path : OpenPath)
-    → AreOpenPaths design unit d count window paths
-    → (path.visits ≡ count) × IsOpen design (violation_of unit d) count window path.initial path.path
-    → new ≡ paths ++ path ∷ [] → next ≡ suc count → AreOpenPaths design unit d next window new
-one-more design unit d count next window paths new path are is pushed counted =
-    subst (λ (n : ℕ). AreOpenPaths design unit d n window new) (sym counted)
-    (subst (λ (ps : List OpenPath). AreOpenPaths design unit d (suc count) window ps) (sym pushed)
-    (with-path design unit d count window paths path are is.0 is.1))
-
 -- a window is looked at for the next number of visits, once paths are open for those before
-pub next-look : (design : Design) (unit : List Directive) (d : Directive) (options : Options) (visits window : ℕ) (paths : List OpenPath)
-    → IsLookedAt design unit d options 0 window → visits ≤ options.visits → AreOpenPaths design unit d visits window paths
+pub next-look : (design : Design) (unit : List Directive) (d : Directive) (options : Options) (visits window : ℕ)
+    → IsLookedAt design unit d options 0 window → visits ≤ options.visits → StaysOpen design unit d visits window
     → IsLookedAt design unit d options visits window
-next-look design unit d options visits window paths first few are = record {
+next-look design unit d options visits window first few stays = record {
   some = first.some;
   within = first.within;
   few = few;
   none_within = first.none_within;
   before = first.before;
-  fewer = stays-open design unit d visits window paths are;
+  fewer = stays;
 }
 
 -- a window is looked at once the search for runs of its size found none
@@ -155,25 +112,19 @@ first-look design unit d options window sought none = record {
 }
 
 -- a search is sought where those before it found none and the windows before it are open
-pub sought : (design : Design) (unit : List Directive) (d : Directive) (options : Options) (size : ℕ) (paths : List OpenPath)
+pub sought : (design : Design) (unit : List Directive) (d : Directive) (options : Options) (size : ℕ)
     → 1 ≤ size → size ≤ options.depth → NoneBelow design unit d size
-    → (1 < size → AreOpenPaths design unit d (suc options.visits) (size - 1) paths) → IsSought design unit d options size
-sought design unit d options size paths some within none are = record {
+    → (1 < size → StaysOpen design unit d (suc options.visits) (size - 1)) → IsSought design unit d options size
+sought design unit d options size some within none stays = record {
   some = some;
   within = within;
   none_below = none;
-  before = λ more. stays-open design unit d (suc options.visits) (size - 1) paths (are more);
+  before = stays;
 }
 
--- behind the last window nothing is decided
-pub undecided : (design : Design) (unit : List Directive) (d : Directive) (options : Options) (window : ℕ) (paths new : List OpenPath)
-    → window ≡ options.depth → NoneBelow design unit d (suc window)
-    → AreOpenPaths design unit d (suc options.visits) window paths → new ≡ paths → IsUndecided design unit d options new
-undecided design unit d options window paths new last none are same = record {
-  none_within = subst (λ (n : ℕ). NoneBelow design unit d (suc n)) last none;
-  each_open = subst (λ (n : ℕ). AreOpenPaths design unit d (suc options.visits) n new) last
-      (subst (λ (ps : List OpenPath). AreOpenPaths design unit d (suc options.visits) window ps) (sym same) are);
-}
+-- each run has a valuation
+pub none-below-one : (design : Design) (unit : List Directive) (d : Directive) → NoneBelow design unit d 1
+none-below-one design unit d run v = omega (arith, v.is.loops)
 
 -- a circuit that is too large makes the formula of the base too large
 more : (m s w : ℕ) → m < s → 1 ≤ w → m < w * s

@@ -1,5 +1,7 @@
 pub mod Claims
 pub mod Findings
+pub mod Glances
+pub mod Kept
 pub mod Proving
 pub mod Queries
 pub mod Stops

@@ -1,21 +1,21 @@
 // Whether a window is closed: no joint path is open there, of either kind.
-ghost use Rattle.std.specs.Prelude.{◌≡◌, ◌↔◌, suc, IfOk, IfErr};
+ghost use Rattle.std.specs.Prelude.{◌≡◌, ◌↔◌, IfOk, IfErr};
 ghost use Rattle.circuit_theory.specs.Sizes.{IsTooLarge};
 ghost use Rattle.clauses.specs.declared.flat.CnfFault.{CnfFault};
 ghost use Rattle.joint_theory.specs.Paths.{SomeOpen};
 ghost use Rattle.joint_theory.specs.Queries.{query, query_variables};
 ghost use Rattle.prover.specs.Claims.{IsReady};
-ghost use Rattle.prover.specs.Stops.{AreOpenPathsFor, ComesUpFor, IsLookedAtFor, IsStopOf};
+ghost use Rattle.prover.specs.Stops.{ComesUpFor, IsLookedAtFor, IsStopOf};
 ghost use Rattle.prover.specs.Views.{IsJointOf, IsKindOf, IsPathAt, view_query};
 ghost use Rattle.run_terms.specs.Formulas.{HasModel};
 
 use crate::answering::Solved;
 use crate::context::Prover;
-use crate::finding::{Finding, OpenPath, OpenPaths, Query};
+use crate::finding::{Finding, OpenPath, Query};
 use crate::stop::Stop;
 use certificate::Certificate;
 use clauses::{Cnf, CnfFault, Log};
-use joint::{Joint, joint};
+use joint::Joint;
 use std::alloc::Global;
 
 /// The joint paths of a kind at a window: those of the initial kind, or the others.
@@ -68,39 +68,26 @@ impl View {
 }
 
 impl Prover<'_> {
-    /// An open path of the window for each number of visits. It stops where there is none for one of them: then the
-    /// assertion is proved.
-    pub fn close(self, alloc: Global, window: u32) -> Result<OpenPaths, Stop>
+    /// An open path of the window for a number of visits. It stops where there is none: then the assertion is proved.
+    pub fn close_at(
+        self,
+        alloc: Global,
+        joint: &Joint,
+        visits: u32,
+        window: u32,
+    ) -> Result<OpenPath, Stop>
         requires ready { IsReady self }
-        requires looked_at { IsLookedAtFor self.task 0 window }
-        ensures paths { IfOk result (AreOpenPathsFor self.entry.task (suc self.entry.task.options.visits) window) }
-        ensures stop { IfErr result (IsStopOf self.entry.task) }
-    {
-        let mut paths = OpenPaths::new(alloc);
-        for visits in 0..=self.task.options.visits {
-            let path = self.close_at(alloc, visits, window)?;
-            paths.push(path)?;
-        }
-        Ok(paths)
-    }
-
-    // An open path of the window for a number of visits.
-    fn close_at(self, alloc: Global, visits: u32, window: u32) -> Result<OpenPath, Stop>
-        requires ready { IsReady self }
+        requires joint { IsJointOf self.task visits joint.now }
         requires looked_at { IsLookedAtFor self.task visits window }
         ensures path { IfOk result (IsPathAt self.entry.task visits window) }
         ensures stop { IfErr result (IsStopOf self.entry.task) }
     {
-        let joint = match joint(alloc, self.task.netlist, &self.claim.violation, visits) {
-            Ok(joint) => joint,
-            Err(fault) => return Err(Stop::without(Query::Base(visits, window), fault)),
-        };
         let initial = View {
             visits,
             window,
             initial: true,
         };
-        let base = match self.look(alloc, &joint, initial)? {
+        let base = match self.look(alloc, joint, initial)? {
             Kind::Open(path) => return Ok(path),
             Kind::Closed(log) => log,
         };
@@ -109,7 +96,7 @@ impl Prover<'_> {
             window,
             initial: false,
         };
-        let induction = match self.look(alloc, &joint, other)? {
+        let induction = match self.look(alloc, joint, other)? {
             Kind::Open(path) => return Ok(path),
             Kind::Closed(log) => log,
         };

@@ -6,6 +6,8 @@ mod claim;
 mod closing;
 mod context;
 mod finding;
+mod glance;
+mod keeping;
 mod options;
 mod proving;
 mod searching;

@@ -8,14 +8,15 @@ ghost use Rattle.prover.specs.declared.finding.Finding.TheVariants.{Depth};
 use crate::claim::claim_of;
 use crate::context::Prover;
 use crate::finding::{Finding, OpenPaths};
+use crate::searching::Searched;
 use crate::stop::Stop;
 use crate::task::Task;
 use psl_base::NoMemory;
 use std::alloc::Global;
 
 /// Seeks a proof that each run of the netlist satisfies what is owed, and a run that does not. For each number from 1
-/// to the depth it looks for a run of so many valuations that does not; then, for each number of visits, for a joint
-/// path that is open at that window. The first number of visits for which none is proves the assertion (Sheeran, Singh
+/// to the depth it looks for a run of so many valuations that does not, and for longer ones ahead of it; then, for each
+/// number of visits, for a joint path that is open at that window. The first number of visits for which none is proves the assertion (Sheeran, Singh
 /// and Stalmarck, Checking safety properties using induction and a SAT-solver).
 ///
 /// # Errors
@@ -46,10 +47,17 @@ impl Prover<'_> {
         ensures paths { IfOk result (λ paths. IsFindingFor self.entry.task (Depth paths)) }
         ensures stop { IfErr result (IsStopOf self.entry.task) }
     {
-        let mut paths = OpenPaths::new(alloc);
-        for window in 1..=self.task.options.depth {
-            self.search(alloc, window)?;
-            paths = self.close(alloc, window)?;
+        let begun = Searched {
+            none_within: 0,
+            lemmas: 0,
+        };
+        let mut searched = self.search(alloc, 1, begun)?;
+        let mut paths = self.first_paths(alloc)?;
+        for window in 2..=self.task.options.depth {
+            if searched.none_within < window {
+                searched = self.search(alloc, window, searched)?;
+            }
+            paths = self.keep(alloc, window, paths)?;
         }
         Ok(paths)
     }

@@ -1,11 +1,13 @@
 // The search for a run that violates what is owed.
-ghost use Rattle.std.specs.Prelude.{◌≡◌, suc, IfOk, IfErr, OnOk};
+ghost use Rattle.std.specs.Prelude.{◌≡◌, ◌≤◌, suc, IfOk, IfErr, OnOk};
 ghost use Rattle.prover.specs.Claims.{IsReady};
+ghost use Rattle.prover.specs.Glances.{IsOfSize, IsSearched, IsSearchedTo};
 ghost use Rattle.prover.specs.Stops.{IsSoughtFor, IsStopOf, NoneBelowFor, ViolatesFor};
 
 use crate::answering::Solved;
 use crate::context::Prover;
 use crate::finding::{Finding, Query};
+use crate::glance::Glance;
 use crate::stop::Stop;
 use bounded::{read_run, search_formula};
 use lasso_judge::satisfies;
@@ -13,12 +15,108 @@ use netlist::Run;
 use psl_base::NoMemory;
 use std::alloc::Global;
 
+// A look ahead takes at most so many times the lemmas of the last search, and so many more.
+const TIMES_AHEAD: u64 = 8;
+
+const LEMMAS_AHEAD: u64 = 1_000;
+
+/// How far a search has come.
+#[derive(Clone, Copy, Debug)]
+pub(crate) struct Searched {
+    /// No run of at most so many valuations violates what is owed.
+    pub none_within: u32,
+    /// How many lemmas the last search took.
+    pub lemmas: u64,
+}
+
+impl Searched {
+    // How many lemmas a look ahead may take. A longer run may be far harder to tell, so it is a few times what is known
+    // to be enough.
+    fn lemmas_ahead(self, most: u64) -> u64 {
+        self.lemmas
+            .saturating_mul(TIMES_AHEAD)
+            .saturating_add(LEMMAS_AHEAD)
+            .min(most)
+    }
+}
+
 impl Prover<'_> {
-    /// Looks for a run of so many valuations that violates what is owed, and stops where there is one.
-    pub fn search(self, alloc: Global, size: u32) -> Result<(), Stop>
+    /// Looks for runs that violate what is owed, of so many valuations at least, and stops with a shortest one where
+    /// there is one. A run may enter its loop later, and its word stays: so where none of some size violates it, none
+    /// that is shorter does. Sizes that double are looked at first.
+    pub fn search(self, alloc: Global, size: u32, last: Searched) -> Result<Searched, Stop>
         requires ready { IsReady self }
         requires sought { IsSoughtFor self.task size }
-        ensures none { OnOk result (NoneBelowFor self.entry.task (suc size)) }
+        ensures searched { IfOk result (IsSearchedTo self.entry.task size) }
+        ensures stop { IfErr result (IsStopOf self.entry.task) }
+    {
+        let ahead = (size - 1).saturating_mul(2).min(self.task.options.depth);
+        if size < ahead {
+            let steps = last.lemmas_ahead(self.task.options.steps);
+            match self.glance(alloc, ahead, steps)? {
+                Glance::Violates(run) => {
+                    let searched = self.shorten(alloc, size, ahead, run)?;
+                    if size <= searched.none_within {
+                        return Ok(searched);
+                    }
+                }
+                Glance::Holds(lemmas) => {
+                    return Ok(Searched {
+                        none_within: ahead,
+                        lemmas,
+                    });
+                }
+                Glance::Nothing => {}
+            }
+        }
+        self.search_for(alloc, size)
+    }
+
+    // Stops with a shortest run, which has at least so many valuations and at most as many as the one that was found.
+    // Where some size between is not told, it says how far the search has come.
+    fn shorten(self, alloc: Global, size: u32, found: u32, run: Run) -> Result<Searched, Stop>
+        requires ready { IsReady self }
+        requires some { 1 ≤ size }
+        requires none_below { NoneBelowFor self.task size }
+        requires longer { size ≤ found }
+        requires within { found ≤ self.task.options.depth }
+        requires run { IsOfSize self.task found run }
+        ensures searched { IfOk result (IsSearched self.entry.task) }
+        ensures stop { IfErr result (IsStopOf self.entry.task) }
+    {
+        let mut low = size;
+        let mut high = found;
+        let mut shortest = run;
+        let mut last = 0;
+        while low < high {
+            let middle = low + (high - low) / 2;
+            match self.glance(alloc, middle, self.task.options.steps)? {
+                Glance::Violates(run) => {
+                    high = middle;
+                    shortest = run;
+                }
+                Glance::Holds(lemmas) => {
+                    low = middle + 1;
+                    last = lemmas;
+                }
+                Glance::Nothing => {
+                    return Ok(Searched {
+                        none_within: low - 1,
+                        lemmas: last,
+                    });
+                }
+            }
+        }
+        let judged = self.judged(alloc, shortest)?;
+        Err(Stop::Found(Finding::Violated(judged)))
+    }
+
+    // Looks for a run of so many valuations that violates what is owed, and stops where there is one, or where nothing
+    // is told.
+    fn search_for(self, alloc: Global, size: u32) -> Result<Searched, Stop>
+        requires ready { IsReady self }
+        requires sought { IsSoughtFor self.task size }
+        ensures searched { IfOk result (IsSearchedTo self.entry.task size) }
         ensures stop { IfErr result (IsStopOf self.entry.task) }
     {
         let query = Query::Search(size);
@@ -27,7 +125,10 @@ impl Prover<'_> {
             Err(fault) => return Err(Stop::without(query, fault)),
         };
         match self.solved(alloc, query, formula)? {
-            Solved::Refuted(_log) => Ok(()),
+            Solved::Refuted(log) => Ok(Searched {
+                none_within: size,
+                lemmas: log.lemmas() as u64,
+            }),
             Solved::Model(values) => {
                 let netlist = self.task.netlist;
                 let run = read_run(alloc, netlist, &self.claim.violation, size, &values)?;

@@ -1,25 +1,69 @@
-use Rattle.std.proofs.Common.{arith}
-use Rattle.prover.proofs.Opened.{first-look, sought, undecided}
+use Rattle.std.proofs.Common.{subst, sym, suc, ◌-◌, arith}
+use Rattle.prover.proofs.Evidence.{none-fewer}
+use Rattle.prover.proofs.Kept.{kept-stays, reaches-on, undecided}
+use Rattle.prover.proofs.Opened.{first-look, none-below-one, sought}
 use Rattle.prover.proofs.context.Prover.open_paths.Goals as goal
-use Rattle.prover.proofs.context.Prover.open_paths.Goals.{else-loop-window-test, then-loop-window-test+in_ok-search+in_ok-paths+else-window-window-end}
+use Rattle.prover.proofs.context.Prover.open_paths.Goals.{else-loop-window-test, then-loop-window-test+in_ok-paths-2+else-window-window-end, then-searched-window+in_ok-searched-2, else-searched-window}
+use Rattle.prover.specs.Glances.{IsSearchedTo}
+use Rattle.prover.specs.declared.searching.Searched.{Searched}
 
 pub search-requires-clause-sought : goal.search-requires-clause-sought
 search-requires-clause-sought c = sought c.args.self.task.netlist.now c.args.self.task.unit.now c.args.self.task.assertion.now c.args.self.task.options
-    c.loop-window.window c.loop-window.paths c.loop-window.invariant.some (omega arith) c.loop-window.invariant.none_below
-    c.loop-window.invariant.paths
+    1 (omega arith) c.requires.provable.depth
+    (none-below-one c.args.self.task.netlist.now c.args.self.task.unit.now c.args.self.task.assertion.now)
+    (λ more. absurd (omega (arith, more)))
 
-pub close-requires-clause-looked_at : goal.close-requires-clause-looked_at
-close-requires-clause-looked_at c = first-look c.args.self.task.netlist.now c.args.self.task.unit.now c.args.self.task.assertion.now c.args.self.task.options
-    c.loop-window.window
-    (sought c.args.self.task.netlist.now c.args.self.task.unit.now c.args.self.task.assertion.now c.args.self.task.options
-    c.loop-window.window c.loop-window.paths c.loop-window.invariant.some (omega arith) c.loop-window.invariant.none_below
+pub first_paths-requires-clause-looked_at : goal.first_paths-requires-clause-looked_at
+first_paths-requires-clause-looked_at c = first-look c.args.self.task.netlist.now c.args.self.task.unit.now c.args.self.task.assertion.now c.args.self.task.options
+    1 (sought c.args.self.task.netlist.now c.args.self.task.unit.now c.args.self.task.assertion.now c.args.self.task.options
+    1 (omega arith) c.requires.provable.depth
+    (none-below-one c.args.self.task.netlist.now c.args.self.task.unit.now c.args.self.task.assertion.now)
+    (λ more. absurd (omega (arith, more))))
+    (none-fewer c.args.self.task.netlist.now c.args.self.task.unit.now c.args.self.task.assertion.now
+    (suc c.in_ok-searched.searched.none_within) 2 (omega (arith, c.in_ok-searched.ensures.searched.reaches))
+    c.in_ok-searched.ensures.searched.none)
+
+pub search-requires-then-searched-window-clause-sought : goal.search-requires-then-searched-window-clause-sought
+search-requires-then-searched-window-clause-sought c = sought c.args.self.task.netlist.now c.args.self.task.unit.now c.args.self.task.assertion.now
+    c.args.self.task.options c.loop-window.window (omega (arith, c.loop-window.invariant.some)) c.loop-window-test.true
+    (none-fewer c.args.self.task.netlist.now c.args.self.task.unit.now c.args.self.task.assertion.now
+    (suc c.loop-window.searched.none_within) c.loop-window.window (omega (arith, c.loop-window.invariant.searched.reaches))
+    c.loop-window.invariant.searched.none)
+    (λ more. kept-stays c.args.self.task (suc c.args.self.task.options.visits) (c.loop-window.window - 1) c.loop-window.paths
     c.loop-window.invariant.paths)
-    c.in_ok-search.ensures.none
+
+pub keep-requires-clause-looked_at : goal.keep-requires-clause-looked_at
+keep-requires-clause-looked_at c =
+    let to : IsSearchedTo c.args.self.task c.loop-window.window c.if-searched-window.searched = elim c.if-searched-window.branch [
+      | then-searched-window+in_ok-searched-2 w ↦ subst (λ (s : Searched). IsSearchedTo c.args.self.task c.loop-window.window s)
+          (sym w.searched-is) w.in_ok-searched-2.ensures.searched
+      | else-searched-window w ↦ reaches-on c.args.self.task c.loop-window.window c.loop-window.searched c.if-searched-window.searched
+          w.if-searched-window.false c.loop-window.invariant.searched w.searched-is
+    ] in
+    first-look c.args.self.task.netlist.now c.args.self.task.unit.now c.args.self.task.assertion.now c.args.self.task.options
+    c.loop-window.window
+    (sought c.args.self.task.netlist.now c.args.self.task.unit.now c.args.self.task.assertion.now
+    c.args.self.task.options c.loop-window.window (omega (arith, c.loop-window.invariant.some)) c.loop-window-test.true
+    (none-fewer c.args.self.task.netlist.now c.args.self.task.unit.now c.args.self.task.assertion.now
+    (suc c.loop-window.searched.none_within) c.loop-window.window (omega (arith, c.loop-window.invariant.searched.reaches))
+    c.loop-window.invariant.searched.none)
+    (λ more. kept-stays c.args.self.task (suc c.args.self.task.options.visits) (c.loop-window.window - 1) c.loop-window.paths
+    c.loop-window.invariant.paths))
+    (none-fewer c.args.self.task.netlist.now c.args.self.task.unit.now c.args.self.task.assertion.now
+    (suc c.if-searched-window.searched.none_within) (suc c.loop-window.window) (omega (arith, to.reaches)) to.none)
 
 pub returns-clause-paths : goal.returns-clause-paths
 returns-clause-paths c = elim c.loop-window-test.branch [
-  | else-loop-window-test w ↦ absurd (omega (arith, w.loop-window-test.false, c.requires.provable.depth))
-  | then-loop-window-test+in_ok-search+in_ok-paths+else-window-window-end w ↦ undecided c.args.self.task.netlist.now c.args.self.task.unit.now c.args.self.task.assertion.now
-      c.args.self.task.options c.loop-window.window _ c.loop-window-test.paths (omega arith) w.in_ok-search.ensures.none
-      w.in_ok-paths.ensures.paths w.paths-is
+  | else-loop-window-test w ↦ undecided c.args.self.task (c.loop-window.window - 1) c.loop-window.searched c.loop-window.paths
+      c.loop-window-test.paths (omega (arith, c.loop-window.invariant.some, c.loop-window.invariant.end, w.loop-window-test.false))
+      c.loop-window.invariant.searched c.loop-window.invariant.paths w.paths-is
+  | then-loop-window-test+in_ok-paths-2+else-window-window-end w ↦ elim w.if-searched-window.branch [
+    | then-searched-window+in_ok-searched-2 v ↦ undecided c.args.self.task c.loop-window.window v.in_ok-searched-2.searched
+        w.in_ok-paths-2.paths c.loop-window-test.paths (omega arith) v.in_ok-searched-2.ensures.searched w.in_ok-paths-2.ensures.paths w.paths-is
+    | else-searched-window v ↦ undecided c.args.self.task c.loop-window.window w.if-searched-window.searched
+        w.in_ok-paths-2.paths c.loop-window-test.paths (omega arith)
+        (reaches-on c.args.self.task c.loop-window.window c.loop-window.searched w.if-searched-window.searched
+        v.if-searched-window.false c.loop-window.invariant.searched v.searched-is)
+        w.in_ok-paths-2.ensures.paths w.paths-is
+  ]
 ]

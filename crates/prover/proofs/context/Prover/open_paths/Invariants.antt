@@ -1,10 +1,12 @@
-use Rattle.std.proofs.Common.{suc, ◌-◌, ◌<◌, ◌≤◌}
+use Rattle.std.proofs.Common.{suc, ◌-◌, ◌≤◌}
 use Rattle.prover.proofs.context.Prover.open_paths.Given as goal
-use Rattle.prover.specs.Stops.{AreOpenPathsFor, NoneBelowFor}
+use Rattle.prover.specs.Glances.{IsSearchedTo}
+use Rattle.prover.specs.Kept.{AreKeptFor}
 
 abbrev pub invariant-loop-window : goal.invariant-loop-window
 invariant-loop-window l = record {
-  some : 1 ≤ l.window;
-  none_below : NoneBelowFor l.fn.self.task l.window;
-  paths : 1 < l.window → AreOpenPathsFor l.fn.self.task (suc l.fn.self.task.options.visits) (l.window - 1) l.paths;
+  some : 2 ≤ l.window;
+  end : l.window ≤ suc l.fn.self.task.options.depth;
+  searched : IsSearchedTo l.fn.self.task (l.window - 1) l.searched;
+  paths : AreKeptFor l.fn.self.task (suc l.fn.self.task.options.visits) (l.window - 1) l.paths;
 }

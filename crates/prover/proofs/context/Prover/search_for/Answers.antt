@@ -1,9 +1,9 @@
-use Rattle.std.proofs.Common.{ap, subst, sym, ◌∙◌}
+use Rattle.std.proofs.Common.{ap, subst, sym, ◌∙◌, arith}
 use Rattle.cdcl.specs.Answers.{IsRefutation}
 use Rattle.netlist.specs.declared.run.Run.{Run}
 use Rattle.prover.proofs.Evidence.{found-violates, none-more, query-formula, query-large, shortest}
 use Rattle.prover.proofs.Seen.{stops}
-use Rattle.prover.proofs.context.Prover.search.Goals as goal
+use Rattle.prover.proofs.context.Prover.search_for.Goals as goal
 use Rattle.prover.specs.Stops.{IsSolved, ViolatesFor}
 use Rattle.prover.specs.declared.answering.Solved.{Solved}
 use Rattle.prover.specs.declared.finding.Query.TheVariants.{Search}
@@ -25,19 +25,22 @@ pub judged-requires-clause-violates : goal.judged-requires-clause-violates
 judged-requires-clause-violates c = found-violates c.args.self.task.netlist.now c.args.self.task.unit.now c.args.self.task.assertion.now
     c.args.self.claim.now.violation c.args.size c.in_ok-run-in-Model.run' c.requires.ready.claim.violation c.in_ok-run-in-Model.ensures.found
 
-pub returns-in-Refuted-clause-none : goal.returns-in-Refuted-clause-none
-returns-in-Refuted-clause-none c =
-    let r : IsRefutation c.in-Ok.formula c.args.self.task.options.steps c.in-Refuted._log =
-    subst (λ (s : Solved). IsSolved c.in-Ok.formula c.args.self.task.options.steps s) c.in-Refuted.is c.in_ok-_log.ensures.solved in
-    none-more c.args.self.task.netlist.now c.args.self.task.unit.now c.args.self.task.assertion.now c.args.self.claim.now.violation c.args.size
-    c.in-Ok.formula c.in-Refuted._log c.requires.ready.claim.violation c.requires.sought.none_below c.in-Ok.ensures.models r.refutes
+pub returns-in-Refuted-clause-searched : goal.returns-in-Refuted-clause-searched
+returns-in-Refuted-clause-searched c =
+    let r : IsRefutation c.in-Ok.formula c.args.self.task.options.steps c.in-Refuted.log =
+    subst (λ (s : Solved). IsSolved c.in-Ok.formula c.args.self.task.options.steps s) c.in-Refuted.is c.in_ok-log.ensures.solved in
+    record {
+      reaches = omega arith;
+      none = none-more c.args.self.task.netlist.now c.args.self.task.unit.now c.args.self.task.assertion.now c.args.self.claim.now.violation
+          c.args.size c.in-Ok.formula c.in-Refuted.log c.requires.ready.claim.violation c.in-Ok.ensures.models r.refutes;
+    }
 
 pub returns-in_ok-judged-in-Model-clause-stop : goal.returns-in_ok-judged-in-Model-clause-stop
 returns-in_ok-judged-in-Model-clause-stop c =
     let v : ViolatesFor c.args.self.task c.in_ok-run-in-Model.run' =
     found-violates c.args.self.task.netlist.now c.args.self.task.unit.now c.args.self.task.assertion.now
     c.args.self.claim.now.violation c.args.size c.in_ok-run-in-Model.run' c.requires.ready.claim.violation c.in_ok-run-in-Model.ensures.found in
-    shortest c.args.self.task.netlist.now c.args.self.task.unit.now c.args.self.task.assertion.now c.args.self.task.options c.args.size
-    c.in_ok-judged-in-Model.judged c.requires.sought
+    shortest c.args.self.task.netlist.now c.args.self.task.unit.now c.args.self.task.assertion.now c.args.self.task.options.depth c.args.size
+    c.in_ok-judged-in-Model.judged c.requires.sought.within c.requires.sought.none_below
     (subst (λ (r : Run). ViolatesFor c.args.self.task r) (sym c.in_ok-judged-in-Model.ensures) v)
     (ap run_size c.in_ok-judged-in-Model.ensures ∙ c.in_ok-run-in-Model.ensures.found.size)

@@ -1,0 +1,5 @@
+use Rattle.prover.proofs.context.Prover.first_paths.Given as goal
+use Rattle.prover.specs.Kept.{AreKeptFor}
+
+abbrev pub invariant-loop-visits : goal.invariant-loop-visits
+invariant-loop-visits l = AreKeptFor l.fn.self.task l.visits 1 l.paths
