@@ -8,12 +8,10 @@ use Rattle.clauses.specs.declared.flat.CnfFault.TheVariants as faults
 use Rattle.prover.specs.Findings.{IsFinding}
 use Rattle.prover.specs.Queries.{ComesUp, IsFormulaOf, IsLookedAt, IsSought}
 use Rattle.prover.specs.Violating.{NoneBelow, Violates}
-use Rattle.prover.specs.Windows.{AreOpenPaths}
 use Rattle.prover.specs.declared.answering.Solved.{Solved}
 use Rattle.prover.specs.declared.answering.Solved.TheVariants.{Model, Refuted}
 use Rattle.prover.specs.declared.finding.Finding.{Finding}
 use Rattle.prover.specs.declared.finding.Finding.TheVariants.{Large}
-use Rattle.prover.specs.declared.finding.OpenPath.{OpenPath}
 use Rattle.prover.specs.declared.finding.Query.{Query}
 use Rattle.prover.specs.declared.stop.Stop.{Stop}
 use Rattle.prover.specs.declared.stop.Stop.TheVariants as stops
@@ -41,10 +39,6 @@ ViolatesFor task run = Violates task.netlist.now task.unit.now task.assertion.no
 
 abbrev pub NoneBelowFor : Task → ℕ → Type 0
 NoneBelowFor task size = NoneBelow task.netlist.now task.unit.now task.assertion.now size
-
-abbrev pub AreOpenPathsFor : Task → ℕ → ℕ → List OpenPath → Type 0
-AreOpenPathsFor task count window paths =
-    AreOpenPaths task.netlist.now task.unit.now task.assertion.now count window paths
 
 -- what is found is found with its evidence
 abbrev pub IsStopOf : Task → Stop → Type 0
