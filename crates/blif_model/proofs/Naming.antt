@@ -67,7 +67,7 @@ names-more before named mention tracks =
     ∙ names-by named mention (list_any (bytes_eq name) named.names) (place_of named.names name) (any-position (bytes_eq name) 0 named.names)
 
 -- the text that has a place is there
-place_of-at : (i n : ℕ) (names : List (List ℕ)) (name : List ℕ) → position_from (λ other. bytes_eq name other) i names ≡ Some n → (i ≤ n) × (get_or names (n - i) [] ≡ name)
+pub place_of-at : (i n : ℕ) (names : List (List ℕ)) (name : List ℕ) → position_from (λ other. bytes_eq name other) i names ≡ Some n → (i ≤ n) × (get_or names (n - i) [] ≡ name)
 place_of-at i n [] name found = cc
 place_of-at i n (x ∷ xs) name found =
     elim (cases_Bool (bytes_eq name x)) [

@@ -17,16 +17,16 @@ use Rattle.blif_model.proofs.Naming.{driven_at, tracks-named}
 use Rattle.blif_model.proofs.Places.{place_of-push}
 
 -- tests of texts, of mentions and of words
-abbrev of_mention : (List ℕ → Bool) → Mention → Bool
+abbrev pub of_mention : (List ℕ → Bool) → Mention → Bool
 of_mention driven mention = not (driven mention.word.text)
 
-abbrev of_word : (List ℕ → Bool) → PlacedToken → Bool
+abbrev pub of_word : (List ℕ → Bool) → PlacedToken → Bool
 of_word driven word = not (driven word.text)
 
-abbrev texts : List PlacedToken → List (List ℕ)
+abbrev pub texts : List PlacedToken → List (List ℕ)
 texts words = map (λ word. word.text) words
 
-abbrev first_mention : (List ℕ → Bool) → List Mention → Option PlacedToken
+abbrev pub first_mention : (List ℕ → Bool) → List Mention → Option PlacedToken
 first_mention driven mentions = option_map (λ mention. mention.word) (find (of_mention driven) mentions)
 
 -- a name that is there and that nothing drives is found among the words
@@ -80,12 +80,12 @@ texts-more : (named : Named) (mention : Mention) (place : Option ℕ) → named.
 texts-more named mention None is = ap (λ names. names ++ mention.word.text ∷ []) is ∙ sym (map-append (λ (w : PlacedToken). w.text) named.firsts (mention.word ∷ []))
 texts-more named mention (Some n) is = is
 
-texts-by : (named : Named) (mentions : List Mention) → named.names ≡ texts named.firsts → (fold with_mention named mentions).names ≡ texts (fold with_mention named mentions).firsts
+pub texts-by : (named : Named) (mentions : List Mention) → named.names ≡ texts named.firsts → (fold with_mention named mentions).names ≡ texts (fold with_mention named mentions).firsts
 texts-by named [] is = is
 texts-by named (mention ∷ mentions) is =
     texts-by (with_mention named mention) mentions (texts-more named mention (place_of named.names mention.word.text) is)
 
-firsts-by : (driven : List ℕ → Bool) (named : Named) (mentions : List Mention) → named.names ≡ texts named.firsts
+pub firsts-by : (driven : List ℕ → Bool) (named : Named) (mentions : List Mention) → named.names ≡ texts named.firsts
     → find (of_word driven) (fold with_mention named mentions).firsts ≡ option_or (find (of_word driven) named.firsts) (first_mention driven mentions)
 firsts-by driven named [] is = sym (or-none (find (of_word driven) named.firsts))
 firsts-by driven named (mention ∷ mentions) is =
@@ -163,7 +163,7 @@ undriven-found driven (is ∷ others) (word ∷ words) sized are =
     ∙ ap (λ b. option_map (λ (w : PlacedToken). Undriven w.place) (cond (not b) (Some word) (find (of_word driven) words))) here
 
 -- a use of a name that nothing drives is a mention of one
-abbrev drives_in : List Mention → List ℕ → Bool
+abbrev pub drives_in : List Mention → List ℕ → Bool
 drives_in mentions text = list_any (λ m. m.drives && bytes_eq text m.word.text) mentions
 
 or-true : (b : Bool) → (b || true) ≡ true
@@ -174,7 +174,7 @@ use-is : (drives any : Bool) → (drives ≡ true → any ≡ true) → (not dri
 use-is true any is = rw (is refl) refl
 use-is false any is = refl
 
-drives-here : (before rest : List Mention) (mention : Mention) → mention.drives ≡ true → drives_in (before ++ mention ∷ rest) mention.word.text ≡ true
+pub drives-here : (before rest : List Mention) (mention : Mention) → mention.drives ≡ true → drives_in (before ++ mention ∷ rest) mention.word.text ≡ true
 drives-here before rest mention is =
     let text = mention.word.text in
     let same : bytes_eq text text ≡ true = (bytes_eq-Decides text text).1 refl in

@@ -15,7 +15,7 @@ use Rattle.blif_model.specs.Models.{Mention, is_driven, names_of}
 use Rattle.blif_model.specs.Names.{number_of}
 use Rattle.blif_model.specs.Rules.{name_rule, names_fault}
 use Rattle.blif_reader.proofs.Counts.{one_if}
-use Rattle.blif_reader.proofs.Holding.{or_none, map_none}
+use Rattle.blif_model.proofs.Holding.{or_none, map_none}
 use Rattle.blif_reader.proofs.Numbers.{AreAmong, names-apart, names-among, names-from, number-within, number-is}
 
 -- how many mentions drive a text

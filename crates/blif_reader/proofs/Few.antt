@@ -12,7 +12,7 @@ use Rattle.flattening.specs.Members.{Among}
 use Rattle.blif_model.specs.declared.fault.BlifFault.TheVariants.{DrivenTwice, TooLarge}
 use Rattle.blif_model.specs.Models.{Mention, is_of, is_mentioned, is_driven, with_name, names_of}
 use Rattle.blif_model.specs.Rules.{name_rule, names_fault, signal_limit}
-use Rattle.blif_reader.proofs.Holding.{or_none, map_none}
+use Rattle.blif_model.proofs.Holding.{or_none, map_none}
 use Rattle.blif_reader.proofs.Counting.{fault_free}
 use Rattle.blif_reader.proofs.Numbers.{AreAmong, names-among, with-old, with-longer}
 

@@ -1,6 +1,3 @@
-pub mod Texts
-pub mod Mentioned
-pub mod Holding
 pub mod Numbers
 pub mod Counting
 pub mod Counts

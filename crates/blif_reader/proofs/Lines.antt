@@ -15,8 +15,8 @@ use Rattle.blif_model.specs.Numbered.{items_of}
 use Rattle.blif_reader.specs.Design.{all_but_last, last_of, lines_in, inputs_in, latches_in, tables_in, outputs_in}
 use Rattle.blif_reader.proofs.Counting.{by_number, by_number-append}
 use Rattle.blif_reader.proofs.Counts.{one_if, count, count-append}
-use Rattle.blif_reader.proofs.Holding.{AreNamed}
-use Rattle.blif_reader.proofs.Mentioned.{all_mentions, AreWide, AllWide, cost_of}
+use Rattle.blif_model.proofs.Holding.{AreNamed}
+use Rattle.blif_model.proofs.Mentioned.{all_mentions, AreWide, AllWide, cost_of}
 
 -- the numbers of a table's names
 front_is : (number : PlacedToken → ℕ) (inputs : List PlacedToken) (output : PlacedToken) → all_but_last (map number (inputs ++ output ∷ [])) ≡ map number inputs

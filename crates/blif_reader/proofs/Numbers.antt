@@ -11,7 +11,7 @@ use Rattle.flattening.specs.Members.{Among, Apart}
 use Rattle.flattening.proofs.Members.{Among-left, Among-right, from_append, Among-at}
 use Rattle.blif_model.specs.Models.{Mention, with_name, names_of}
 use Rattle.blif_model.specs.Names.{place_of, number_at, number_of}
-use Rattle.blif_reader.proofs.Holding.{AreNamed}
+use Rattle.blif_model.proofs.Holding.{AreNamed}
 
 -- a text is one of some names, or it is not
 there : (names : List (List ℕ)) (name : List ℕ)

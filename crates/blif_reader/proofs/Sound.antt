@@ -17,9 +17,9 @@ use Rattle.blif_reader.specs.Design.{design_of, names_from, IsPlain, lines_in, o
 use Rattle.blif_reader.proofs.Counting.{AreDriven, mentions-driven, by_number}
 use Rattle.blif_reader.proofs.Counts.{count, count-append, apart-counted, contains-counted, below-counted}
 use Rattle.blif_reader.proofs.Few.{names-few}
-use Rattle.blif_reader.proofs.Holding.{AreNamed, Said, said, Holds}
+use Rattle.blif_model.proofs.Holding.{AreNamed, Said, said, Holds}
 use Rattle.blif_reader.proofs.Lines.{AreBelow, inputs_for, latches_for, tables_for, driven-counted, latches-below, tables-below, tables-wide, tables-cost, outputs-of, outputs-within}
-use Rattle.blif_reader.proofs.Mentioned.{all_mentions}
+use Rattle.blif_model.proofs.Mentioned.{all_mentions}
 use Rattle.blif_reader.proofs.Numbers.{AreAmong, ArePlain, names-among, names-plain, number-within}
 
 -- names by number

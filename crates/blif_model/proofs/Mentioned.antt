@@ -9,7 +9,7 @@ use Rattle.netlist.specs.declared.rows.Mark.{Mark}
 use Rattle.blif_model.specs.Models.{Mention, Gate, Statement, IsInputs, IsOutputs, IsLatch, IsTable, driven, used}
 use Rattle.blif_model.specs.Shapes.{Row, row_of, is_mark, is_bit, mark_of}
 use Rattle.blif_model.specs.Standing.{all_but_last, last_of, mentions_of_names, with_row, with_row_in, with_last_row, table_by}
-use Rattle.blif_reader.proofs.Texts.{size_of}
+use Rattle.blif_model.proofs.Texts.{size_of}
 
 -- what a statement mentions
 abbrev pub mentions_in : Statement → List Mention

@@ -19,8 +19,8 @@ use Rattle.blif_model.specs.Models.{Mention, Model, driven, used}
 use Rattle.blif_model.specs.Rules.{name_rule, names_fault, head_rule, tail_fault, words_fault, latch_fault}
 use Rattle.blif_model.specs.Shapes.{Clocking, LatchParts, with_init, latch_of, init_of, is_edge, is_level}
 use Rattle.blif_model.specs.Standing.{Standing, at_first, standing_after, standing_after_words, standing_by, standing_by_command, words_of, mentions_of, mentions_of_names, mentions_of_latch, statements_of, latch_by, last_of}
-use Rattle.blif_reader.proofs.Texts.{IsWord, AreWords, size_of, AreLines, lines_size, text-lined}
-use Rattle.blif_reader.proofs.Mentioned.{all_mentions, all_mentions-append, AllWide, AllWide-append, cost_of, cost-append, last_row, names_mentions, table_wide}
+use Rattle.blif_model.proofs.Texts.{IsWord, AreWords, size_of, AreLines, lines_size, text-lined}
+use Rattle.blif_model.proofs.Mentioned.{all_mentions, all_mentions-append, AllWide, AllWide-append, cost_of, cost-append, last_row, names_mentions, table_wide}
 
 -- of two faults there is none
 pub or_none : {A : Type 0} (one other : Option A) → option_or one other ≡ None → (one ≡ None) × (other ≡ None)
@@ -78,7 +78,7 @@ with_command model command words =
     record { mentions = model.mentions ++ mentions_of command words; statements = model.statements ++ statements_of command words }
 
 -- a command without a fault mentions no name at fault
-no_names_fault : (standing : Standing) (command : Command) (words : List PlacedToken) → tail_fault standing command words ≡ None
+pub no_names_fault : (standing : Standing) (command : Command) (words : List PlacedToken) → tail_fault standing command words ≡ None
     → names_fault standing.model.mentions (mentions_of command words) ≡ None
 no_names_fault standing commands.Model words none = refl
 no_names_fault standing commands.Inputs words none = none
@@ -92,7 +92,7 @@ no_names_fault standing commands.Unknown words none = refl
 no_names_fault standing commands.Row words none = refl
 
 -- a text says a model where no line has a fault and no name is undriven
-unless_ok : {A B : Type 0} (fault : Option B) (value said : A) → unless fault value ≡ Ok said → (fault ≡ None) × (value ≡ said)
+pub unless_ok : {A B : Type 0} (fault : Option B) (value said : A) → unless fault value ≡ Ok said → (fault ≡ None) × (value ≡ said)
 unless_ok None value said is = (refl, let same : value ≡ said = cc in same)
 unless_ok (Some fault) value said is = cc
 
@@ -181,7 +181,7 @@ module _ (size : ℕ) where
         few = omega (arith, row.2, holds.few);
       }
 
-  holds_said : (standing : Standing) (command : Command) (words : List PlacedToken) (before most : ℕ) → Holds standing.model before → AreWords size words
+  pub holds_said : (standing : Standing) (command : Command) (words : List PlacedToken) (before most : ℕ) → Holds standing.model before → AreWords size words
       → names_fault standing.model.mentions (mentions_of command words) ≡ None → before + 1 ≤ most → before + size_of words ≤ most
       → Holds (standing_by_command standing command words).model most
   holds_said standing commands.Model words before most holds all none room rows = holds_command standing.model commands.Model words before most holds all none room
@@ -194,7 +194,7 @@ module _ (size : ℕ) where
   holds_said standing commands.Unknown words before most holds all none room rows = holds_command standing.model commands.Unknown words before most holds all none room
   holds_said standing commands.Row words before most holds all none room rows = holds_row standing words before most holds rows
 
-  words_within : (command : Command) (head : PlacedToken) (words : List PlacedToken) → AreWords size (head ∷ words)
+  pub words_within : (command : Command) (head : PlacedToken) (words : List PlacedToken) → AreWords size (head ∷ words)
       → AreWords size (words_of command head words) × (size_of (words_of command head words) ≤ size_of (head ∷ words))
   words_within commands.Model head words all = (all.1, omega arith)
   words_within commands.Inputs head words all = (all.1, omega arith)
