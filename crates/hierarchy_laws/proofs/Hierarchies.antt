@@ -1,0 +1,46 @@
+-- Models that fit together are sound as a hierarchy, and so is their flat netlist.
+use Rattle.std.proofs.Common.{ℕ, ◌+◌, ◌*◌, ◌<◌, ◌≤◌, ◌^◌, List, length, None, sym, subst, arith}
+use Rattle.psl_base.specs.Places.{file_limit}
+use Rattle.netlist.specs.Sound.{IsSound}
+use Rattle.blif_model.specs.Rules.{signal_limit}
+use Rattle.blif_linking.specs.Linked.{IsHierarchy, linked}
+use Rattle.flat_netlist.specs.Flat.{Models, flat_design, AreSound}
+use Rattle.flat_netlist.specs.Trees.{IsUnfolded}
+use Rattle.flat_netlist.proofs.Sound.{sound}
+use Rattle.flat_netlist.proofs.Unfolded.{is-unfolded}
+use Rattle.model_hierarchy.specs.Depth.{IsTooDeep}
+use Rattle.model_hierarchy.specs.First.{Finds}
+use Rattle.model_hierarchy.specs.Sums.{FindsPast}
+use Rattle.hierarchy_laws.specs.Named.{HasAllNames}
+use Rattle.hierarchy_laws.proofs.Named.{has-names}
+use Rattle.hierarchy_laws.proofs.Placings.{placed-well}
+use Rattle.hierarchy_laws.proofs.Saying.{parts-said}
+use Rattle.hierarchy_laws.proofs.Sound as linking
+
+pub are-sound : (text : List ℕ) (models : Models) (texts : List (List (List ℕ))) → IsHierarchy text models texts → AreSound models texts signal_limit (length text)
+are-sound text models texts is =
+    let same = is.models_are in
+    subst (λ (ms : Models). AreSound ms texts signal_limit (length text)) (sym same)
+    (subst (λ (ts : List (List (List ℕ))). AreSound (linked is.parts) ts signal_limit (length text)) (sym is.texts_are)
+    (linking.sound is.parts (length text) (parts-said text is.parts is.said) is.known is.connected
+    (subst (λ (ms : Models). Finds (IsTooDeep ms) None) same is.shallow) is.apart is.driven
+    (subst (λ (ms : Models). FindsPast ms signal_limit None) same is.few)))
+
+pub names-all : (text : List ℕ) (models : Models) (texts : List (List (List ℕ))) → IsHierarchy text models texts → HasAllNames models
+names-all text models texts is =
+    let same = is.models_are in
+    subst HasAllNames (sym same)
+    (has-names is.parts (placed-well is.parts is.known is.connected) (linking.is-named is.parts (length text) (parts-said text is.parts is.said) is.known is.connected))
+
+-- there is room for its signals and marks
+room : (size : ℕ) → size ≤ file_limit → signal_limit + signal_limit * size < 2 ^ 63
+room size few = omega (arith, few)
+
+pub flat-sound : (text : List ℕ) (models : Models) (texts : List (List (List ℕ))) → IsHierarchy text models texts → length text ≤ file_limit
+    → IsSound (flat_design models texts)
+flat-sound text models texts is few = sound models texts signal_limit (length text) (are-sound text models texts is) (room (length text) few)
+
+pub unfolds : (text : List ℕ) (models : Models) (texts : List (List (List ℕ))) → IsHierarchy text models texts → IsUnfolded models texts
+unfolds text models texts is =
+    let are = are-sound text models texts is in
+    is-unfolded models texts (length text) are.whole are.formed

@@ -1,0 +1,14 @@
+pub mod Connecting
+pub mod Counting
+pub mod Entries
+pub mod ExamplesHold
+pub mod Few
+pub mod Formals
+pub mod Hierarchies
+pub mod Lines
+pub mod Models
+pub mod Named
+pub mod Numbers
+pub mod Placings
+pub mod Saying
+pub mod Sound
