@@ -146,7 +146,7 @@ of-names (kinds.Table rows) (name ∷ names) one other same says =
     ∙ ap (output_by (table_by rows (name ∷ names)))
     (same-front one other (all_but_last (name ∷ names)) (λ n there. same n (front-among (name ∷ names) n there)))
 
-of-mentions : IsOfMentions mentions_of LineSays
+pub of-mentions : IsOfMentions mentions_of LineSays
 of-mentions line one other same says = of-names line.kind line.mentions one other same says
 
 module _ (models : Models) (texts : List (List (List ℕ))) (most : ℕ) (whole : IsWhole mentions_of models) (formed : AreFormed models most) where

@@ -13,6 +13,8 @@ use Rattle.model_hierarchy.specs.First.{Finds}
 use Rattle.model_hierarchy.specs.Sums.{FindsPast}
 use Rattle.hierarchy_laws.specs.Named.{HasAllNames}
 use Rattle.hierarchy_laws.proofs.Named.{has-names}
+use Rattle.hierarchy_laws.specs.Runs.{HasRuns}
+use Rattle.hierarchy_laws.proofs.Runs.{has-runs}
 use Rattle.hierarchy_laws.proofs.Placings.{placed-well}
 use Rattle.hierarchy_laws.proofs.Saying.{parts-said}
 use Rattle.hierarchy_laws.proofs.Sound as linking
@@ -44,3 +46,8 @@ pub unfolds : (text : List ℕ) (models : Models) (texts : List (List (List ℕ)
 unfolds text models texts is =
     let are = are-sound text models texts is in
     is-unfolded models texts (length text) are.whole are.formed
+
+pub runs : (text : List ℕ) (models : Models) (texts : List (List (List ℕ))) → IsHierarchy text models texts → HasRuns models texts
+runs text models texts is =
+    let are = are-sound text models texts is in
+    has-runs models texts (length text) are.whole are.formed

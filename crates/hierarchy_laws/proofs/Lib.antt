@@ -10,5 +10,6 @@ pub mod Models
 pub mod Named
 pub mod Numbers
 pub mod Placings
+pub mod Runs
 pub mod Saying
 pub mod Sound

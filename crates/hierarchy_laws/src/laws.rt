@@ -8,6 +8,7 @@ ghost use Rattle.flat_netlist.specs.Trees.{IsUnfolded};
 ghost use Rattle.blif_linking.specs.Linked.{IsHierarchy};
 ghost use Rattle.hierarchy_laws.specs.Examples.{TurningUnfolds, FormalsFollow, TablesHold, LatchesBegin, LatchesMove};
 ghost use Rattle.hierarchy_laws.specs.Named.{HasAllNames};
+ghost use Rattle.hierarchy_laws.specs.Runs.{HasRuns};
 
 /// Law: where the models of a text fit together, each name of each model has just one driver: an input, a latch, a table
 /// or a connection of an output; no instance is too deep, each row has a mark for each input of its table, and there are no
@@ -26,12 +27,15 @@ pub fn soundness_law()
 
 /// Law: and its valuations are the instance trees of the hierarchy. Unfolding takes valuations to instance trees, each
 /// instance tree is the image of just one, and the images are first ones and steps just where the valuations are. An
-/// instance tree says of all names of each instance, and of no others.
+/// instance tree says of all names of each instance, and of no others. So the runs of the flat netlist are those of the
+/// hierarchy.
 pub fn unfolding_law()
     ensures unfolds { (text : List ℕ) (models : Models) (texts : List (List (List ℕ))) → IsHierarchy text models texts
         → IsUnfolded models texts }
     ensures names { (text : List ℕ) (models : Models) (texts : List (List (List ℕ))) → IsHierarchy text models texts
         → HasAllNames models }
+    ensures runs { (text : List ℕ) (models : Models) (texts : List (List (List ℕ))) → IsHierarchy text models texts
+        → HasRuns models texts }
 {}
 
 /// Worked examples of instance trees, as laws.

@@ -1,4 +1,4 @@
-use Rattle.hierarchy_laws.proofs.Hierarchies.{names-all, unfolds}
+use Rattle.hierarchy_laws.proofs.Hierarchies.{names-all, runs, unfolds}
 use Rattle.hierarchy_laws.proofs.laws.unfolding_law.Goals as goal
 
 pub returns-clause-unfolds : goal.returns-clause-unfolds
@@ -6,3 +6,6 @@ returns-clause-unfolds c text models texts is = unfolds text models texts is
 
 pub returns-clause-names : goal.returns-clause-names
 returns-clause-names c text models texts is = names-all text models texts is
+
+pub returns-clause-runs : goal.returns-clause-runs
+returns-clause-runs c text models texts is = runs text models texts is
