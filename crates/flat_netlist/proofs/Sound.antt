@@ -29,7 +29,7 @@ use Rattle.flat_netlist.proofs.Counts.{apart-counted, contains-counted, below-co
 use Rattle.flat_netlist.proofs.Lines.{front-map, front-among, front-length, inputs-mentioned, drives-mentioned, map-two, line-counted}
 use Rattle.flat_netlist.proofs.Names.{names-bit, names-all}
 
-are-mentioned : AreMentioned mentions_of inputs_of drives_of
+pub are-mentioned : AreMentioned mentions_of inputs_of drives_of
 are-mentioned = record {
   listed = λ line name there. inputs-mentioned line.kind line.mentions name there;
   driven = λ line name there. drives-mentioned line.kind line.mentions name there;

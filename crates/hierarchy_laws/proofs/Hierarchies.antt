@@ -1,16 +1,16 @@
 -- Models that fit together are sound as a hierarchy, and so is their flat netlist.
-use Rattle.std.proofs.Common.{ℕ, ◌+◌, ◌*◌, ◌<◌, ◌≤◌, ◌^◌, List, length, None, sym, subst, arith}
+use Rattle.std.proofs.Common.{◌≡◌, ℕ, ◌+◌, ◌*◌, ◌<◌, ◌≤◌, ◌^◌, List, length, All, None, sym, subst, arith}
 use Rattle.psl_base.specs.Places.{file_limit}
 use Rattle.netlist.specs.Sound.{IsSound}
 use Rattle.blif_model.specs.Rules.{signal_limit}
 use Rattle.blif_linking.specs.Linked.{IsHierarchy, linked}
-use Rattle.flat_netlist.specs.Flat.{Models, flat_design, AreSound}
+use Rattle.flat_netlist.specs.Flat.{Models, flat_design, flat_names, flat_outputs, AreSound}
 use Rattle.flat_netlist.specs.Trees.{IsUnfolded}
 use Rattle.flat_netlist.proofs.Sound.{sound}
 use Rattle.flat_netlist.proofs.Unfolded.{is-unfolded}
 use Rattle.model_hierarchy.specs.Depth.{IsTooDeep}
-use Rattle.model_hierarchy.specs.First.{Finds}
-use Rattle.model_hierarchy.specs.Sums.{FindsPast}
+use Rattle.model_hierarchy.specs.First.{Finds, IsClosed}
+use Rattle.model_hierarchy.specs.Sums.{AreInForm, FindsPast}
 use Rattle.hierarchy_laws.specs.Named.{HasAllNames}
 use Rattle.hierarchy_laws.proofs.Named.{has-names}
 use Rattle.hierarchy_laws.specs.Runs.{HasRuns}
@@ -18,6 +18,12 @@ use Rattle.hierarchy_laws.proofs.Runs.{has-runs}
 use Rattle.hierarchy_laws.proofs.Placings.{placed-well}
 use Rattle.hierarchy_laws.proofs.Saying.{parts-said}
 use Rattle.hierarchy_laws.proofs.Sound as linking
+use Rattle.hierarchy_laws.proofs.Bounds.{few-signals, few-tables, places-within}
+use Rattle.hierarchy_laws.proofs.Plain.{names-visible}
+use Rattle.hierarchy_laws.specs.Plain.{IsPlain}
+use Rattle.blif_model.proofs.Held.{parts-hold}
+use Rattle.blif_linking.specs.Names.{Parts, first_bad, first_unknown}
+use Rattle.flattening.specs.Hierarchy.{flat_lines}
 
 pub are-sound : (text : List ℕ) (models : Models) (texts : List (List (List ℕ))) → IsHierarchy text models texts → AreSound models texts signal_limit (length text)
 are-sound text models texts is =
@@ -32,7 +38,7 @@ pub names-all : (text : List ℕ) (models : Models) (texts : List (List (List �
 names-all text models texts is =
     let same = is.models_are in
     subst HasAllNames (sym same)
-    (has-names is.parts (placed-well is.parts is.known is.connected) (linking.is-named is.parts (length text) (parts-said text is.parts is.said) is.known is.connected))
+    (has-names is.parts (placed-well is.parts is.known is.connected) (linking.is-named is.parts is.known is.connected))
 
 -- there is room for its signals and marks
 room : (size : ℕ) → size ≤ file_limit → signal_limit + signal_limit * size < 2 ^ 63
@@ -51,3 +57,31 @@ pub runs : (text : List ℕ) (models : Models) (texts : List (List (List ℕ))) 
 runs text models texts is =
     let are = are-sound text models texts is in
     has-runs models texts (length text) are.whole are.formed
+
+-- what is read besides
+pub signals-few : (text : List ℕ) (models : Models) (texts : List (List (List ℕ))) → IsHierarchy text models texts → (flat_design models texts).signals ≤ signal_limit
+unfolding flat_design
+signals-few text models texts is = few-signals models texts signal_limit (length text) (are-sound text models texts is)
+
+pub tables-few : (text : List ℕ) (models : Models) (texts : List (List (List ℕ))) → IsHierarchy text models texts → length (flat_design models texts).tables ≤ signal_limit
+unfolding flat_design
+tables-few text models texts is = few-tables models texts signal_limit (length text) (are-sound text models texts is)
+
+pub names-are-plain : (text : List ℕ) (models : Models) (texts : List (List (List ℕ))) → IsHierarchy text models texts → All IsPlain (flat_design models texts).names
+unfolding flat_design
+names-are-plain text models texts is =
+    subst (λ (ts : List (List (List ℕ))). All IsPlain (flat_names models ts)) (sym is.texts_are)
+    (names-visible is.parts (length text) (length text) (parts-hold text is.parts is.said) models)
+
+pub outputs-are-within : (text : List ℕ) (models : Models) (texts : List (List (List ℕ))) → IsHierarchy text models texts
+    → All (λ at. at ≤ length text) (flat_outputs (flat_lines models))
+outputs-are-within text models texts is =
+    subst (λ (ms : Models). All (λ at. at ≤ length text) (flat_outputs (flat_lines ms))) (sym is.models_are)
+    (places-within is.parts (length text) (length text) (parts-hold text is.parts is.said))
+
+-- before all is known
+pub placements-closed : (parts : Parts) → first_unknown parts ≡ None → first_bad parts ≡ None → IsClosed (linked parts)
+placements-closed parts known fit m placement there = linking.placed-below parts known fit m placement there
+
+pub placements-formed : (parts : Parts) → first_unknown parts ≡ None → first_bad parts ≡ None → AreInForm (linked parts)
+placements-formed parts known fit m placement there = linking.placed-form parts known fit m placement there

@@ -1,3 +1,4 @@
+pub mod Bounds
 pub mod Connecting
 pub mod Counting
 pub mod Entries
@@ -10,6 +11,7 @@ pub mod Models
 pub mod Named
 pub mod Numbers
 pub mod Placings
+pub mod Plain
 pub mod Runs
 pub mod Saying
 pub mod Sound

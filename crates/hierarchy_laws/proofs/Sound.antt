@@ -1,6 +1,7 @@
 -- Models that fit together have just one driver for each of their names.
-use Rattle.std.proofs.Common.{◌≡◌, ℕ, ◌+◌, ◌<◌, ◌≤◌, inl, inr, eqb, List, [], ◌∷◌, ◌++◌, length, map, slice_get, option_and_then, Option, None, Some, refl, sym, ap, ◌∙◌, subst, ⊎_elim, arith}
+use Rattle.std.proofs.Common.{◌≡◌, ℕ, zero, suc, ◌+◌, ◌<◌, ◌≤◌, inl, inr, eqb, List, [], ◌∷◌, ◌++◌, length, map, slice_get, option_and_then, Option, None, Some, refl, sym, ap, ◌∙◌, subst, ⊎_elim, arith}
 use Rattle.std.proofs.lemmas.Bool.{cases_lt}
+use Rattle.std.proofs.lemmas.List.{length-map}
 use Rattle.std.proofs.lemmas.List.Folds.{flat_map-map}
 use Rattle.std.specs.List.{find, flat_map}
 use Rattle.psl_base.specs.Tokens.{PlacedToken}
@@ -22,13 +23,13 @@ use Rattle.blif_model.specs.Names.{number_of}
 use Rattle.blif_model.specs.Numbered.{line_of, words_in}
 use Rattle.blif_model.specs.Rules.{signal_limit}
 use Rattle.blif_model.proofs.Holding.{map_none}
-use Rattle.blif_linking.specs.Linked.{item_of, linked, linked_texts}
+use Rattle.blif_linking.specs.Linked.{item_of, linked, linked_model, linked_texts}
 use Rattle.blif_linking.specs.Links.{connections_in}
 use Rattle.blif_linking.specs.Names.{Entry, Says, Places, Parts, driven_word, entries_from, entries_of, first_bad, first_driven, first_undriven, first_unknown, mentions_by, mentions_entered, mentions_in, mentions_placed, mentions_said, names_in, undriven_word}
 use Rattle.flat_netlist.specs.Flat.{AreFormed, AreSound}
 use Rattle.flat_netlist.specs.Lines.{drives_of, inputs_of, mentions_of, IsFormed}
 use Rattle.model_hierarchy.specs.Depth.{IsTooDeep}
-use Rattle.model_hierarchy.specs.Drivers.{times, inputs_in, is_input, actuals_driven, driven_in, drivers_of, IsConnected, IsDriven}
+use Rattle.model_hierarchy.specs.Drivers.{times, inputs_in, is_input, actuals_driven, driven_in, drivers_of, IsConnected, IsDriven, IsInForm}
 use Rattle.model_hierarchy.specs.First.{Finds}
 use Rattle.model_hierarchy.specs.Sums.{FindsPast, signals_with}
 use Rattle.model_hierarchy.proofs.Costs.{within-limit}
@@ -46,6 +47,12 @@ use Rattle.hierarchy_laws.proofs.Placings.{Among-get, IsPlaced, none-told, place
 times-append : (k : ℕ) (one other : List ℕ) → times k (one ++ other) ≡ times k one + times k other
 times-append k one other = count_where-append (λ n. eqb n k) one other
 
+-- what has a place is within the list
+get-within : {X : Type 0} (xs : List X) (i : ℕ) (x : X) → slice_get xs i ≡ Some x → i < length xs
+get-within [] i x is = cc
+get-within (y ∷ xs) zero x is = omega arith
+get-within (y ∷ xs) (suc i) x is = omega (arith, get-within xs i x is)
+
 -- where a placement is, some are
 some-placed : (items : List (Item ModelLine)) (placement : Placement) → Among (Place placement) items → 0 < length (placements_in items)
 some-placed [] placement none = absurd none
@@ -53,8 +60,7 @@ some-placed (Own line ∷ items) placement (inl here) = cc
 some-placed (Own line ∷ items) placement (inr there) = some-placed items placement there
 some-placed (Place other ∷ items) placement there = omega arith
 
-module _ (parts : Parts) (most : ℕ) (all : (part : Part Model) → Among part parts → IsSaid most part.own)
-    (known : first_unknown parts ≡ None) (fit : first_bad parts ≡ None) where
+module _ (parts : Parts) (known : first_unknown parts ≡ None) (fit : first_bad parts ≡ None) where
   module _ (part : Part Model) (among : Among part parts) where
     abbrev names : List (List ℕ)
     names = names_in parts part
@@ -93,7 +99,6 @@ module _ (parts : Parts) (most : ℕ) (all : (part : Part Model) → Among part 
         let mentions = count_where-append (drives_number names k) (mentions_placed parts placing) (flat_map (mentions_entered parts) entries) in
         omega (arith, rest, here, outs, mentions)
 
-    -- each name has one driver
     abbrev all_mentions : List Mention
     all_mentions = mentions_in parts part
 
@@ -114,20 +119,6 @@ module _ (parts : Parts) (most : ℕ) (all : (part : Part Model) → Among part 
         times-append k (inputs_in inputs_of (items_of (linked parts) m)) (driven_in inputs_of drives_of (linked parts) (items_of (linked parts) m))
         ∙ ap (λ (items : List (Item ModelLine)). times k (inputs_in inputs_of items) + times k (driven_in inputs_of drives_of (linked parts) items)) (linked-items parts m part at)
         ∙ items-counted k (entries_of part) places-within
-
-    few-drivers : first_driven parts ≡ None → (text : List ℕ) → by_text text all_mentions ≤ 1
-    few-drivers apart text =
-        let said = all part among in
-        let split = entries-counted (drives_text text) (mentions_entered parts) 0 part.own.statements part.placings in
-        let own : by_text text part.own.mentions ≡ by_text text (flat_map mentions_said part.own.statements) = ap (by_text text) said.mentions in
-        let most_one = placed-once part.own.mentions (flat_map (mentions_placed parts) part.placings) (none-told (driven_word parts) parts part apart among)
-        (own-once part.own.mentions said.faultless) text in
-        omega (arith, split, own, most_one)
-
-    are-driven : first_driven parts ≡ None → first_undriven parts ≡ None → AreDriven all_mentions
-    are-driven apart driven =
-        mentions-driven all_mentions (few-drivers apart)
-        (map_none (λ (mention : Mention). mention.word) (find (is_undriven all_mentions) all_mentions) (none-told (undriven_word parts) parts part driven among))
 
     -- a placement is connected as it should be
     connected : (placing : Placing) → Among placing part.placings → IsConnected inputs_of (linked parts) (placement_by parts part placing)
@@ -201,12 +192,6 @@ module _ (parts : Parts) (most : ℕ) (all : (part : Part Model) → Among part 
         omega (arith, below, linked-names parts m of.part of.at);
   }
 
-  is-formed : AreFormed (linked parts) most
-  is-formed m line there =
-      let of = line-from parts m line there in
-      subst (λ (l : ModelLine). IsFormed most l.kind l.mentions) of.is
-      (line-formed (names_in parts of.part) most of.statement ((all of.part (Among-get parts m of.part of.at)).wide of.statement of.there))
-
   is-whole : ((model k : ℕ) → IsTooDeep (linked parts) model k → ⊥) → IsWhole mentions_of (linked parts)
   is-whole shallow = record { shallow = shallow-all (linked parts) shallow; formals = formals }
     where
@@ -223,6 +208,45 @@ module _ (parts : Parts) (most : ℕ) (all : (part : Part Model) → Among part 
           ap (λ (p : Placement). p.model) of.is ∙ sym (ap placed_model instance.1.1) in
           (by.0, subst (λ m. Among (Own by.0) (items_of (linked parts) m)) model by.1, by.2)
 
+  -- a placement is of one of the models, and in form
+  pub placed-form : (m : ℕ) (placement : Placement) → Among (Place placement) (items_of (linked parts) m) → IsInForm (linked parts) placement
+  placed-form m placement there =
+      let of = placement-from parts m placement there in
+      subst (λ (p : Placement). IsInForm (linked parts) p) of.is (connected of.part (Among-get parts m of.part of.at) of.placing of.there).form
+
+  pub placed-below : (m : ℕ) (placement : Placement) → Among (Place placement) (items_of (linked parts) m) → placement.model < length (linked parts)
+  placed-below m placement there =
+      let of = placement-from parts m placement there in
+      let by = well of.part (Among-get parts m of.part of.at) of.placing of.there in
+      let below = get-within parts by.number by.model by.there in
+      let same : by.number ≡ placement.model =
+      sym (ap (λ (p : Placement). p.model) (placement-is parts of.part of.placing by)) ∙ ap (λ (p : Placement). p.model) of.is in
+      omega (arith, below, same, length-map parts (linked_model parts))
+
+-- where what lines say holds of their models
+module _ (parts : Parts) (most : ℕ) (all : (part : Part Model) → Among part parts → IsSaid most part.own)
+    (known : first_unknown parts ≡ None) (fit : first_bad parts ≡ None) where
+  -- each name has one driver
+  few-drivers : (part : Part Model) → Among part parts → first_driven parts ≡ None → (text : List ℕ) → by_text text (mentions_in parts part) ≤ 1
+  few-drivers part among apart text =
+      let said = all part among in
+      let split = entries-counted (drives_text text) (mentions_entered parts) 0 part.own.statements part.placings in
+      let own : by_text text part.own.mentions ≡ by_text text (flat_map mentions_said part.own.statements) = ap (by_text text) said.mentions in
+      let most_one = placed-once part.own.mentions (flat_map (mentions_placed parts) part.placings) (none-told (driven_word parts) parts part apart among)
+      (own-once part.own.mentions said.faultless) text in
+      omega (arith, split, own, most_one)
+
+  are-driven : (part : Part Model) → Among part parts → first_driven parts ≡ None → first_undriven parts ≡ None → AreDriven (mentions_in parts part)
+  are-driven part among apart driven =
+      mentions-driven (mentions_in parts part) (few-drivers part among apart)
+      (map_none (λ (mention : Mention). mention.word) (find (is_undriven (mentions_in parts part)) (mentions_in parts part)) (none-told (undriven_word parts) parts part driven among))
+
+  is-formed : AreFormed (linked parts) most
+  is-formed m line there =
+      let of = line-from parts m line there in
+      subst (λ (l : ModelLine). IsFormed most l.kind l.mentions) of.is
+      (line-formed (names_in parts of.part) most of.statement ((all of.part (Among-get parts m of.part of.at)).wide of.statement of.there))
+
   is-driven : first_driven parts ≡ None → first_undriven parts ≡ None → IsDriven inputs_of drives_of (linked parts)
   is-driven apart driven = record {
     once = λ m name lt. (by-model m name (slice_get parts m) refl).0 lt;
@@ -230,7 +254,7 @@ module _ (parts : Parts) (most : ℕ) (all : (part : Part Model) → Among part 
     connected = λ m placement there.
         let of = placement-from parts m placement there in
         subst (λ (p : Placement). IsConnected inputs_of (linked parts) p) of.is
-        (connected of.part (Among-get parts m of.part of.at) of.placing of.there);
+        (connected parts known fit of.part (Among-get parts m of.part of.at) of.placing of.there);
   }
     where
       by-model : (m name : ℕ) (found : Option (Part Model)) → slice_get parts m ≡ found
@@ -243,7 +267,7 @@ module _ (parts : Parts) (most : ℕ) (all : (part : Part Model) → Among part 
           )
       by-model m name (Some part) is =
           let among = Among-get parts m part is in
-          let counted = drivers-counted part among name m is in
+          let counted = drivers-counted parts known fit part among name m is in
           let drives = are-driven part among apart driven in
           let size = linked-names parts m part is in
           (λ lt. counted ∙ drives.once name (omega (arith, lt, size)), λ le. counted ∙ drives.past name (omega (arith, le, size)))
@@ -278,8 +302,8 @@ module _ (parts : Parts) (most : ℕ) (all : (part : Part Model) → Among part 
   pub sound : Finds (IsTooDeep (linked parts)) None → first_driven parts ≡ None → first_undriven parts ≡ None → FindsPast (linked parts) signal_limit None
       → AreSound (linked parts) (linked_texts parts) signal_limit most
   sound shallow apart driven few = record {
-    whole = is-whole shallow;
-    named = is-named;
+    whole = is-whole parts known fit shallow;
+    named = is-named parts known fit;
     driven = is-driven apart driven;
     formed = is-formed;
     titled = linked-titled parts;

@@ -4,4 +4,4 @@
 
 mod laws;
 
-pub use laws::{driving_law, soundness_law, unfolding_law, worked_trees};
+pub use laws::{bounds_law, driving_law, placing_law, soundness_law, unfolding_law, worked_trees};
