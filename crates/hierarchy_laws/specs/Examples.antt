@@ -1,14 +1,21 @@
--- Worked examples of instance trees. The text is that of a top which places a model whose output `q` is the next value of a
+-- Worked examples of models that fit together, and of their instance trees. The text is that of a top which places a model whose output `q` is the next value of a
 -- latch turned over: `n` is what `q` is not, and `q` takes the value that `n` had, from 0 on. The top's `y` is `q`.
-use Rattle.std.specs.Prelude.{◌≡◌, Bool, true, false, [], ◌∷◌}
+use Rattle.std.specs.Prelude.{◌≡◌, ℕ, Bool, true, false, List, [], ◌∷◌}
 use Rattle.flattening.specs.Trees.{Tree}
 use Rattle.flat_netlist.specs.Flat.{Models}
 use Rattle.flat_netlist.specs.Trees.{IsInstanceTree, TreeBegins, TreeMoves, unfolded}
 use Rattle.blif_linking.specs.Examples.{parts_in, turning}
-use Rattle.blif_linking.specs.Linked.{linked}
+use Rattle.blif_linking.specs.Linked.{IsHierarchy, linked, linked_texts}
 
 abbrev pub turned : Models
 turned = linked (parts_in turning)
+
+abbrev pub turned_texts : List (List (List ℕ))
+turned_texts = linked_texts (parts_in turning)
+
+-- its models fit together
+abbrev pub TurningFits : Type 0
+TurningFits = IsHierarchy turning turned turned_texts
 
 -- the names of the top and of the instance in it
 abbrev pub value_of_y : Tree Bool → Bool
@@ -25,6 +32,10 @@ abbrev pub TurningUnfolds : Type 0
 TurningUnfolds =
     let tree = unfolded turned (true ∷ false ∷ []) in
     (value_of_y tree ≡ true) × (value_of_q tree ≡ true) × (value_of_n tree ≡ false)
+
+-- and its unfolding is an instance tree
+abbrev pub TurningIsATree : Type 0
+TurningIsATree = IsInstanceTree turned (unfolded turned (true ∷ false ∷ []))
 
 -- a connected formal has its actual's value
 abbrev pub FormalsFollow : Type 0

@@ -10,7 +10,8 @@ ghost use Rattle.model_hierarchy.specs.First.{IsClosed};
 ghost use Rattle.model_hierarchy.specs.Sums.{AreInForm};
 ghost use Rattle.blif_linking.specs.Linked.{IsHierarchy, linked};
 ghost use Rattle.blif_linking.specs.Names.{Parts, first_bad, first_unknown};
-ghost use Rattle.hierarchy_laws.specs.Examples.{TurningUnfolds, FormalsFollow, TablesHold, LatchesBegin, LatchesMove};
+ghost use Rattle.hierarchy_laws.specs.Examples.{TurningFits, TurningUnfolds, TurningIsATree};
+ghost use Rattle.hierarchy_laws.specs.Examples.{FormalsFollow, TablesHold, LatchesBegin, LatchesMove};
 ghost use Rattle.hierarchy_laws.specs.Named.{HasAllNames};
 ghost use Rattle.hierarchy_laws.specs.Plain.{IsPlain};
 ghost use Rattle.hierarchy_laws.specs.Runs.{HasRuns};
@@ -64,10 +65,12 @@ pub fn unfolding_law()
         → HasRuns models texts }
 {}
 
-/// Worked examples of instance trees, as laws.
+/// Worked examples of models that fit together and of their instance trees, as laws.
 #[tactic(auto, using(crate::proofs::ExamplesHold::trees))]
 pub fn worked_trees()
+    ensures fits { TurningFits }
     ensures unfolds { TurningUnfolds }
+    ensures tree { TurningIsATree }
     ensures formals { FormalsFollow }
     ensures tables { TablesHold }
     ensures begins { LatchesBegin }
