@@ -102,7 +102,7 @@ module _ (models : Models) where
       (inr (placed-there (instances_from models levels) path 0 k instance.1.0 found (placements_in (items_at models path)) instance.1.1
       (subst (λ n. Among found (instances_from models levels (n ∷ path))) (sym at) there)))
 
-  instance-there : (path : Path) → IsInstance models path → length path < DEEPEST → Among path (instances models)
+  pub instance-there : (path : Path) → IsInstance models path → length path < DEEPEST → Among path (instances models)
   unfolding instances
   instance-there path instance shallow =
       let levels : ℕ = DEEPEST - suc (length path) in

@@ -1,9 +1,11 @@
 -- Models that fit together are sound as a hierarchy, and so is their flat netlist.
-use Rattle.std.proofs.Common.{◌≡◌, ℕ, ◌+◌, ◌*◌, ◌<◌, ◌≤◌, ◌^◌, List, length, All, None, sym, subst, arith}
+use Rattle.std.proofs.Common.{◌≡◌, ℕ, ◌+◌, ◌*◌, ◌<◌, ◌≤◌, ◌^◌, List, length, All, None, Result, Ok, sym, ap, ◌∙◌, subst, arith}
 use Rattle.psl_base.specs.Places.{file_limit}
+use Rattle.blif_model.specs.declared.fault.BlifFault.{BlifFault}
+use Rattle.hierarchy_laws.proofs.Instances.{all-instances, all-names}
 use Rattle.netlist.specs.Sound.{IsSound}
 use Rattle.blif_model.specs.Rules.{signal_limit}
-use Rattle.blif_linking.specs.Linked.{IsHierarchy, linked}
+use Rattle.blif_linking.specs.Linked.{IsHierarchy, linked, linked_texts}
 use Rattle.flat_netlist.specs.Flat.{Models, flat_design, flat_names, flat_outputs, AreSound}
 use Rattle.flat_netlist.specs.Trees.{IsUnfolded}
 use Rattle.flat_netlist.proofs.Sound.{sound}
@@ -11,7 +13,7 @@ use Rattle.flat_netlist.proofs.Unfolded.{is-unfolded}
 use Rattle.model_hierarchy.specs.Depth.{IsTooDeep}
 use Rattle.model_hierarchy.specs.First.{Finds, IsClosed}
 use Rattle.model_hierarchy.specs.Sums.{AreInForm, FindsPast}
-use Rattle.hierarchy_laws.specs.Named.{HasAllNames}
+use Rattle.hierarchy_laws.specs.Named.{HasAllNames, ListsAllInstances, ListsAllNames}
 use Rattle.hierarchy_laws.proofs.Named.{has-names}
 use Rattle.hierarchy_laws.specs.Runs.{HasRuns}
 use Rattle.hierarchy_laws.proofs.Runs.{has-runs}
@@ -85,3 +87,22 @@ placements-closed parts known fit m placement there = linking.placed-below parts
 
 pub placements-formed : (parts : Parts) → first_unknown parts ≡ None → first_bad parts ≡ None → AreInForm (linked parts)
 placements-formed parts known fit m placement there = linking.placed-form parts known fit m placement there
+
+-- the names of the netlist
+pub lists-names : (text : List ℕ) (models : Models) (texts : List (List (List ℕ))) → IsHierarchy text models texts → ListsAllNames models texts
+lists-names text models texts is =
+    let are = are-sound text models texts is in
+    all-names models are.whole (names-all text models texts is) texts are.titled
+
+pub lists-instances : (text : List ℕ) (models : Models) (texts : List (List (List ℕ))) → IsHierarchy text models texts → ListsAllInstances models
+lists-instances text models texts is = all-instances models (are-sound text models texts is).whole
+
+-- a text says one hierarchy at the most
+pub one-hierarchy : (text : List ℕ) (models others : Models) (texts titles : List (List (List ℕ))) → IsHierarchy text models texts → IsHierarchy text others titles
+    → (models ≡ others) × (texts ≡ titles)
+one-hierarchy text models others texts titles first second =
+    let said : ◌≡◌ {A = Result Parts BlifFault} (Ok first.parts) (Ok second.parts) = sym first.said ∙ second.said in
+    let same : first.parts ≡ second.parts = cc in (
+      first.models_are ∙ ap linked same ∙ sym second.models_are,
+      first.texts_are ∙ ap linked_texts same ∙ sym second.texts_are,
+    )

@@ -6,6 +6,7 @@ pub mod ExamplesHold
 pub mod Few
 pub mod Formals
 pub mod Hierarchies
+pub mod Instances
 pub mod Lines
 pub mod Models
 pub mod Named

@@ -12,7 +12,7 @@ ghost use Rattle.blif_linking.specs.Linked.{IsHierarchy, linked};
 ghost use Rattle.blif_linking.specs.Names.{Parts, first_bad, first_unknown};
 ghost use Rattle.hierarchy_laws.specs.Examples.{TurningFits, TurningUnfolds, TurningIsATree};
 ghost use Rattle.hierarchy_laws.specs.Examples.{FormalsFollow, TablesHold, LatchesBegin, LatchesMove};
-ghost use Rattle.hierarchy_laws.specs.Named.{HasAllNames};
+ghost use Rattle.hierarchy_laws.specs.Named.{HasAllNames, ListsAllInstances, ListsAllNames};
 ghost use Rattle.hierarchy_laws.specs.Plain.{IsPlain};
 ghost use Rattle.hierarchy_laws.specs.Runs.{HasRuns};
 
@@ -21,6 +21,12 @@ ghost use Rattle.hierarchy_laws.specs.Runs.{HasRuns};
 pub fn placing_law()
     ensures closed { (parts : Parts) → first_unknown parts ≡ None → first_bad parts ≡ None → IsClosed (linked parts) }
     ensures form { (parts : Parts) → first_unknown parts ≡ None → first_bad parts ≡ None → AreInForm (linked parts) }
+{}
+
+/// Law: a text says one hierarchy at the most.
+pub fn one_hierarchy_law()
+    ensures { (text : List ℕ) (models others : Models) (texts titles : List (List (List ℕ)))
+        → IsHierarchy text models texts → IsHierarchy text others titles → (models ≡ others) × (texts ≡ titles) }
 {}
 
 /// Law: where the models of a text fit together, each name of each model has just one driver: an input, a latch, a table
@@ -38,19 +44,28 @@ pub fn soundness_law()
         → length text ≤ file_limit → IsSound (flat_design models texts) }
 {}
 
-/// Law: it has no more signals or tables than a netlist may have, each of its names has bytes and none of white space, and
-/// the output of each table stands at a place of the text.
+/// Law: it has no more signals or tables than a netlist may have, and the output of each table stands at a place of the
+/// text.
 pub fn bounds_law()
     ensures signals { (text : List ℕ) (models : Models) (texts : List (List (List ℕ))) → IsHierarchy text models texts
         → (flat_design models texts).signals ≤ signal_limit }
     ensures tables { (text : List ℕ) (models : Models) (texts : List (List (List ℕ))) → IsHierarchy text models texts
         → length (flat_design models texts).tables ≤ signal_limit }
-    ensures names { (text : List ℕ) (models : Models) (texts : List (List (List ℕ))) → IsHierarchy text models texts
-        → All IsPlain (flat_design models texts).names }
     ensures outputs { (models : Models) (texts : List (List (List ℕ)))
         → length (flat_outputs (flat_lines models)) ≡ length (flat_design models texts).tables }
     ensures within { (text : List ℕ) (models : Models) (texts : List (List (List ℕ))) → IsHierarchy text models texts
         → All (λ at. at ≤ length text) (flat_outputs (flat_lines models)) }
+{}
+
+/// Law: its names are all names of all instances, those of the top first, and then instance by instance in flat order. Each
+/// has bytes, and none of white space.
+pub fn naming_law()
+    ensures names { (text : List ℕ) (models : Models) (texts : List (List (List ℕ))) → IsHierarchy text models texts
+        → ListsAllNames models texts }
+    ensures instances { (text : List ℕ) (models : Models) (texts : List (List (List ℕ))) → IsHierarchy text models texts
+        → ListsAllInstances models }
+    ensures plain { (text : List ℕ) (models : Models) (texts : List (List (List ℕ))) → IsHierarchy text models texts
+        → All IsPlain (flat_design models texts).names }
 {}
 
 /// Law: its valuations are the instance trees of the hierarchy. Unfolding takes valuations to instance trees, each instance

@@ -4,4 +4,7 @@
 
 mod laws;
 
-pub use laws::{bounds_law, driving_law, placing_law, soundness_law, unfolding_law, worked_trees};
+pub use laws::{
+    bounds_law, driving_law, naming_law, one_hierarchy_law, placing_law, soundness_law,
+    unfolding_law, worked_trees,
+};

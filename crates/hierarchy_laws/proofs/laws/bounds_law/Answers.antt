@@ -1,5 +1,5 @@
 use Rattle.hierarchy_laws.proofs.Bounds.{as-many-places}
-use Rattle.hierarchy_laws.proofs.Hierarchies.{names-are-plain, outputs-are-within, signals-few, tables-few}
+use Rattle.hierarchy_laws.proofs.Hierarchies.{outputs-are-within, signals-few, tables-few}
 use Rattle.hierarchy_laws.proofs.laws.bounds_law.Goals as goal
 
 pub returns-clause-signals : goal.returns-clause-signals
@@ -7,9 +7,6 @@ returns-clause-signals c text models texts is = signals-few text models texts is
 
 pub returns-clause-tables : goal.returns-clause-tables
 returns-clause-tables c text models texts is = tables-few text models texts is
-
-pub returns-clause-names : goal.returns-clause-names
-returns-clause-names c text models texts is = names-are-plain text models texts is
 
 pub returns-clause-outputs : goal.returns-clause-outputs
 returns-clause-outputs c models texts = as-many-places models texts
