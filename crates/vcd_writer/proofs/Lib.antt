@@ -1,7 +1,9 @@
-mod Growing
-mod Numerals
-mod Samples
-mod Standings
-mod Tokens
+pub mod Numerals
+pub mod Standings
+pub mod Tokens
 mod Values
 pub mod Accepting
+pub mod Growing
+pub mod Pieces
+pub mod Samples
+pub mod Texts

@@ -11,7 +11,7 @@ use Rattle.psl_base.specs.Decimals.{are_digits, number_after}
 use Rattle.vcd_reader.specs.Standing.{time_of, time_most}
 
 -- each byte is a digit
-abbrev AreDigits : List ℕ → Type 0
+abbrev pub AreDigits : List ℕ → Type 0
 AreDigits text = list_all is_digit text ≡ true
 
 digit_parts : (byte : ℕ) (bytes : List ℕ) → AreDigits (byte ∷ bytes) → IsInRange 48 57 byte × AreDigits bytes
@@ -20,7 +20,7 @@ digit_parts byte bytes each = search (rules)
 digit_more : (byte : ℕ) (bytes : List ℕ) → IsInRange 48 57 byte → AreDigits bytes → AreDigits (byte ∷ bytes)
 digit_more byte bytes within each = search (rules)
 
-numerals : IsNumeralModel AreDigits (number_after 0)
+pub numerals : IsNumeralModel AreDigits (number_after 0)
 numerals = numerals_by_fold AreDigits (record { empty = refl; parts = digit_parts; more = digit_more }) number_after
     (record { empty = λ n. refl; more = λ n byte bytes within. refl })
 

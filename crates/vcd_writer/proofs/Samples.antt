@@ -1,31 +1,25 @@
--- The lines of a made recording, token by token.
-use Rattle.std.proofs.Common.{◌≡◌, ◌∙◌, refl, sym, ap, subst, ℕ, zero, suc, ◌+◌, ◌<◌, ◌≤◌, ◌^◌, Bool, true, false, List, [], ◌∷◌, ◌++◌, length, Option, None, Some, arith, append_assoc}
+-- The lines of samples of signals of one bit, piece by piece: what they say.
+use Rattle.std.proofs.Common.{◌≡◌, refl, sym, ap, subst, ℕ, zero, suc, ◌+◌, ◌<◌, ◌≤◌, ◌^◌, Bool, true, false, List, [], ◌∷◌, length, Option, None, Some, arith}
 use Rattle.std.specs.Prelude.{decimal, nat_le}
 use Rattle.std.specs.List.{list_all, flat_map, range_with_len}
-use Rattle.std.proofs.Math.Bool.{and-false}
 use Rattle.std.proofs.lemmas.Bool.{lt-leb, le-ltb, ne_eqb, and_from, leb-true}
+use Rattle.std.proofs.Math.Bool.{and-false}
 use Rattle.psl_base.specs.Bytes.{is_digit}
-use Rattle.psl_base.specs.Tokens.{PlacedToken, token_at, tokens_from}
+use Rattle.psl_base.specs.Tokens.{token_at}
 use Rattle.vcd_writer.proofs.Numerals.{form-all, form-time}
-use Rattle.vcd_writer.proofs.Standings.{Goes, goes-on}
-use Rattle.vcd_writer.proofs.Tokens.{is_solid, true-left, true-right, word-token}
-use Rattle.vcd_writer.specs.Generator.{request_at, answer_at}
-use Rattle.vcd_writer.specs.Made.{digit, line, definitions, sample_lines, samples_from, made_names}
+use Rattle.vcd_writer.proofs.Pieces.{Reads, reads-nothing, reads-on, reads-word}
+use Rattle.vcd_writer.proofs.Standings.{Goes}
+use Rattle.vcd_writer.proofs.Tokens.{is_solid, true-left, true-right}
+use Rattle.vcd_writer.specs.Lines.{digit, line, value_lines, sample_lines, samples_from}
 use Rattle.vcd_reader.specs.declared.shape.Shape.TheVariants.{Time, Scalar}
-use Rattle.vcd_reader.specs.Declarations.{Declared}
+use Rattle.vcd_reader.specs.Declarations.{Declared, signal_at}
 use Rattle.vcd_reader.specs.Events.{Event, At, Gets, is_last, falls}
+use Rattle.vcd_reader.specs.Labels.{place_of}
 use Rattle.vcd_reader.specs.Rules.{rule_at, sample_limit}
-use Rattle.vcd_reader.specs.Shapes.{shape_of, keyword_of}
-use Rattle.vcd_reader.specs.Standing.{Standing, Told, Telling, Ready, at_first, time_of}
+use Rattle.vcd_reader.specs.Shapes.{shape_of}
+use Rattle.vcd_reader.specs.Standing.{Standing, Told, Telling, Ready, time_of}
 
--- what the definitions declare
-abbrev pub declared : Declared
-declared = record {
-  codes = (33 ∷ []) ∷ (34 ∷ []) ∷ [];
-  signals = record { size = 1; unread = false } ∷ record { size = 1; unread = false } ∷ [];
-  names = made_names;
-  scopes = [];
-}
+-- ---- where a recording stands
 
 -- the last time before a sample
 abbrev pub time_before : ℕ → Option ℕ
@@ -36,19 +30,23 @@ abbrev told_before : ℕ → Told
 told_before sample = record { last = time_before sample; samples = sample; in_block = false }
 
 -- before the lines of a sample, and among them
-abbrev pub before_sample : ℕ → Standing
-before_sample sample = record { declared = declared; part = Telling (told_before sample); opened = Ready }
+abbrev pub before_sample : Declared → ℕ → Standing
+before_sample declared sample = record { declared = declared; part = Telling (told_before sample); opened = Ready }
 
--- ---- one token
+-- ---- what samples say
 
-shape-time : (text : List ℕ) → shape_of (35 ∷ text) ≡ Time
-unfolding shape_of
-shape-time text = refl
+-- values of signals, from one on
+abbrev pub gets_from : ℕ → List Bool → List Event
+gets_from number [] = []
+gets_from number (value ∷ values) = Gets number (digit value ∷ []) ∷ gets_from (suc number) values
 
-shape-scalar : (value : Bool) (code : ℕ) → shape_of (digit value ∷ code ∷ []) ≡ Scalar
-unfolding shape_of
-shape-scalar false code = refl
-shape-scalar true code = refl
+abbrev pub sample_events : (ℕ → List Bool) → ℕ → List Event
+sample_events values sample = At sample ∷ gets_from 0 (values sample)
+
+abbrev pub events_from : (ℕ → List Bool) → ℕ → ℕ → List Event
+events_from values first count = flat_map (sample_events values) (range_with_len first count)
+
+-- ---- the time of a sample
 
 pub is-last-not : (sample : ℕ) → is_last (time_before sample) sample ≡ false
 is-last-not zero = refl
@@ -58,56 +56,19 @@ never-falls : (sample : ℕ) → falls (time_before sample) sample ≡ false
 never-falls zero = refl
 never-falls (suc sample) = le-ltb (suc sample) sample (omega arith)
 
+shape-time : (text : List ℕ) → shape_of (35 ∷ text) ≡ Time
+unfolding shape_of
+shape-time text = refl
+
 -- a time that is the next one has no fault
-time-rule : (sample : ℕ) (text : List ℕ) → sample < sample_limit → shape_of text ≡ Time → time_of text ≡ Some sample → rule_at declared (Telling (told_before sample)) Ready text ≡ None
-time-rule sample text few shape says = rw (shape, says, is-last-not sample, never-falls sample, lt-leb sample_limit sample few) refl
+time-rule : (declared : Declared) (sample : ℕ) (text : List ℕ) → sample < sample_limit → shape_of text ≡ Time → time_of text ≡ Some sample
+    → rule_at declared (Telling (told_before sample)) Ready text ≡ None
+time-rule declared sample text few shape says = rw (shape, says, is-last-not sample, never-falls sample, lt-leb sample_limit sample few) refl
 
--- what a sample's three tokens say
-abbrev pub sample_events : ℕ → ℕ → List Event
-sample_events seed sample = At sample ∷ Gets 0 (digit (request_at seed sample) ∷ []) ∷ Gets 1 (digit (answer_at seed sample) ∷ []) ∷ []
-
-abbrev pub events_from : ℕ → ℕ → ℕ → List Event
-events_from seed first count = flat_map (sample_events seed) (range_with_len first count)
-
--- the time of a sample is read
-time-goes : (whole : List ℕ) (sample at : ℕ) (text : List ℕ) → sample < sample_limit → shape_of text ≡ Time → time_of text ≡ Some sample
-    → Goes (before_sample sample) (token_at whole at text ∷ []) (At sample ∷ []) (before_sample (suc sample))
-time-goes whole sample at text few shape says =
-    (time-rule sample text few shape says, ([], rw (shape, says) refl, (refl, rw (shape, says, is-last-not sample) (ap (λ (n : ℕ). record { declared = declared; part = Telling (record { last = Some sample; samples = n; in_block = false }); opened = Ready }) (let one : sample + 1 ≡ suc sample = omega arith in one)))))
-
--- a value of one of the signals is read
-value-goes : (whole : List ℕ) (sample at : ℕ) (value : Bool) → Goes (before_sample sample) (token_at whole at (digit value ∷ 33 ∷ []) ∷ []) (Gets 0 (digit value ∷ []) ∷ []) (before_sample sample)
-unfolding shape_of
-value-goes whole sample at false = (refl, ([], refl, (refl, refl)))
-value-goes whole sample at true = (refl, ([], refl, (refl, refl)))
-
-other-goes : (whole : List ℕ) (sample at : ℕ) (value : Bool) → Goes (before_sample sample) (token_at whole at (digit value ∷ 34 ∷ []) ∷ []) (Gets 1 (digit value ∷ []) ∷ []) (before_sample sample)
-unfolding shape_of
-other-goes whole sample at false = (refl, ([], refl, (refl, refl)))
-other-goes whole sample at true = (refl, ([], refl, (refl, refl)))
-
--- the three tokens of a sample
-abbrev sample_tokens : List ℕ → ℕ → ℕ → ℕ → ℕ → ℕ → List PlacedToken
-sample_tokens whole seed sample a b c =
-    token_at whole a (35 ∷ decimal sample) ∷ token_at whole b (digit (request_at seed sample) ∷ 33 ∷ [])
-    ∷ token_at whole c (digit (answer_at seed sample) ∷ 34 ∷ []) ∷ []
-
-small : (sample : ℕ) → sample < sample_limit → sample < 2 ^ 64
-small sample few = omega arith
-
-sample-goes : (whole : List ℕ) (seed sample a b c : ℕ) → sample < sample_limit
-    → Goes (before_sample sample) (sample_tokens whole seed sample a b c) (sample_events seed sample) (before_sample (suc sample))
-sample-goes whole seed sample a b c few =
-    goes-on (before_sample sample) (before_sample (suc sample)) (before_sample (suc sample)) (token_at whole a (35 ∷ decimal sample) ∷ []) (token_at whole b (digit (request_at seed sample) ∷ 33 ∷ []) ∷ token_at whole c (digit (answer_at seed sample) ∷ 34 ∷ []) ∷ []) (At sample ∷ []) (Gets 0 (digit (request_at seed sample) ∷ []) ∷ Gets 1 (digit (answer_at seed sample) ∷ []) ∷ [])
-    (time-goes whole sample a (35 ∷ decimal sample) few (shape-time (decimal sample)) (form-time sample (small sample few)))
-    (goes-on (before_sample (suc sample)) (before_sample (suc sample)) (before_sample (suc sample)) (token_at whole b (digit (request_at seed sample) ∷ 33 ∷ []) ∷ []) (token_at whole c (digit (answer_at seed sample) ∷ 34 ∷ []) ∷ []) (Gets 0 (digit (request_at seed sample) ∷ []) ∷ []) (Gets 1 (digit (answer_at seed sample) ∷ []) ∷ [])
-    (value-goes whole (suc sample) b (request_at seed sample)) (other-goes whole (suc sample) c (answer_at seed sample)))
-
--- ---- the lines
-
-line-token : (whole : List ℕ) (at : ℕ) (word rest : List ℕ) → 0 < length word → list_all is_solid word ≡ true
-    → tokens_from whole at (line word ++ rest) ≡ token_at whole at word ∷ tokens_from whole (at + length word + 1) rest
-line-token whole at word rest long solid = ap (tokens_from whole at) (append_assoc word (10 ∷ []) rest) ∙ word-token whole at word rest long solid
+time-goes : (whole : List ℕ) (declared : Declared) (sample at : ℕ) (text : List ℕ) → sample < sample_limit → shape_of text ≡ Time → time_of text ≡ Some sample
+    → Goes (before_sample declared sample) (token_at whole at text ∷ []) (At sample ∷ []) (before_sample declared (suc sample))
+time-goes whole declared sample at text few shape says =
+    (time-rule declared sample text few shape says, ([], rw (shape, says) refl, (refl, rw (shape, says, is-last-not sample) (ap (λ (n : ℕ). record { declared = declared; part = Telling (record { last = Some sample; samples = n; in_block = false }); opened = Ready }) (let one : sample + 1 ≡ suc sample = omega arith in one)))))
 
 digit-solid : (byte : ℕ) → is_digit byte ≡ true → is_solid byte ≡ true
 digit-solid byte is =
@@ -120,51 +81,83 @@ digits-solid (byte ∷ bytes) each =
     and_from (is_solid byte) (list_all is_solid bytes) (digit-solid byte (true-left (is_digit byte) (list_all is_digit bytes) each))
     (digits-solid bytes (true-right (is_digit byte) (list_all is_digit bytes) each))
 
-value-solid : (value : Bool) (code : ℕ) → is_solid code ≡ true → list_all is_solid (digit value ∷ code ∷ []) ≡ true
-value-solid false code solid = and_from (is_solid code) true solid refl
-value-solid true code solid = and_from (is_solid code) true solid refl
+time-reads : (whole : List ℕ) (declared : Declared) (sample : ℕ) → sample < sample_limit
+    → Reads whole (before_sample declared sample) (line (35 ∷ decimal sample)) (At sample ∷ []) (before_sample declared (suc sample))
+time-reads whole declared sample few =
+    let small : sample < 2 ^ 64 = omega arith in
+    reads-word whole (before_sample declared sample) (before_sample declared (suc sample)) (35 ∷ decimal sample) 10 (At sample ∷ []) (omega arith)
+    (digits-solid (decimal sample) (form-all sample small)) refl
+    (λ at. time-goes whole declared sample at (35 ∷ decimal sample) few (shape-time (decimal sample)) (form-time sample small))
 
-three-lines : (xs ys zs rest : List ℕ) → ((xs ++ ys) ++ zs) ++ rest ≡ xs ++ (ys ++ (zs ++ rest))
-three-lines xs ys zs rest = append_assoc (xs ++ ys) zs rest ∙ append_assoc xs ys (zs ++ rest)
+-- ---- the values of a sample
 
-lines-tokens : (whole : List ℕ) (seed sample at : ℕ) (rest : List ℕ) → sample < 2 ^ 64
-    → (b : ℕ) × (c : ℕ) × (d : ℕ) × (tokens_from whole at (sample_lines seed sample ++ rest) ≡ sample_tokens whole seed sample at b c ++ tokens_from whole d rest)
-lines-tokens whole seed sample at rest few =
-    let time = 35 ∷ decimal sample in
-    let first = digit (request_at seed sample) ∷ 33 ∷ [] in
-    let second = digit (answer_at seed sample) ∷ 34 ∷ [] in
-    let b = at + length time + 1 in
-    let c = b + 2 + 1 in
-    let d = c + 2 + 1 in (
-      b,
-      c,
-      d,
-      ap (tokens_from whole at) (three-lines (line time) (line first) (line second) rest)
-          ∙ line-token whole at time (line first ++ (line second ++ rest)) (omega arith) (digits-solid (decimal sample) (form-all sample few))
-          ∙ ap (λ (ts : List PlacedToken). token_at whole at time ∷ ts)
-          (line-token whole b first (line second ++ rest) (omega arith) (value-solid (request_at seed sample) 33 refl)
-          ∙ ap (λ (ts : List PlacedToken). token_at whole b first ∷ ts) (line-token whole c second rest (omega arith) (value-solid (answer_at seed sample) 34 refl))),
-    )
+-- a code is that of a signal whose values are read
+pub record IsRead (declared : Declared) (number : ℕ) (code : List ℕ) : Type 0 where
+  pub some : 0 < length code
+  pub solid : list_all is_solid code ≡ true
+  pub found : place_of declared.codes code ≡ Some number
+  pub read : (signal_at declared number).unread ≡ false
 
-pub lines-go : (whole : List ℕ) (seed at first count : ℕ) → first + count ≤ sample_limit
-    → Goes (before_sample first) (tokens_from whole at (samples_from seed first count)) (events_from seed first count) (before_sample (first + count))
-lines-go whole seed at first zero few = (refl, ap before_sample (let same : first ≡ first + zero = omega arith in same))
-lines-go whole seed at first (suc count) few =
-    let here : first < sample_limit = omega arith in
-    let found = lines-tokens whole seed first at (samples_from seed (first + 1) count) (small first here) in
-    let later : first + 1 + count ≤ sample_limit = omega arith in
-    let rest = lines-go whole seed found.2 (first + 1) count later in
-    let start : before_sample (suc first) ≡ before_sample (first + 1) = ap before_sample (let same : suc first ≡ first + 1 = omega arith in same) in
-    let end : before_sample (first + 1 + count) ≡ before_sample (first + suc count) = ap before_sample (let same : first + 1 + count ≡ first + suc count = omega arith in same) in
-    subst (λ (ts : List PlacedToken). Goes (before_sample first) ts (events_from seed first (suc count)) (before_sample (first + suc count))) (sym found.3)
-    (goes-on (before_sample first) (before_sample (suc first)) (before_sample (first + suc count)) (sample_tokens whole seed first at found.0 found.1) _ (sample_events seed first) (events_from seed (first + 1) count)
-    (sample-goes whole seed first at found.0 found.1 here)
-    (subst (λ (s : Standing). Goes s (tokens_from whole found.2 (samples_from seed (first + 1) count)) (events_from seed (first + 1) count) (before_sample (first + suc count))) (sym start)
-    (subst (λ (s : Standing). Goes (before_sample (first + 1)) (tokens_from whole found.2 (samples_from seed (first + 1) count)) (events_from seed (first + 1) count) s) end rest)))
+-- codes are those of the signals from one on
+abbrev pub AreRead : Declared → ℕ → List (List ℕ) → Type 0
+AreRead declared number [] = Unit {0}
+AreRead declared number (code ∷ codes) = IsRead declared number code × AreRead declared (suc number) codes
 
--- the definitions
-pub definitions-go : (whole : List ℕ) (rest : List ℕ) (events : List Event) (end : Standing) → Goes (before_sample 0) (tokens_from whole 67 rest) events end
-    → Goes at_first (tokens_from whole 0 (definitions ++ rest)) events end
-unfolding shape_of keyword_of
-definitions-go whole rest events end goes =
-    (refl, (events, refl, (refl, (events, refl, (refl, (events, refl, (refl, (events, refl, (refl, (events, refl, (refl, (events, refl, (refl, (events, refl, (refl, (events, refl, (refl, (events, refl, (refl, (events, refl, (refl, (events, refl, (refl, (events, refl, (refl, (events, refl, (refl, (events, refl, goes))))))))))))))))))))))))))))
+shape-scalar : (value : Bool) (first : ℕ) (rest : List ℕ) → shape_of (digit value ∷ first ∷ rest) ≡ Scalar
+unfolding shape_of
+shape-scalar false first rest = refl
+shape-scalar true first rest = refl
+
+value-goes : (whole : List ℕ) (declared : Declared) (sample number at : ℕ) (value : Bool) (first : ℕ) (rest : List ℕ)
+    → place_of declared.codes (first ∷ rest) ≡ Some number → (signal_at declared number).unread ≡ false
+    → Goes (before_sample declared sample) (token_at whole at (digit value ∷ first ∷ rest) ∷ []) (Gets number (digit value ∷ []) ∷ []) (before_sample declared sample)
+value-goes whole declared sample number at value first rest found read =
+    let shape = shape-scalar value first rest in
+    (rw (shape, found) refl, ([], rw (shape, found, read) refl, (refl, rw shape refl)))
+
+value-solid : (value : Bool) (code : List ℕ) → list_all is_solid code ≡ true → list_all is_solid (digit value ∷ code) ≡ true
+value-solid false code solid = solid
+value-solid true code solid = solid
+
+value-reads : (whole : List ℕ) (declared : Declared) (sample number : ℕ) (value : Bool) (code : List ℕ) → IsRead declared number code
+    → Reads whole (before_sample declared sample) (line (digit value ∷ code)) (Gets number (digit value ∷ []) ∷ []) (before_sample declared sample)
+value-reads whole declared sample number value [] is = absurd (let some = is.some in omega arith)
+value-reads whole declared sample number value (first ∷ rest) is =
+    reads-word whole (before_sample declared sample) (before_sample declared sample) (digit value ∷ first ∷ rest) 10 (Gets number (digit value ∷ []) ∷ []) (omega arith)
+    (value-solid value (first ∷ rest) is.solid) refl
+    (λ at. value-goes whole declared sample number at value first rest is.found is.read)
+
+values-read : (whole : List ℕ) (declared : Declared) (sample number : ℕ) (codes : List (List ℕ)) (values : List Bool) → AreRead declared number codes → length values ≡ length codes
+    → Reads whole (before_sample declared sample) (value_lines codes values) (gets_from number values) (before_sample declared sample)
+values-read whole declared sample number [] [] are same = reads-nothing whole (before_sample declared sample)
+values-read whole declared sample number [] (value ∷ values) are same = absurd (omega arith)
+values-read whole declared sample number (code ∷ codes) [] are same = absurd (omega arith)
+values-read whole declared sample number (code ∷ codes) (value ∷ values) are same =
+    reads-on whole (before_sample declared sample) (before_sample declared sample) (before_sample declared sample) (line (digit value ∷ code)) (value_lines codes values)
+    (Gets number (digit value ∷ []) ∷ []) (gets_from (suc number) values)
+    (value-reads whole declared sample number value code are.0) (values-read whole declared sample (suc number) codes values are.1 (omega arith))
+
+-- ---- samples
+
+sample-reads : (whole : List ℕ) (declared : Declared) (codes : List (List ℕ)) (values : ℕ → List Bool) (sample : ℕ) → AreRead declared 0 codes → length (values sample) ≡ length codes
+    → sample < sample_limit
+    → Reads whole (before_sample declared sample) (sample_lines codes sample (values sample)) (sample_events values sample) (before_sample declared (suc sample))
+sample-reads whole declared codes values sample are same few =
+    reads-on whole (before_sample declared sample) (before_sample declared (suc sample)) (before_sample declared (suc sample)) (line (35 ∷ decimal sample)) (value_lines codes (values sample))
+    (At sample ∷ []) (gets_from 0 (values sample))
+    (time-reads whole declared sample few) (values-read whole declared (suc sample) 0 codes (values sample) are same)
+
+pub samples-read : (whole : List ℕ) (declared : Declared) (codes : List (List ℕ)) (values : ℕ → List Bool) (first count : ℕ) → AreRead declared 0 codes
+    → ((sample : ℕ) → sample < first + count → length (values sample) ≡ length codes) → first + count ≤ sample_limit
+    → Reads whole (before_sample declared first) (samples_from codes values first count) (events_from values first count) (before_sample declared (first + count))
+samples-read whole declared codes values first zero are same few =
+    subst (λ (n : ℕ). Reads whole (before_sample declared first) [] [] (before_sample declared n)) (let e : first ≡ first + zero = omega arith in e) (reads-nothing whole (before_sample declared first))
+samples-read whole declared codes values first (suc count) are same few =
+    let next : suc first ≡ first + 1 = omega arith in
+    let last : first + 1 + count ≡ first + suc count = omega arith in
+    let rest = samples-read whole declared codes values (first + 1) count are (λ sample within. same sample (omega (arith, within))) (omega arith) in
+    reads-on whole (before_sample declared first) (before_sample declared (suc first)) (before_sample declared (first + suc count)) (sample_lines codes first (values first))
+    (samples_from codes values (first + 1) count) (sample_events values first) (events_from values (first + 1) count)
+    (sample-reads whole declared codes values first are (same first (omega arith)) (omega arith))
+    (subst (λ (n : ℕ). Reads whole (before_sample declared n) (samples_from codes values (first + 1) count) (events_from values (first + 1) count) (before_sample declared (first + suc count))) (sym next)
+    (subst (λ (n : ℕ). Reads whole (before_sample declared (first + 1)) (samples_from codes values (first + 1) count) (events_from values (first + 1) count) (before_sample declared n)) last rest))

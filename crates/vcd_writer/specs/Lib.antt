@@ -1,2 +1,3 @@
 pub mod Generator
+pub mod Lines
 pub mod Made

@@ -1,5 +1,6 @@
-//! Makes recordings to try a judge on: of a request, and of an answer that follows each request one sample
-//! later. The requests come from a linear congruential generator, so the same seed gives the same recording.
+//! Writes recordings (value change dumps, IEEE 1364, clause 18) of signals of one bit, and says how they are read. Makes
+//! recordings to try a judge on: of a request, and of an answer that follows each request one sample later. The requests
+//! come from a linear congruential generator, so the same seed gives the same recording.
 #![tactic(auto)]
 
 ghost use Rattle.std.specs.Prelude.{◌≡◌, ◌≤◌, ℕ, Ok};
@@ -7,8 +8,10 @@ ghost use Rattle.vcd_writer.specs.Made.{made_text, made_sampled};
 ghost use Rattle.vcd_reader.specs.Meaning.{reading};
 ghost use Rattle.vcd_reader.specs.Rules.{sample_limit};
 
+mod lines;
 mod making;
 
+pub use lines::add_time;
 pub use making::make_recording;
 
 /// A law of the definitions, which runs nothing: up to the limit on samples, a made recording is read without a

@@ -1,8 +1,10 @@
-ghost use Rattle.std.specs.Prelude.{◌≡◌, ◌∷◌, [], ◌++◌, suc, IfOk, OnOk, decimal};
-ghost use Rattle.vcd_writer.specs.Generator.{number_after, number_at, bit_16, request_at, answer_at};
-ghost use Rattle.vcd_writer.specs.Made.{definitions, digit, line, made_text, sample_lines, samples_from};
+ghost use Rattle.std.specs.Prelude.{◌≡◌, ◌∷◌, [], ◌++◌, IfOk, OnOk};
+ghost use Rattle.vcd_writer.specs.Generator.{number_after, bit_16};
+ghost use Rattle.vcd_writer.specs.Lines.{sample_lines, value_lines};
+ghost use Rattle.vcd_writer.specs.Made.{made_codes, made_text};
 
-use psl_base::{Bytes, NoMemory, add_bytes, add_number};
+use crate::lines::add_time;
+use psl_base::{Bytes, NoMemory, add_bytes};
 use std::alloc::Global;
 
 const DEFINITIONS: &[u8] =
@@ -47,17 +49,15 @@ fn bit_16(number: u32) -> bool
 
 /// Adds the time of a sample and both values.
 fn add_sample(text: &mut Vec<u8>, sample: u32, request: bool, answer: bool) -> Result<(), NoMemory>
-    ensures { OnOk result (text.new.items ≡ text.old.items ++ (line (35 ∷ decimal sample) ++ line (digit request ∷ 33 ∷ []) ++ line (digit answer ∷ 34 ∷ []))) }
+    ensures { OnOk result (text.new.items ≡ text.old.items ++ sample_lines made_codes sample (request ∷ answer ∷ [])) }
 {
-    add_bytes(text, b"#")?;
-    add_number(text, u64::from(sample))?;
-    add_bytes(text, b"\n")?;
+    add_time(text, u64::from(sample))?;
     add_bytes(text, value_lines(request, answer))
 }
 
 /// The lines of a value of `req` and of one of `ack`.
 fn value_lines(request: bool, answer: bool) -> &'static [u8]
-    ensures { result.now ≡ line (digit request ∷ 33 ∷ []) ++ line (digit answer ∷ 34 ∷ []) }
+    ensures { result.now ≡ value_lines made_codes (request ∷ answer ∷ []) }
 {
     match (request, answer) {
         (false, false) => b"0!\n0\"\n",
