@@ -1,0 +1,31 @@
+ghost use Rattle.std.specs.Prelude.{◌≡◌, ℕ, ◌≤◌, length, Ok};
+ghost use Rattle.netlist.specs.Design.{Design};
+ghost use Rattle.netlist.specs.Runs.{IsRun, word};
+ghost use Rattle.netlist.specs.Sound.{IsSound};
+ghost use Rattle.netlist.specs.declared.run.Run.{Run};
+ghost use Rattle.psl_meaning.specs.Trace.{first, trace_of};
+ghost use Rattle.trace.specs.Examples.{AreTraced};
+ghost use Rattle.trace.specs.Letters.{letters_over};
+ghost use Rattle.trace.specs.Trace.{count_of, trace_sampled, trace_text};
+ghost use Rattle.trace.specs.Words.{HasWords};
+ghost use Rattle.vcd_reader.specs.Declarations.{bits_most};
+ghost use Rattle.vcd_reader.specs.Meaning.{reading};
+ghost use Rattle.vcd_reader.specs.Rules.{sample_limit};
+
+/// A law of the definitions, which runs nothing: up to the limits on signals and samples of a recording, the trace of a
+/// run is read without a fault where first names are words, and says just the values of the run.
+pub fn read_law()
+    ensures { (design : Design) (run : Run) (loops : ℕ) → IsRun design run → HasWords design → design.signals ≤ bits_most → count_of run loops ≤ sample_limit
+        → reading (trace_text design run loops) ≡ Ok (trace_sampled design run loops) }
+{}
+
+/// A law of the definitions: what a trace says are the first letters of the run's word, over the names of the netlist.
+pub fn word_law()
+    ensures { (design : Design) (run : Run) (loops : ℕ) → IsSound design → IsRun design run
+        → letters_over design.names (trace_sampled design run loops) ≡ first (count_of run loops) (trace_of (word design run)) }
+{}
+
+/// Traces worked out by hand.
+pub fn examples_law()
+    ensures { AreTraced }
+{}
