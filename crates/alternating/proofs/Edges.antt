@@ -8,8 +8,10 @@ use Rattle.alternating_theory.specs.Obligations.{Obligation}
 use Rattle.alternating_theory.proofs.Aborts.{same-test}
 use Rattle.alternating_theory.proofs.Sequences.{within-below}
 use Rattle.alternating_theory.proofs.Edges.{LeadBelow, alive-reaches, reaches-alive}
-use Rattle.alternating.specs.Views.{obligation_of, obligations_of_code}
+use Rattle.alternating.specs.Pending.{pending_of, pendings_of}
+use Rattle.alternating.specs.Views.{obligation_of}
 use Rattle.alternating.specs.declared.obligation.Obligation as code_obligation
+use Rattle.alternating.specs.declared.pending.Pending as code_pending
 use Rattle.sere_nfa.specs.Acceptance.{State, state_at}
 use Rattle.sere_nfa.specs.Views.{edge_of, edges_of}
 use Rattle.sere_nfa.specs.declared.edge.NfaEdge.{NfaEdge}
@@ -50,15 +52,15 @@ row-more f states i h old new y e g k =
 
 -- old obligations, and one more for one state more
 pub obligation-more : (f : State → Obligation) (states : List State) (i : ℕ) → i < length states → (front : List Obligation)
-    (old new : List code_obligation.Obligation) (o : code_obligation.Obligation)
-    → obligations_of_code old ≡ front ++ map f (take i states) → new ≡ old ++ o ∷ [] → obligation_of o ≡ f (state_at states i)
-    → obligations_of_code new ≡ front ++ map f (take (i + 1) states)
-obligation-more f states i h front old new o e g k =
-    ap (λ (l : List code_obligation.Obligation). map obligation_of l) g
-    ∙ map_push obligation_of old o
-    ∙ ap (λ (l : List Obligation). l ++ obligation_of o ∷ []) e
-    ∙ append_assoc front (map f (take i states)) (obligation_of o ∷ [])
-    ∙ ap (λ (p : Obligation). front ++ (map f (take i states) ++ p ∷ [])) k
+    (old new : List code_pending.Pending) (p : code_pending.Pending) (o : code_obligation.Obligation)
+    → pendings_of old ≡ front ++ map f (take i states) → new ≡ old ++ p ∷ [] → pending_of p ≡ obligation_of o → obligation_of o ≡ f (state_at states i)
+    → pendings_of new ≡ front ++ map f (take (i + 1) states)
+obligation-more f states i h front old new p o e g s k =
+    ap (λ (l : List code_pending.Pending). map pending_of l) g
+    ∙ map_push pending_of old p
+    ∙ ap (λ (l : List Obligation). l ++ pending_of p ∷ []) e
+    ∙ append_assoc front (map f (take i states)) (pending_of p ∷ [])
+    ∙ ap (λ (p : Obligation). front ++ (map f (take i states) ++ p ∷ [])) (s ∙ k)
     ∙ ap (λ (l : List Obligation). front ++ l) (sym (state-more f states i h))
 
 module _ (a : Automaton) (sound : IsSound a) where

@@ -1,10 +1,14 @@
+pub mod Alike
 pub mod Built
 pub mod Duals
 pub mod Edges
 pub mod Merging
 pub mod Search
+pub mod Settled
 pub mod Shown
 pub mod Trims
 pub mod Bits
 pub mod Stepping
 pub mod Tested
+pub mod Thrice
+pub mod Untils

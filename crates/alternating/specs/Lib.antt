@@ -1,3 +1,4 @@
+pub mod Alike
 pub mod AlternatingView
 pub mod Atoms
 pub mod Beyonds
@@ -7,6 +8,8 @@ pub mod Held
 pub mod Limits
 pub mod Negations
 pub mod Packed
+pub mod Parts
+pub mod Pending
 pub mod Search
 pub mod Sizes
 pub mod Stages

@@ -1,12 +1,10 @@
--- The program's obligations and parts as plain data.
+-- The program's obligations as plain data.
 use Rattle.std.specs.Prelude.{ℕ, List, map, All}
 use Rattle.psl_tree.specs.Trees.{boolean_of}
-use Rattle.alternating_theory.specs.Construction.{Part}
 use Rattle.alternating_theory.specs.Obligations.{Obligation}
 use Rattle.alternating_theory.specs.Positive.{Positive, Const, Holds, Owed, And, Or, OwesWithin}
 use Rattle.alternating.specs.declared.positive.Positive as code_positive
 use Rattle.alternating.specs.declared.obligation.Obligation as code_obligation
-use Rattle.alternating.specs.declared.part.Part as code_part
 
 -- the combination that a tree of the program stands for
 abbrev pub positive_of : code_positive.Positive → Positive
@@ -28,13 +26,6 @@ obligation_of obligation = record {
 abbrev pub obligations_of_code : List code_obligation.Obligation → List Obligation
 obligations_of_code obligations = map obligation_of obligations
 
-abbrev pub part_of_code : code_part.Part → Part
-part_of_code part = record { start = obligation_of part.start; rest = obligations_of_code part.rest.items }
-
 -- each number that is owed is at least low and below high
 abbrev pub ObligationsWithin : ℕ → ℕ → List code_obligation.Obligation → Type 0
 ObligationsWithin low high obligations = All (λ obligation. OwesWithin low high (positive_of obligation.delta)) obligations
-
--- so it is of the start and of the rest
-abbrev pub PartWithin : ℕ → ℕ → code_part.Part → Type 0
-PartWithin low high part = OwesWithin low high (positive_of part.start.delta) × ObligationsWithin low high part.rest.items

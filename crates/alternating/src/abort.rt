@@ -2,10 +2,13 @@ ghost use Rattle.std.specs.Prelude.{◌≡◌, ◌+◌, ◌-◌, ◌^◌, ◌<�
 ghost use Rattle.psl_tree.specs.Trees.{boolean_of};
 ghost use Rattle.alternating_theory.specs.Construction.{abort_part, cut_obligation};
 ghost use Rattle.alternating_theory.specs.Positive.{Or, OwesWithin};
-ghost use Rattle.alternating.specs.Views.{positive_of, obligation_of, obligations_of_code, part_of_code, ObligationsWithin, PartWithin};
+ghost use Rattle.alternating.specs.Parts.{part_of_code, PartWithin};
+ghost use Rattle.alternating.specs.Pending.{pendings_of, PendingWithin};
+ghost use Rattle.alternating.specs.Views.{positive_of, obligation_of};
 
 use crate::obligation::Obligation;
 use crate::part::{Part, add_all};
+use crate::pending::Pending;
 use crate::positive::one_of;
 use psl_base::NoMemory;
 use psl_tree::Bool;
@@ -21,9 +24,13 @@ pub(crate) fn abort(alloc: Global, part: Part, test: &Bool) -> Result<Part, NoMe
     let Part { start, mut rest } = part;
     let by = rest.len() as u32;
     let copies = cut_all(alloc, rest.as_slice(), test, by)?;
+    let start = start.settled(alloc)?;
     let first = cut_start(alloc, &start, test, by)?;
     add_all(&mut rest, copies)?;
-    Ok(Part { start: first, rest })
+    Ok(Part {
+        start: Pending::new(first),
+        rest,
+    })
 }
 
 // The start, or its copy that may be cut.
@@ -61,16 +68,16 @@ fn cut_start(
 
 fn cut_all(
     alloc: Global,
-    obligations: &[Obligation],
+    pendings: &[Pending],
     test: &Bool,
     by: u32,
-) -> Result<Vec<Obligation>, NoMemory>
-    requires { ObligationsWithin 0 (2 ^ 32 - by) obligations.now }
-    ensures { IfOk result (λ new. obligations_of_code new.items ≡ map (λ obligation. cut_obligation (λ number. number + by) (boolean_of test.now) obligation) (obligations_of_code obligations.now)) }
+) -> Result<Vec<Pending>, NoMemory>
+    requires { PendingWithin 0 (2 ^ 32 - by) pendings.now }
+    ensures { IfOk result (λ new. pendings_of new.items ≡ map (λ obligation. cut_obligation (λ number. number + by) (boolean_of test.now) obligation) (pendings_of pendings.now)) }
 {
     let mut copies = Vec::new(alloc);
-    for obligation in obligations {
-        let new = obligation.cut(alloc, test, by)?;
+    for pending in pendings {
+        let new = pending.cut(alloc, test, by)?;
         copies.push(new)?;
     }
     Ok(copies)

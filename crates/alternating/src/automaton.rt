@@ -21,6 +21,7 @@ use crate::marking::reached_marks;
 use crate::merge::{class_names, classes_of, firsts};
 use crate::obligation::Obligation;
 use crate::part::{Part, add};
+use crate::pending::settle_all;
 use crate::positive::Positive;
 use crate::step::{Beyond, fill, step};
 use crate::trim::{kept, names_of};
@@ -248,10 +249,11 @@ fn unmerged(alloc: Global, f: &Fl) -> Result<Alternating, NoMemory>
 {
     let Part {
         start: first,
-        rest: mut obligations,
+        mut rest,
     } = build(alloc, 0, f)?;
-    let start = obligations.len() as u32;
-    add(&mut obligations, first)?;
+    let start = rest.len() as u32;
+    add(&mut rest, first)?;
+    let obligations = settle_all(alloc, rest)?;
     trimmed(alloc, obligations.as_slice(), start)
 }
 

@@ -7,7 +7,7 @@ ghost use Rattle.sere_nfa.specs.Acceptance.{IsSound};
 ghost use Rattle.sere_nfa.specs.Construction.{nfa_of};
 ghost use Rattle.alternating_theory.specs.Construction.{abort_part, part_of, prefix_part, suffix_part};
 ghost use Rattle.alternating.specs.Limits.{HasLargeSequence};
-ghost use Rattle.alternating.specs.Views.{part_of_code, PartWithin};
+ghost use Rattle.alternating.specs.Parts.{part_of_code, PartWithin};
 
 use crate::abort::abort;
 use crate::part::{Part, and, next, not, now, until};
@@ -60,7 +60,7 @@ fn build_form(alloc: Global, offset: u32, f: &Fl) -> Result<Box<Part>, NoMemory>
         Fl::Strong(sequence) => prefix_of(alloc, offset, false, sequence),
         Fl::Not(part) => {
             let part = boxed_build(alloc, offset, part)?;
-            not(alloc, &part)
+            Ok(not(part))
         }
         Fl::And(left, right) => {
             let left = boxed_build(alloc, offset, left)?;

@@ -1,13 +1,15 @@
-ghost use Rattle.std.specs.Prelude.{◌≡◌, IfOk};
+ghost use Rattle.std.specs.Prelude.{◌≡◌, map, IfOk};
 ghost use Rattle.psl_tree.specs.Trees.{Not};
 ghost use Rattle.alternating_loops.specs.Laws.{LoopsOf};
+ghost use Rattle.alternating_theory.specs.Construction.{opposite_obligation};
 ghost use Rattle.alternating_theory.specs.Dual.{opposite_automaton};
 ghost use Rattle.alternating_theory.specs.Laws.{ValuesOf, NamesOf, SizeOf};
 ghost use Rattle.alternating.specs.Atoms.{KeepsAtoms};
 ghost use Rattle.alternating.specs.Negations.{OfItsFormula};
+ghost use Rattle.alternating.specs.Views.{obligations_of_code};
 
 use crate::automaton::Alternating;
-use crate::part::opposites;
+use crate::obligation::Obligation;
 use psl_base::NoMemory;
 use std::alloc::Global;
 
@@ -37,4 +39,16 @@ impl Alternating {
             obligations,
         })
     }
+}
+
+// The duals of obligations, in order.
+fn opposites(alloc: Global, obligations: &[Obligation]) -> Result<Vec<Obligation>, NoMemory>
+    ensures { IfOk result (λ new. obligations_of_code new.items ≡ map opposite_obligation (obligations_of_code obligations.now)) }
+{
+    let mut found = Vec::new(alloc);
+    for obligation in obligations {
+        let new = obligation.opposite(alloc)?;
+        found.push(new)?;
+    }
+    Ok(found)
 }

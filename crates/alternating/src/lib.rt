@@ -14,6 +14,7 @@ mod marking;
 mod merge;
 mod obligation;
 mod part;
+mod pending;
 mod positive;
 mod prefix;
 mod stage;

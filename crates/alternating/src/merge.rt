@@ -2,6 +2,7 @@ ghost use Rattle.std.specs.Prelude.{◌≡◌, ◌≤◌, ◌<◌, ◌+◌, ◌^
 ghost use Rattle.psl_tree.specs.Trees.{boolean_of};
 ghost use Rattle.alternating_theory.specs.Merged.{same_truth, same_boolean, same_literal, same_positive, same_obligation, class_in, first_from, classes_upto};
 ghost use Rattle.alternating_theory.specs.Positive.{renumbered};
+ghost use Rattle.alternating.specs.Alike.{owe_alike};
 ghost use Rattle.alternating.specs.Classes.{Firsts, ClassNames};
 ghost use Rattle.alternating.specs.Sizes.{delta_sizes};
 ghost use Rattle.alternating.specs.Supposed.{class_of, asked, asks_same};
@@ -142,7 +143,7 @@ fn same_truth(left: bool, right: bool) -> bool
     if left { right } else { !right }
 }
 
-// What is told apart soonest goes first: the values, and of combinations the right parts.
+// What is told apart soonest goes first: the values.
 fn same_obligation(left: &Obligation, right: &Obligation, classes: &Supposed) -> bool
     ensures { result ≡ same_obligation (asked classes.now (obligation_of left.now)) (asked classes.now (obligation_of right.now)) }
 {
@@ -150,7 +151,47 @@ fn same_obligation(left: &Obligation, right: &Obligation, classes: &Supposed) ->
         && (same_truth(left.end, right.end)
             && (same_truth(left.top, right.top)
                 && (same_truth(left.bottom, right.bottom)
-                    && same_positive(&left.delta, &right.delta, classes))))
+                    && same_delta(&left.delta, &right.delta, classes))))
+}
+
+// What they owe is compared first: the states of a sequence share what follows it, and any Boolean
+// may be large.
+fn same_delta(left: &Positive, right: &Positive, classes: &Supposed) -> bool
+    ensures { result ≡ same_positive (renumbered (class_of classes.now) (positive_of left.now)) (renumbered (class_of classes.now) (positive_of right.now)) }
+{
+    let alike = owe_alike(left, right, classes);
+    alike && same_positive(left, right, classes)
+}
+
+// Whether two combinations owe the same in the same places, as far as their forms agree.
+fn owe_alike(left: &Positive, right: &Positive, classes: &Supposed) -> bool
+    ensures { result ≡ owe_alike (renumbered (class_of classes.now) (positive_of left.now)) (renumbered (class_of classes.now) (positive_of right.now)) }
+{
+    match left {
+        Positive::Const(_) | Positive::Holds(_) => true,
+        Positive::Owed(number) => match right {
+            Positive::Owed(other) => classes.class_of(*number) == classes.class_of(*other),
+            Positive::Const(_) | Positive::Holds(_) | Positive::And(_, _) | Positive::Or(_, _) => {
+                true
+            }
+        },
+        Positive::And(first, second) => match right {
+            Positive::And(third, fourth) => {
+                owe_alike(first, third, classes) && owe_alike(second, fourth, classes)
+            }
+            Positive::Const(_) | Positive::Holds(_) | Positive::Owed(_) | Positive::Or(_, _) => {
+                true
+            }
+        },
+        Positive::Or(first, second) => match right {
+            Positive::Or(third, fourth) => {
+                owe_alike(first, third, classes) && owe_alike(second, fourth, classes)
+            }
+            Positive::Const(_) | Positive::Holds(_) | Positive::Owed(_) | Positive::And(_, _) => {
+                true
+            }
+        },
+    }
 }
 
 fn same_positive(left: &Positive, right: &Positive, classes: &Supposed) -> bool

@@ -26,6 +26,19 @@ pub(crate) struct Obligation {
 }
 
 impl Obligation {
+    /// An equal one.
+    pub(crate) fn copy(&self, alloc: Global) -> Result<Obligation, NoMemory>
+        ensures { IfOk result (λ new. obligation_of new ≡ obligation_of self.now) }
+    {
+        Ok(Obligation {
+            delta: self.delta.copy(alloc)?,
+            accepting: self.accepting,
+            end: self.end,
+            top: self.top,
+            bottom: self.bottom,
+        })
+    }
+
     /// The dual.
     pub(crate) fn opposite(&self, alloc: Global) -> Result<Obligation, NoMemory>
         ensures { IfOk result (λ new. obligation_of new ≡ opposite_obligation (obligation_of self.now)) }
@@ -63,19 +76,34 @@ impl Obligation {
     pub(crate) fn until(
         alloc: Global,
         number: u32,
-        left: &Obligation,
-        right: &Obligation,
+        left: Obligation,
+        right: Obligation,
     ) -> Result<Obligation, NoMemory>
-        ensures { IfOk result (λ new. obligation_of new ≡ until_obligation number (obligation_of left.now) (obligation_of right.now)) }
+        ensures { IfOk result (λ new. obligation_of new ≡ until_obligation number (obligation_of left) (obligation_of right)) }
     {
-        let again = all_of(alloc, left.delta.copy(alloc)?, Positive::Owed(number))?;
+        let (top, bottom) = (right.top, right.bottom);
+        let again = all_of(alloc, left.into_delta(), Positive::Owed(number))?;
         Ok(Obligation {
-            delta: one_of(alloc, right.delta.copy(alloc)?, again)?,
+            delta: one_of(alloc, right.into_delta(), again)?,
             accepting: false,
             end: false,
-            top: right.top,
-            bottom: right.bottom,
+            top,
+            bottom,
         })
+    }
+
+    /// What it asks.
+    pub(crate) fn into_delta(self) -> Positive
+        ensures { result ≡ self.delta }
+    {
+        let Obligation {
+            delta,
+            accepting: _,
+            end: _,
+            top: _,
+            bottom: _,
+        } = self;
+        delta
     }
 
     /// The copy that may be cut where the Boolean holds, and owes numbers that are larger by so many.

@@ -2,10 +2,13 @@ ghost use Rattle.std.specs.Prelude.{◌≡◌, ◌<◌, All, length, map, IfOk};
 ghost use Rattle.sere_nfa.specs.Views.{edge_of, edges_of};
 ghost use Rattle.alternating_theory.specs.Construction.{taken, taken_edge, prefix_obligation, prefix_part};
 ghost use Rattle.alternating.specs.Held.{HasStage};
-ghost use Rattle.alternating.specs.Views.{positive_of, obligation_of, obligations_of_code, part_of_code};
+ghost use Rattle.alternating.specs.Parts.{part_of_code};
+ghost use Rattle.alternating.specs.Pending.{pendings_of};
+ghost use Rattle.alternating.specs.Views.{positive_of, obligation_of};
 
 use crate::obligation::Obligation;
 use crate::part::{Part, add};
+use crate::pending::Pending;
 use crate::positive::{Positive, all_of, one_of};
 use crate::stage::{Stage, entry, goes_on};
 use psl_base::NoMemory;
@@ -23,9 +26,12 @@ pub(crate) fn prefix(alloc: Global, stage: &Stage, end: bool) -> Result<Part, No
     for state in 0..stage.nfa.len() as u32 {
         let edges = stage.nfa.edges(state).as_slice();
         let new = prefix_obligation(alloc, stage, end, edges)?;
-        add(&mut rest, new)?;
+        add(&mut rest, Pending::new(new))?;
     }
-    Ok(Part { start, rest })
+    Ok(Part {
+        start: Pending::new(start),
+        rest,
+    })
 }
 
 // A prefix of what follows is read over these edges.

@@ -5,10 +5,12 @@ ghost use Rattle.sere_nfa.specs.Views.{edge_of, edges_of};
 ghost use Rattle.alternating_theory.specs.Construction.{going, going_edge, quiet, quiet_edge, suffix_obligation, suffix_part};
 ghost use Rattle.alternating.specs.Held.{HasStage};
 ghost use Rattle.alternating.specs.Stages.{IsStage};
-ghost use Rattle.alternating.specs.Views.{positive_of, obligation_of, part_of_code};
+ghost use Rattle.alternating.specs.Parts.{part_of_code};
+ghost use Rattle.alternating.specs.Views.{positive_of, obligation_of};
 
 use crate::obligation::Obligation;
 use crate::part::{Part, add};
+use crate::pending::Pending;
 use crate::positive::{Positive, all_of, one_of};
 use crate::stage::{Stage, entry, goes_on};
 use psl_base::{NoMemory, boxed};
@@ -28,10 +30,8 @@ pub(crate) fn suffix(
     requires { IsStage nfa.now ongoing.now (offset + length part.rest.items) }
     ensures { IfOk result (λ new. part_of_code new ≡ suffix_part offset nfa.now (part_of_code part)) }
 {
-    let Part {
-        start: follows,
-        mut rest,
-    } = part;
+    let Part { start, mut rest } = part;
+    let follows = start.settled(alloc)?;
     let stage = Stage {
         nfa,
         ongoing,
@@ -42,9 +42,12 @@ pub(crate) fn suffix(
     for state in 0..nfa.len() as u32 {
         let edges = nfa.edges(state).as_slice();
         let new = suffix_obligation(alloc, &stage, true, &follows, edges)?;
-        add(&mut rest, new)?;
+        add(&mut rest, Pending::new(new))?;
     }
-    Ok(Part { start, rest })
+    Ok(Part {
+        start: Pending::new(start),
+        rest,
+    })
 }
 
 // Each prefix that is read over these edges is followed by what the part asks, from its last letter
