@@ -1,2 +1,13 @@
+pub mod Closed
+pub mod Connecting
+pub mod Drivers
 pub mod ExamplesHold
+pub mod Few
+pub mod Forming
+pub mod Freeing
+pub mod Gathering
+pub mod Indexes
+pub mod Offering
+pub mod Sets
 pub mod Unknowing
+pub mod Weaving

@@ -6,6 +6,8 @@ use Rattle.std.specs.Str.{bytes_eq}
 use Rattle.psl_base.specs.Tokens.{PlacedToken}
 use Rattle.blif_model.specs.Files.{Part}
 use Rattle.blif_model.specs.Models.{Model, Statement, IsInputs, IsOutputs}
+pub use Rattle.blif_linking.specs.declared.role.Role.{Role}
+pub use Rattle.blif_linking.specs.declared.role.Role.TheVariants.{Input, Output, Clock}
 
 abbrev pub texts_of : List PlacedToken → List (List ℕ)
 texts_of words = map (λ word. word.text) words
@@ -19,12 +21,6 @@ abbrev pub outputs_in : List Statement → List (List ℕ)
 outputs_in [] = []
 outputs_in (IsOutputs words ∷ statements) = texts_of words ++ outputs_in statements
 outputs_in (statement ∷ statements) = outputs_in statements
-
--- what a name is to those who place its model
-pub data Role : Type 0 where
-  Input : Role
-  Output : Role
-  Clock : Role
 
 abbrev pub is_one_of : List (List ℕ) → List ℕ → Bool
 is_one_of names name = list_any (bytes_eq name) names

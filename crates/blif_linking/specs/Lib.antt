@@ -1,6 +1,13 @@
+pub mod Bad
 pub mod Connected
+pub mod Driving
 pub mod Examples
 pub mod Interfaces
 pub mod Linked
 pub mod Links
 pub mod Names
+pub mod Naming
+pub mod Numbering
+pub mod Offers
+pub mod Sets
+pub mod Undriven

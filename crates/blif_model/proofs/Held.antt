@@ -206,8 +206,14 @@ module _ (size : ℕ) where
               holds.part.placed all;
           mentioned = omega (arith, some, room, holds.part.mentioned, said-few file.own.model commands.Clock []);
           many =
-              omega (arith, some, room, holds.part.many, words-few words all.1,
-              words-push file.placings (record { head = head; words = words; before = length file.own.model.statements }));
+              omega (
+                arith,
+                some,
+                room,
+                holds.part.many,
+                words-few words all.1,
+                words-push file.placings (record { head = head; words = words; before = length file.own.model.statements }),
+              );
         };
       }
   by-step file (Own command) head words before most all none room holds =

@@ -39,8 +39,7 @@ said-all names [] held = tt
 said-all names (statement ∷ statements) held =
     let split = subst (HoldAll names) (map-append (λ (mention : Mention). mention.word) (mentions_in statement) (all_mentions statements)) held in
     let words = words_of_mentions (mentions_in statement) in
-    let rest = words_of_mentions (all_mentions statements) in
-    (
+    let rest = words_of_mentions (all_mentions statements) in (
       subst (HoldAll names) (words-said statement) (hold-front names words rest split),
       said-all names statements (hold-back names words rest split),
     )

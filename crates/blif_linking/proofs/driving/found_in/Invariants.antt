@@ -1,0 +1,10 @@
+use Rattle.std.proofs.Common.{◌≡◌, [], drop, map}
+use Rattle.blif_model.specs.FileKnown.{placing_in}
+use Rattle.blif_model.specs.Names.{place_of}
+use Rattle.blif_linking.specs.Driving.{found_in}
+use Rattle.blif_linking.proofs.driving.found_in.Given as goal
+
+abbrev pub invariant-loop-line : goal.invariant-loop-line
+invariant-loop-line l =
+    found_in (place_of l.titles) l.interfaces [] (map (placing_in l.whole) l.lines)
+    ≡ found_in (place_of l.titles) l.interfaces l.found (map (placing_in l.whole) (drop l.line-index l.lines))

@@ -1,0 +1,10 @@
+use Rattle.std.proofs.Common.{◌≡◌, drop, map}
+use Rattle.blif_model.specs.FileKnown.{part_in}
+use Rattle.blif_model.specs.Names.{place_of}
+use Rattle.blif_linking.specs.Driving.{twice_among}
+use Rattle.blif_linking.proofs.driving.twice_among.Given as goal
+
+abbrev pub invariant-loop-model : goal.invariant-loop-model
+invariant-loop-model l =
+    twice_among (place_of l.titles) l.interfaces (map (part_in l.whole) l.models)
+    ≡ twice_among (place_of l.titles) l.interfaces (map (part_in l.whole) (drop l.model-index l.models))
