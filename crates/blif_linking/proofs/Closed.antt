@@ -1,26 +1,22 @@
 -- Models that are linked place each other, where each that is placed is there.
-use Rattle.std.proofs.Common.{◌≡◌, ◌⊎◌, ℕ, zero, suc, ◌+◌, ◌-◌, ◌<◌, Bool, true, false, cond, List, [], ◌∷◌, ◌++◌, length, map, take, drop, Option, None, Some, is_none, refl, sym, ap, ◌∙◌, subst, ⊎_elim, inl, inr, arith}
+use Rattle.std.proofs.Common.{◌≡◌, ℕ, zero, suc, ◌+◌, ◌-◌, ◌<◌, Bool, true, false, cond, List, [], ◌∷◌, length, map, take, drop, Option, None, Some, is_none, refl, sym, subst, ⊎_elim, inl, inr, arith}
 use Rattle.std.specs.Prelude.{option_and_then}
 use Rattle.std.proofs.lemmas.List.{length-map, map-append}
 use Rattle.std.specs.List.{position_from}
-use Rattle.std.specs.Option.{option_or}
 use Rattle.psl_base.specs.Tokens.{PlacedToken}
-use Rattle.flattening.specs.declared.model.Item.{Item}
-use Rattle.flattening.specs.declared.model.Item.TheVariants.{Own, Place}
+use Rattle.flattening.specs.declared.model.Item.TheVariants.{Place}
 use Rattle.flattening.specs.declared.model.Placement.{Placement}
-use Rattle.flattening.specs.declared.model.Model.{Model as NumberedModel}
 use Rattle.flattening.specs.Hierarchy.{items_of}
 use Rattle.flattening.specs.Members.{Among}
 use Rattle.flattening.proofs.Members.{from_append}
 use Rattle.model_hierarchy.specs.First.{IsClosed}
-use Rattle.blif_model.specs.declared.line.ModelLine.{ModelLine}
 use Rattle.blif_model.specs.Files.{Part, Placing, is_named, model_named}
 use Rattle.blif_model.specs.Models.{Model, Statement}
 use Rattle.blif_model.specs.Names.{number_at}
 use Rattle.blif_model.proofs.Holding.{or_none}
 use Rattle.blif_linking.specs.Linked.{item_of, linked, linked_model}
 use Rattle.blif_linking.specs.Links.{title_in}
-use Rattle.blif_linking.specs.Names.{Entry, Says, Places, entries_from, entries_of, first_some, first_unknown, number_placed, unknown_by, unknown_word}
+use Rattle.blif_linking.specs.Names.{Says, Places, entries_from, first_some, first_unknown, number_placed, unknown_by, unknown_word}
 
 -- the number of a model is below their count
 by-test : (b : Bool) (i n count : ℕ) (later : Option ℕ) → i < count → cond b (Some i) later ≡ Some n → (later ≡ Some n → n < count) → n < count

@@ -1,5 +1,5 @@
 -- The first connection that drives what is driven already, by what the models offer, is that of the text.
-use Rattle.std.proofs.Common.{◌≡◌, ℕ, Bool, true, false, not, ◌&&◌, ◌||◌, cond, List, [], ◌∷◌, ◌++◌, length, map, Option, None, Some, refl, sym, ap, ◌∙◌, subst}
+use Rattle.std.proofs.Common.{◌≡◌, ℕ, Bool, true, false, ◌&&◌, ◌||◌, cond, List, [], ◌∷◌, ◌++◌, map, Option, None, Some, refl, sym, ap, ◌∙◌, subst}
 use Rattle.std.proofs.lemmas.List.{append-nil, append_assoc}
 use Rattle.std.proofs.lemmas.List.Folds.{list_any-append}
 use Rattle.std.specs.List.{flat_map, list_any}
@@ -11,20 +11,20 @@ use Rattle.blif_model.specs.declared.file.FileText.{FileText}
 use Rattle.blif_model.specs.declared.pieces.Span.{Span}
 use Rattle.blif_model.specs.FileKnown.{OwnLines, numbered_part, part_in}
 use Rattle.blif_model.specs.Files.{Part, Placing}
-use Rattle.blif_model.specs.Models.{Mention, Model, driven, is_driven, names_of, used}
+use Rattle.blif_model.specs.Models.{Mention, Model, driven, is_driven, used}
 use Rattle.blif_model.specs.Names.{Named, named_by, place_of}
 use Rattle.blif_model.specs.Scanning.{word_of}
 use Rattle.blif_model.proofs.Naming.{driven_at, naming-names, tracks-named}
 use Rattle.blif_linking.specs.declared.interface.Interface.{Interface}
 use Rattle.blif_linking.specs.Bad.{IsReadAs, offered}
-use Rattle.blif_linking.specs.Driving.{driven_actual, driven_as, flag_at, found_by, found_for, found_in, found_with, is_twice, lines_drive, twice_among, twice_by, twice_for, twice_in, twice_within}
+use Rattle.blif_linking.specs.Driving.{driven_actual, driven_as, flag_at, found_by, found_for, found_in, found_with, is_twice, lines_drive, twice_among, twice_by, twice_for, twice_in}
 use Rattle.blif_linking.specs.Interfaces.{Role, Input, Output, Clock, is_one_of, role_of}
 use Rattle.blif_linking.specs.Links.{Link, connections_in, link_of, title_in}
 use Rattle.blif_linking.specs.Names.{actual_at, driven_from, driven_word, first_driven, first_some, mention_by_role, mention_linked, mentions_by, mentions_placed, placed}
-use Rattle.blif_linking.specs.Offers.{interface_in, role_in}
+use Rattle.blif_linking.specs.Offers.{interface_in}
 use Rattle.blif_linking.proofs.Connecting.{Agree, AllOffer, Numbers, placed-agree, read-offers}
 use Rattle.blif_linking.proofs.Offering.{Offers}
-use Rattle.blif_linking.proofs.Sets.{any-name, or-assoc, or-false}
+use Rattle.blif_linking.proofs.Sets.{any-name, or-false}
 
 -- the place of a word, where there is one
 abbrev pub at_place : Option PlacedToken → Option Place

@@ -1,16 +1,14 @@
 -- Models that are linked connect names of the models that they place, each once, where no connection is at fault.
-use Rattle.std.proofs.Common.{◌≡◌, ◌⊎◌, ℕ, zero, suc, ◌+◌, ◌-◌, ◌<◌, Bool, true, false, not, ◌||◌, cond, List, [], ◌∷◌, ◌++◌, length, map, take, drop, fold, Option, None, Some, is_none, refl, sym, ap, ◌∙◌, subst, inl, inr, ⊎_elim}
+use Rattle.std.proofs.Common.{◌≡◌, ℕ, zero, suc, ◌-◌, ◌<◌, Bool, true, false, not, ◌||◌, cond, List, [], ◌∷◌, ◌++◌, length, map, take, drop, fold, Option, None, Some, is_none, refl, sym, ap, ◌∙◌, subst, inl, inr, ⊎_elim}
 use Rattle.std.specs.Prelude.{option_and_then, slice_get}
-use Rattle.std.proofs.lemmas.List.{length-map, map-append}
+use Rattle.std.proofs.lemmas.List.{map-append}
 use Rattle.std.proofs.lemmas.List.Folds.{list_any-append}
 use Rattle.std.proofs.lemmas.Slice.Eq.{bytes_eq-Decides}
 use Rattle.std.specs.List.{flat_map, list_any}
-use Rattle.std.specs.Option.{option_or}
 use Rattle.std.specs.Str.{bytes_eq}
 use Rattle.psl_base.specs.Tokens.{PlacedToken}
 use Rattle.flattening.specs.declared.model.Connection.{Connection}
-use Rattle.flattening.specs.declared.model.Item.{Item}
-use Rattle.flattening.specs.declared.model.Item.TheVariants.{Own, Place}
+use Rattle.flattening.specs.declared.model.Item.TheVariants.{Place}
 use Rattle.flattening.specs.declared.model.Placement.{Placement}
 use Rattle.flattening.specs.Hierarchy.{items_of}
 use Rattle.flattening.specs.Instances.{names_of as count_of}
@@ -18,13 +16,11 @@ use Rattle.flattening.specs.Members.{Among, Apart}
 use Rattle.flattening.proofs.Members.{from_append, from_map}
 use Rattle.model_hierarchy.specs.Drivers.{IsInForm}
 use Rattle.model_hierarchy.specs.Sums.{AreInForm}
-use Rattle.blif_model.specs.declared.line.ModelLine.{ModelLine}
 use Rattle.blif_model.specs.Files.{Part, Placing, model_named}
 use Rattle.blif_model.specs.Models.{Mention, Model, Statement, IsInputs, IsOutputs, IsLatch, IsTable, driven, used, with_name}
 use Rattle.blif_model.specs.Names.{number_at, place_of}
 use Rattle.blif_model.proofs.Holding.{or_none}
-use Rattle.blif_model.proofs.Mentioned.{all_mentions, mentions_in}
-use Rattle.blif_model.proofs.Naming.{place_of-at}
+use Rattle.blif_model.proofs.Mentioned.{all_mentions}
 use Rattle.blif_model.proofs.Places.{place_of-within}
 use Rattle.blif_model.proofs.Saying.{text-placed}
 use Rattle.blif_linking.specs.Interfaces.{Role, Input, Output, Clock, inputs_in, is_one_of, outputs_in, role_of, texts_of}

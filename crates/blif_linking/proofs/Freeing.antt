@@ -1,8 +1,7 @@
 -- The first use of a name that nothing drives, by what the models offer, is that of the text.
 use Rattle.std.proofs.Common.{◌≡◌, ◌⊎◌, ℕ, ◌-◌, ◌<◌, ◌≤◌, Bool, true, false, not, ◌&&◌, ◌||◌, cond, List, [], ◌∷◌, ◌++◌, length, map, take, drop, slice_index_or, Option, None, Some, is_none, zero, suc, refl, sym, ap, ◌∙◌, subst, inl, inr, arith}
-use Rattle.std.proofs.lemmas.List.{append-nil, append_assoc, drop-map, drop_all, get_or-map, map-append, take-map, take-append-drop}
+use Rattle.std.proofs.lemmas.List.{append_assoc, drop-map, drop_all, get_or-map, map-append, take-map, take-append-drop}
 use Rattle.std.proofs.lemmas.List.Folds.{find-append, list_any-append}
-use Rattle.std.proofs.lemmas.Slice.Eq.{bytes_eq-Decides}
 use Rattle.std.specs.List.{find, flat_map, list_any}
 use Rattle.std.specs.Option.{option_map, option_or}
 use Rattle.std.specs.Str.{bytes_eq}
@@ -16,9 +15,9 @@ use Rattle.blif_model.specs.FileKnown.{OwnLines, numbered_part, part_in}
 use Rattle.blif_model.specs.Files.{Part, Placing}
 use Rattle.blif_model.specs.Meaning.{is_undriven}
 use Rattle.blif_model.specs.Models.{Mention, Model, Statement, IsInputs, IsOutputs, IsLatch, IsTable, driven, is_driven, names_of, used}
-use Rattle.blif_model.specs.Names.{Named, named_by, nothing_named, number_at, number_of, place_of}
+use Rattle.blif_model.specs.Names.{named_by, nothing_named, number_at, number_of, place_of}
 use Rattle.blif_model.specs.Numbered.{items_of, line_of, words_in}
-use Rattle.blif_model.proofs.Held.{PartHolds, PartsHold, parts-hold}
+use Rattle.blif_model.proofs.Held.{PartsHold, parts-hold}
 use Rattle.blif_model.proofs.Knowing.{HoldAll, HoldSaid, words_of_mentions}
 use Rattle.blif_model.proofs.Mentioned.{all_mentions, all_mentions-append, mentions_in}
 use Rattle.blif_model.proofs.Naming.{naming-names}
@@ -32,12 +31,12 @@ use Rattle.blif_linking.specs.Interfaces.{Role, Input, Output, Clock, is_one_of,
 use Rattle.blif_linking.specs.Links.{Link, connections_in, link_of, title_in}
 use Rattle.blif_linking.specs.Names as names
 use Rattle.blif_linking.specs.Names.{Entry, Says, Places, actual_at, entries_from, entries_of, first_some, first_undriven, mention_by_role, mention_linked, mentions_by, mentions_entered, mentions_placed, mentions_said, placed, undriven_word}
-use Rattle.blif_linking.specs.Offers.{interface_in, role_in}
+use Rattle.blif_linking.specs.Offers.{interface_in}
 use Rattle.blif_linking.specs.Undriven.{first_free, free_by, free_for, free_from, free_names, is_free, is_free_use, items_free, some_free, undriven_among, undriven_within, used_actual, used_as}
 use Rattle.blif_linking.proofs.Connecting.{Agree, AllOffer, Numbers, placed-agree, read-offers}
 use Rattle.blif_linking.proofs.Drivers.{Finds, all-found, at_place, own-flags, place-or}
 use Rattle.blif_linking.proofs.Offering.{Offers}
-use Rattle.blif_linking.proofs.Sets.{or-assoc, or-false}
+use Rattle.blif_linking.proofs.Sets.{or-false}
 
 -- what stands in a model mentions what its lines mention and what is placed
 pub said-same : (statement : Statement) → mentions_said statement ≡ mentions_in statement

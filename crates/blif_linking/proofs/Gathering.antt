@@ -25,7 +25,7 @@ use Rattle.blif_linking.specs.Linked.{linked_texts}
 use Rattle.blif_linking.specs.Links.{Link, connections_in, link_of, title_in}
 use Rattle.blif_linking.specs.Names.{actual_at, entries_from, mention_by_role, mention_linked, mentions_by, mentions_entered, mentions_placed, names_in, placed}
 use Rattle.blif_linking.specs.Naming.{mentioned_actual, mentioned_as, named_by, named_for, named_from, named_in, named_within}
-use Rattle.blif_linking.specs.Offers.{interface_in, role_in}
+use Rattle.blif_linking.specs.Offers.{interface_in}
 use Rattle.blif_linking.specs.Sets.{gathered, text_at}
 use Rattle.blif_linking.proofs.Connecting.{Agree, AllOffer, Numbers, placed-agree, read-offers}
 use Rattle.blif_linking.proofs.Offering.{Offers}

@@ -2,7 +2,6 @@
 use Rattle.std.proofs.Common.{◌≡◌, ℕ, zero, suc, add-one, ◌+◌, ◌-◌, ◌<◌, List, [], ◌∷◌, ◌++◌, length, map, take, drop, slice_index, slice_index_or, Option, None, Some, refl, sym, ap, ◌∙◌, subst}
 use Rattle.std.specs.Prelude.{option_and_then, slice_get}
 use Rattle.std.proofs.lemmas.List.{append_assoc, drop-map, get_or-map, map-append, take-map}
-use Rattle.std.specs.List.{flat_map}
 use Rattle.psl_base.specs.Tokens.{PlacedToken}
 use Rattle.flattening.specs.declared.model.Connection.{Connection}
 use Rattle.flattening.specs.declared.model.Item.{Item}
@@ -22,10 +21,10 @@ use Rattle.blif_model.proofs.Saying.{said-held, text-placed}
 use Rattle.blif_linking.specs.declared.interface.Interface.{Interface}
 use Rattle.blif_linking.specs.Bad.{IsReadAs, offered}
 use Rattle.blif_linking.specs.Interfaces.{Role, Input, Output, Clock, role_of}
-use Rattle.blif_linking.specs.Linked.{item_of, joined, joined_all, joined_by_role, joined_link, linked, linked_model, linked_texts}
+use Rattle.blif_linking.specs.Linked.{item_of, joined_all, joined_by_role, joined_link, linked, linked_model, linked_texts}
 use Rattle.blif_linking.specs.Links.{Link, connections_in, link_of, title_in}
-use Rattle.blif_linking.specs.Names.{Entry, Says, Places, entries_from, entries_of, names_in, number_placed, placed}
-use Rattle.blif_linking.specs.Numbering.{joined_as, joined_by, joined_for, joined_one, model_number, number_in, numbered_among, numbered_within, placement_in, renumbered, woven}
+use Rattle.blif_linking.specs.Names.{Says, Places, entries_from, names_in, number_placed, placed}
+use Rattle.blif_linking.specs.Numbering.{joined_as, joined_by, joined_for, joined_one, number_in, numbered_among, numbered_within, placement_in, renumbered, woven}
 use Rattle.blif_linking.specs.Offers.{interface_in}
 use Rattle.blif_linking.proofs.Connecting.{Agree, AllOffer, Numbers, placed-agree, read-offers, same-number}
 use Rattle.blif_linking.proofs.Indexes.{drop-get}

@@ -6,7 +6,6 @@ use Rattle.blif_model.specs.declared.file.FileText.{FileText}
 use Rattle.blif_model.specs.FileKnown.{IsNumbered}
 use Rattle.blif_model.specs.Files.{Part, Placing, models_of}
 use Rattle.blif_model.specs.Models.{Model, with_name}
-use Rattle.blif_model.specs.Names.{place_of}
 use Rattle.std.specs.Prelude.{◌≡◌, Ok}
 use Rattle.blif_linking.specs.declared.interface.Interface.{Interface}
 use Rattle.blif_linking.specs.Interfaces.{is_one_of}

@@ -1,6 +1,5 @@
 -- What a model offers to those who place it, by the numbers of its names.
 use Rattle.std.specs.Prelude.{ℕ, Bool, true, false, cond, List, [], ◌∷◌, map, Option, None, Some}
-use Rattle.psl_base.specs.Tokens.{PlacedToken}
 use Rattle.flattening.specs.declared.model.Item.{Item}
 use Rattle.flattening.specs.declared.model.Item.TheVariants.{Own, Place}
 use Rattle.blif_model.specs.declared.file.FileModel.{FileModel}
