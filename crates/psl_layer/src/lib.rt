@@ -1,5 +1,5 @@
 //! The meaning of a whole text of the Property Specification Language: its directives in the kernel, over the names of
-//! signals, or its first fault (IEEE 1850, clauses 5 to 7).
+//! signals, or its first fault (IEEE 1850, clauses 5 to 7); and the rule by which a name stands for a signal.
 #![tactic(auto)]
 
 mod declarations;
@@ -7,5 +7,6 @@ mod directives;
 mod statements;
 mod texts;
 
-pub use psl_elaboration::LayerFault;
+pub use psl_elaboration::{Found, LayerFault};
+pub use psl_names::{NameIndex, look_up};
 pub use texts::resolve;
