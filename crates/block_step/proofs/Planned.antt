@@ -6,7 +6,7 @@ use Rattle.std.proofs.lemmas.List.{get_or_append_left, get_or_push, length_push}
 use Rattle.psl_tree.specs.Trees.{boolean_of}
 use Rattle.psl_tree.specs.declared.boolean.Bool as code_boolean
 use Rattle.alternating_theory.specs.Obligations.{Automaton, obligation_at}
-use Rattle.alternating_theory.specs.Positive.{Positive, And, Or, Holds}
+use Rattle.alternating_theory.specs.Positive.{Positive, And, Or, Holds, Owed}
 use Rattle.block_step.specs.Plan.{test_at, bare_positive, combination_of, NodeWithin, IsGrown, StandFor}
 use Rattle.block_step.specs.declared.plan.Node as code_node
 
@@ -21,6 +21,8 @@ pub kept-node : (old new : List code_boolean.Bool) → IsGrown old new → (coun
 kept-node old new grown count (code_node.Const _) h = refl
 kept-node old new grown count (code_node.Holds k) h = ap Holds (same-test old new grown k h)
 kept-node old new grown count (code_node.Owed _) h = refl
+kept-node old new grown count (code_node.Both k n) h = ap (λ b. And (Holds b) (Owed n)) (same-test old new grown k h.0)
+kept-node old new grown count (code_node.Either k n) h = ap (λ b. Or (Holds b) (Owed n)) (same-test old new grown k h.0)
 kept-node old new grown count (code_node.And' _ left _ right) h =
     let x = kept-node old new grown count left h.0 in let y = kept-node old new grown count right h.1 in cc
 kept-node old new grown count (code_node.Or' _ left _ right) h =
@@ -30,6 +32,8 @@ pub kept-within : (tests more count : ℕ) → tests ≤ more → (node : code_n
 kept-within tests more count le (code_node.Const _) h = tt
 kept-within tests more count le (code_node.Holds k) h = omega (arith, h)
 kept-within tests more count le (code_node.Owed _) h = h
+kept-within tests more count le (code_node.Both k _) h = (omega (arith, h.0), h.1)
+kept-within tests more count le (code_node.Either k _) h = (omega (arith, h.0), h.1)
 kept-within tests more count le (code_node.And' _ left _ right) h = (kept-within tests more count le left h.0, kept-within tests more count le right h.1)
 kept-within tests more count le (code_node.Or' _ left _ right) h = (kept-within tests more count le left h.0, kept-within tests more count le right h.1)
 

@@ -2,6 +2,7 @@
 use Rattle.std.specs.Prelude.{◌≡◌, ℕ, List, length, All}
 use Rattle.psl_tree.specs.declared.atom.Atom.{Atom}
 use Rattle.alternating_theory.specs.Obligations.{Automaton}
+use Rattle.alternating_theory.specs.Positive.{Positive}
 use Rattle.block_step.specs.Block.{MeetsAll, AreAllBlockValues}
 use Rattle.block_step.specs.Plan.{combination_of, NodeWithin, IsPlan, TestsTell}
 use Rattle.block_step.specs.declared.equations.Equations.{Equations}
@@ -19,12 +20,16 @@ pub record AreEquations (automaton : Automaton) (atoms : List Atom) (columns : L
   pub plan : IsPlan automaton equations.plan.now
   pub tests : TestsTell atoms columns equations.plan.now.tests.items equations.tests.now
 
--- words are found for a node: they say at which letters its combination is met
-abbrev pub MeetsNode : Equations → List Words → Node → Words → Type 0
-MeetsNode equations words node found =
+-- words are found for a combination: they say at which letters it is met
+abbrev pub Meets : Equations → List Words → Positive → Words → Type 0
+Meets equations words combination found =
     (atoms : List Atom) (columns : List ℕ) → TestsTell atoms columns equations.plan.now.tests.items equations.tests.now
     → length equations.tests.now ≡ length equations.plan.now.tests.items
-    → MeetsAll atoms columns equations.after.now words (combination_of equations.plan.now.tests.items node) found
+    → MeetsAll atoms columns equations.after.now words combination found
+
+-- so they are for a node
+abbrev pub MeetsNode : Equations → List Words → Node → Words → Type 0
+MeetsNode equations words node found = Meets equations words (combination_of equations.plan.now.tests.items node) found
 
 -- words are the values of each automaton at all letters that have these equations
 abbrev pub AreSolution : Equations → List Words → Type 0

@@ -31,6 +31,8 @@ abbrev pub combination_of : List code_boolean.Bool → code_node.Node → Positi
 combination_of tests (code_node.Const value) = Const value
 combination_of tests (code_node.Holds number) = Holds (test_at tests number)
 combination_of tests (code_node.Owed number) = Owed number
+combination_of tests (code_node.Both test number) = And (Holds (test_at tests test)) (Owed number)
+combination_of tests (code_node.Either test number) = Or (Holds (test_at tests test)) (Owed number)
 combination_of tests (code_node.And' _ left _ right) = And (combination_of tests left) (combination_of tests right)
 combination_of tests (code_node.Or' _ left _ right) = Or (combination_of tests left) (combination_of tests right)
 
@@ -39,6 +41,8 @@ abbrev pub NodeWithin : ℕ → ℕ → code_node.Node → Type 0
 NodeWithin count tests (code_node.Const _) = Unit {0}
 NodeWithin count tests (code_node.Holds number) = number < tests
 NodeWithin count tests (code_node.Owed number) = number < count
+NodeWithin count tests (code_node.Both test number) = (test < tests) × (number < count)
+NodeWithin count tests (code_node.Either test number) = (test < tests) × (number < count)
 NodeWithin count tests (code_node.And' _ left _ right) = NodeWithin count tests left × NodeWithin count tests right
 NodeWithin count tests (code_node.Or' _ left _ right) = NodeWithin count tests left × NodeWithin count tests right
 

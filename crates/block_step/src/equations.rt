@@ -1,6 +1,7 @@
-ghost use Rattle.std.specs.Prelude.{◌≡◌, IsTrue, length};
-ghost use Rattle.block_step.specs.Equations.{IsReady, MeetsNode, AreSolution};
-ghost use Rattle.block_step.specs.Plan.{NodeWithin};
+ghost use Rattle.std.specs.Prelude.{◌≡◌, ◌<◌, IsTrue, length};
+ghost use Rattle.alternating_theory.specs.Positive.{Holds, Owed};
+ghost use Rattle.block_step.specs.Equations.{IsReady, Meets, MeetsNode, AreSolution};
+ghost use Rattle.block_step.specs.Plan.{NodeWithin, test_at};
 
 use crate::plan::{Node, Plan};
 use crate::words::{Words, filled};
@@ -42,13 +43,30 @@ impl Equations<'_> {
     {
         match node {
             Node::Const(value) => Words::same(filled(*value)),
-            Node::Holds(number) => Words::same(self.tests[*number]),
-            Node::Owed(number) => {
-                let number = *number as usize;
-                words[number].next(self.after[number])
-            }
+            Node::Holds(test) => self.held(*test, words),
+            Node::Owed(number) => self.owed(*number, words),
+            Node::Both(test, number) => self.held(*test, words).and(self.owed(*number, words)),
+            Node::Either(test, number) => self.held(*test, words).or(self.owed(*number, words)),
             Node::And(left, right) => self.met(left, words).and(self.met(right, words)),
             Node::Or(left, right) => self.met(left, words).or(self.met(right, words)),
         }
+    }
+
+    // At which of the letters a Boolean holds.
+    fn held(&self, test: usize, words: &[Words]) -> Words
+        requires { test < length self.now.tests.now }
+        ensures { Meets self.now words.now (Holds (test_at self.now.plan.now.tests.items test)) result }
+    {
+        Words::same(self.tests[test])
+    }
+
+    // The values of an obligation at the next place.
+    fn owed(&self, number: u32, words: &[Words]) -> Words
+        requires number { number < length self.now.after.now }
+        requires words { length words.now ≡ length self.now.after.now }
+        ensures { Meets self.now words.now (Owed number) result }
+    {
+        let place = number as usize;
+        words[place].next(self.after[place])
     }
 }

@@ -11,11 +11,14 @@ use psl_tree::Bool;
 use std::alloc::Global;
 
 /// A combination whose Booleans stand apart, so that each different one is looked at once a block: `Holds` has the
-/// number of one, `Owed` that of an obligation.
+/// number of one, `Owed` that of an obligation. `Both` and `Either` are a Boolean and, or or, an obligation in one
+/// node: a sequence's state asks one such pair for each of its edges.
 pub(crate) enum Node {
     Const(bool),
     Holds(usize),
     Owed(u32),
+    Both(usize, u32),
+    Either(usize, u32),
     And(Box<Node>, Box<Node>),
     Or(Box<Node>, Box<Node>),
 }
@@ -27,6 +30,7 @@ impl Drop for Node {
         loop {
             match self {
                 Node::Const(_) | Node::Holds(_) | Node::Owed(_) => return,
+                Node::Both(_, _) | Node::Either(_, _) => return,
                 Node::And(_left, right) | Node::Or(_left, right) => self = Box::into_inner(right),
             }
         }
@@ -90,6 +94,9 @@ fn all_of(alloc: Global, left: Node, right: Node) -> Result<Node, NoMemory>
     ensures same { IfOk result (λ node. (tests : List code_boolean.Bool) → combination_of tests node ≡ And (combination_of tests left) (combination_of tests right)) }
     ensures within { IfOk result (λ node. (count tests : ℕ) → NodeWithin count tests left → NodeWithin count tests right → NodeWithin count tests node) }
 {
+    if let (Node::Holds(test), Node::Owed(number)) = (&left, &right) {
+        return Ok(Node::Both(*test, *number));
+    }
     let left = boxed(alloc, left)?;
     Ok(Node::And(left, boxed(alloc, right)?))
 }
@@ -98,6 +105,9 @@ fn one_of(alloc: Global, left: Node, right: Node) -> Result<Node, NoMemory>
     ensures same { IfOk result (λ node. (tests : List code_boolean.Bool) → combination_of tests node ≡ Or (combination_of tests left) (combination_of tests right)) }
     ensures within { IfOk result (λ node. (count tests : ℕ) → NodeWithin count tests left → NodeWithin count tests right → NodeWithin count tests node) }
 {
+    if let (Node::Holds(test), Node::Owed(number)) = (&left, &right) {
+        return Ok(Node::Either(*test, *number));
+    }
     let left = boxed(alloc, left)?;
     Ok(Node::Or(left, boxed(alloc, right)?))
 }
