@@ -15,7 +15,9 @@ use Rattle.blif_model.specs.Files.{Part, Placing}
 use Rattle.blif_model.specs.Models.{Mention, Model, Statement, IsInputs, IsOutputs, IsLatch, IsTable, driven, used}
 use Rattle.blif_model.specs.Names.{number_at}
 use Rattle.blif_model.specs.Numbered.{line_of}
-use Rattle.blif_linking.specs.Interfaces.{Role, Input, Output, Clock, inputs_in as input_texts, is_one_of, role_of}
+use Rattle.blif_linking.specs.declared.role.Role.{Role}
+use Rattle.blif_linking.specs.declared.role.Role.TheVariants.{Input, Output, Clock}
+use Rattle.blif_linking.specs.Interfaces.{inputs_in as input_texts, is_one_of, role_of}
 use Rattle.blif_linking.specs.Linked.{item_of, joined, joined_all, joined_by_role, joined_link, linked}
 use Rattle.blif_linking.specs.Links.{Link, connections_in, formal_of, link_of}
 use Rattle.blif_linking.specs.Names.{Says, Places, Parts, actual_at, bad_from, entries_of, formals_of, is_bad, is_missing, mention_by_role, mention_linked, names_in, placed}

@@ -5,7 +5,9 @@ use Rattle.flattening.specs.Members.{Among}
 use Rattle.flattening.proofs.Members.{Among-left, Among-right, Among-map, from_append, from_map}
 use Rattle.blif_model.specs.Files.{Part}
 use Rattle.blif_model.specs.Models.{Model, Statement, IsInputs, IsOutputs, IsLatch, IsTable}
-use Rattle.blif_linking.specs.Interfaces.{Role, Input, Output, Clock, inputs_in, outputs_in, is_one_of, role_of, texts_of}
+use Rattle.blif_linking.specs.declared.role.Role.{Role}
+use Rattle.blif_linking.specs.declared.role.Role.TheVariants.{Input, Output, Clock}
+use Rattle.blif_linking.specs.Interfaces.{inputs_in, outputs_in, is_one_of, role_of, texts_of}
 use Rattle.hierarchy_laws.proofs.Numbers.{among-any, any-among}
 
 -- a line that lists a text as an input, or as an output

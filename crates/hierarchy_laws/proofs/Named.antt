@@ -17,7 +17,9 @@ use Rattle.blif_model.specs.Files.{Part, Placing}
 use Rattle.blif_model.specs.Models.{Mention, Model, Statement, IsInputs, IsOutputs, IsLatch, IsTable, driven, used}
 use Rattle.blif_model.specs.Names.{number_of}
 use Rattle.blif_model.specs.Numbered.{line_of, words_in}
-use Rattle.blif_linking.specs.Interfaces.{Role, Input, Output, Clock, role_of}
+use Rattle.blif_linking.specs.declared.role.Role.{Role}
+use Rattle.blif_linking.specs.declared.role.Role.TheVariants.{Input, Output, Clock}
+use Rattle.blif_linking.specs.Interfaces.{role_of}
 use Rattle.blif_linking.specs.Linked.{item_of, joined, joined_by_role, joined_link, linked}
 use Rattle.blif_linking.specs.Links.{Link, connections_in, link_of}
 use Rattle.blif_linking.specs.Names.{Entry, Says, Places, Parts, actual_at, entries_of, mention_by_role, mention_linked, mentions_by, mentions_entered, mentions_in, mentions_said, names_in}

@@ -16,7 +16,9 @@ use Rattle.blif_model.specs.Models.{Mention, Model}
 use Rattle.blif_model.proofs.Held.{ArePlaced, PartHolds, PartsHold}
 use Rattle.blif_model.proofs.Holding.{AreNamed}
 use Rattle.blif_model.proofs.Texts.{AreWords, IsWord}
-use Rattle.blif_linking.specs.Interfaces.{Role, Input, Output, Clock, role_of}
+use Rattle.blif_linking.specs.declared.role.Role.{Role}
+use Rattle.blif_linking.specs.declared.role.Role.TheVariants.{Input, Output, Clock}
+use Rattle.blif_linking.specs.Interfaces.{role_of}
 use Rattle.blif_linking.specs.Linked.{linked_texts}
 use Rattle.blif_linking.specs.Links.{Link, connections_in, link_at, link_of}
 use Rattle.blif_linking.specs.Names.{Entry, Parts, actual_at, entries_of, mention_by_role, mention_linked, mentions_by, mentions_entered, mentions_in, mentions_placed, mentions_said, names_in, placed}
