@@ -1,5 +1,5 @@
 -- The signals whose values are shown of a run.
-use Rattle.std.specs.Prelude.{◌≡◌, ℕ, ◌<◌, Bool as Truth, List, map, length, slice_get, slice_index, Some, All}
+use Rattle.std.specs.Prelude.{◌≡◌, ◌<◌, Bool as Truth, List, map, length, Some, All}
 use Rattle.netlist.specs.Design.{Design, free_of}
 use Rattle.psl_tree.specs.Names.{first_name}
 use Rattle.psl_tree.specs.declared.name.Name.{Name}
@@ -10,10 +10,6 @@ use Rattle.findings.specs.declared.entry.FindingEntry.{FindingEntry}
 -- the first names of the inputs and then of the outputs of the latches, in the order in which the netlist lists them
 abbrev pub AreColumns : Design → List Name → Type 0
 AreColumns design columns = map (λ column. Some column) columns ≡ map (first_name design.names) (free_of design)
-
--- by the number of a signal, the place of its first name
-abbrev pub TellsFirst : List Name → ℕ → List ℕ → Type 0
-TellsFirst names signals first = (signal : ℕ) → signal < signals → first_name names signal ≡ slice_get names (slice_index first signal)
 
 -- a valuation has a value for the signal of each column
 abbrev pub HasColumns : List Name → List Truth → Type 0

@@ -1,12 +1,13 @@
-ghost use Rattle.std.specs.Prelude.{◌≡◌, ◌<◌, length, replicate, All, Any, IfOk, Some};
-ghost use Rattle.findings.specs.Columns.{AreColumns, TellsFirst};
-ghost use Rattle.netlist.specs.Sound.{NamesBit};
+ghost use Rattle.std.specs.Prelude.{◌≡◌, ◌<◌, length, Any, IfOk, Some};
+ghost use Rattle.findings.specs.Columns.{AreColumns};
 ghost use Rattle.psl_tree.specs.Names.{first_name};
+ghost use Rattle.trace.specs.FirstPlaces.{TellsFirst};
 
 use netlist::{Netlist, soundness_law};
 use psl_base::NoMemory;
 use psl_tree::{Name, Names};
 use std::alloc::Global;
+use trace::first_places;
 
 /// The first names of the inputs of a netlist and then of the outputs of its latches, as it lists them.
 pub fn columns(alloc: Global, netlist: &Netlist) -> Result<Names, NoMemory>
@@ -23,27 +24,6 @@ pub fn columns(alloc: Global, netlist: &Netlist) -> Result<Names, NoMemory>
         columns.push(column(alloc, names, &first, latch.output)?)?;
     }
     Ok(columns)
-}
-
-// By the number of a signal, the place of its first name; a place behind all names, where it has none.
-fn first_places(alloc: Global, names: &[Name], signals: u32) -> Result<Vec<usize>, NoMemory>
-    requires { All (NamesBit signals) names.now }
-    ensures length { IfOk result (λ first. length first.items ≡ signals) }
-    ensures first { IfOk result (λ first. TellsFirst names.now signals first.items) }
-{
-    let mut first = repeated(alloc, names.len(), signals)?;
-    for place in (0..names.len()).rev() {
-        first[names[place].signal as usize] = place;
-    }
-    Ok(first)
-}
-
-// A number, so many times.
-fn repeated(alloc: Global, number: usize, count: u32) -> Result<Vec<usize>, NoMemory>
-    ensures { IfOk result (λ numbers. numbers.items ≡ replicate count number) }
-{
-    let numbers = vec![in alloc; number; count as usize]?;
-    Ok(numbers)
 }
 
 // The first name of a signal, which has one.

@@ -1,7 +1,7 @@
 use Rattle.std.proofs.Common.{◌<◌, ◌≤◌, length, sym, ◌∙◌, Some, ap, arith}
 use Rattle.std.specs.Prelude.{slice_index}
 use Rattle.std.proofs.lemmas.Option.{slice_get-get_or, slice_get_past}
-use Rattle.findings.proofs.FirstNames.{has-first}
+use Rattle.trace.proofs.FirstNames.{has-first}
 use Rattle.findings.proofs.names.column.Goals as goal
 
 pub unreachable-requires : goal.unreachable-requires
