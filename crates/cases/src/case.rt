@@ -35,7 +35,7 @@ pub struct Case<'a> {
     pub status: Option<u8>,
     /// The calls of the files that fail, counted from 1.
     pub unread: Numbers,
-    /// How many bytes a call of the files gives at the most.
+    /// How many bytes a call of the files or of an output gives or takes at the most.
     pub piece: Option<u32>,
     /// How many bytes the names and the contents of new files may have together.
     pub file_room: Option<u32>,

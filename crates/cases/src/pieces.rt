@@ -1,8 +1,8 @@
 ghost use Rattle.std.specs.Prelude.{◌<◌};
 
-use psl_base::{Failed, MemShelf, Shelf};
+use psl_base::{Failed, MemShelf, MemSink, Shelf, Sink};
 
-/// A shelf of which each call gives a few bytes at the most.
+/// A shelf of which each call gives or takes a few bytes at the most.
 #[derive(Drop)]
 pub struct Pieces {
     pub shelf: MemShelf,
@@ -33,6 +33,34 @@ impl Shelf for Pieces {
     }
 
     fn append(&mut self, bytes: &[u8]) -> Result<usize, Failed> {
-        self.shelf.append(bytes)
+        let most = if self.most < bytes.len() {
+            self.most
+        } else {
+            bytes.len()
+        };
+        self.shelf.append(&bytes[..most])
+    }
+}
+
+/// A sink of which each call takes a few bytes at the most.
+#[derive(Drop)]
+pub struct PieceSink {
+    pub sink: MemSink,
+    pub most: usize,
+    ghost some: { 0 < most },
+}
+
+impl Sink for PieceSink {
+    ghost use Rattle.psl_base.specs.Memory.{sink_state};
+
+    ghost state = { λ pieces. sink_state pieces.sink };
+
+    fn put(&mut self, bytes: &[u8]) -> Result<usize, Failed> {
+        let most = if self.most < bytes.len() {
+            self.most
+        } else {
+            bytes.len()
+        };
+        self.sink.put(&bytes[..most])
     }
 }

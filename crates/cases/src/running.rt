@@ -3,7 +3,7 @@ ghost use Rattle.std.specs.Prelude.{◌<◌};
 use crate::case::{Case, Section};
 use crate::content::content_of;
 use crate::fault::Fault;
-use crate::pieces::Pieces;
+use crate::pieces::{PieceSink, Pieces};
 use commands::run;
 use psl_base::{Bytes, File, Files, MemShelf, MemSink};
 use std::alloc::Global;
@@ -73,18 +73,22 @@ fn outputs_of<'a>(alloc: Global, common: &Case<'a>, case: &Case<'a>) -> Result<O
             case.file_room.unwrap_or(ROOM),
             &case.unread,
         )?,
-        most: most_of(case.piece),
+        most: most_of(common, case),
     };
-    let room = case.room.unwrap_or(ROOM);
-    let mut out = MemSink::new(alloc, room, &case.unwritten)?;
-    let room = case.error_room.unwrap_or(ROOM);
-    let mut err = MemSink::new(alloc, room, &case.untold)?;
+    let mut out = PieceSink {
+        sink: MemSink::new(alloc, case.room.unwrap_or(ROOM), &case.unwritten)?,
+        most: most_of(common, case),
+    };
+    let mut err = PieceSink {
+        sink: MemSink::new(alloc, case.error_room.unwrap_or(ROOM), &case.untold)?,
+        most: most_of(common, case),
+    };
     let report = run(alloc, words.as_slice(), &mut shelf, &mut out, &mut err);
     let status = report.status;
     Ok(Outputs {
         shelf: shelf.shelf,
-        out,
-        err,
+        out: out.sink,
+        err: err.sink,
         status,
     })
 }
@@ -100,11 +104,11 @@ fn written_in(case: &Case<'_>) -> u32 {
     count
 }
 
-/// How many bytes a call gives at the most: at least one, and as many as are asked for where nothing is said.
-fn most_of(piece: Option<u32>) -> usize
+/// How many bytes a call gives or takes at the most: at least one, and as many as are asked for where nothing is said.
+fn most_of(common: &Case<'_>, case: &Case<'_>) -> usize
     ensures { 0 < result }
 {
-    match piece {
+    match case.piece.or(common.piece) {
         Some(size) if size > 0 => size as usize,
         _ => usize::MAX,
     }
