@@ -89,10 +89,13 @@ module _ (graph : Graph) where
       through (length graph) table middle driver (Depends-within rest) (from_reads (length graph) table middle reading)
       (from_depends middle driver rest)
 
+  pub depends-decided : (table driver : ℕ) → Decided (Depends graph table driver)
+  depends-decided table driver =
+      ⊎_elim (λ chain. inl (depends (length graph) table driver chain)) (λ none. inr (λ chain. none (from_depends table driver chain)))
+      (via (length graph) table driver)
+
   cyclic : (table : ℕ) → Decided (Depends graph table table)
-  cyclic table =
-      ⊎_elim (λ chain. inl (depends (length graph) table table chain)) (λ none. inr (λ chain. none (from_depends table table chain)))
-      (via (length graph) table table)
+  cyclic table = depends-decided table table
 
   first_below : (n : ℕ) → ((table : ℕ) → table < n → Depends graph table table → ⊥) ⊎ ((table : ℕ) × IsFirstOnCycle graph table)
   first_below zero = inl (λ table lt chain. omega arith)
