@@ -4,8 +4,9 @@ use psl_base::{NoMemory, Place, ReadAllFault};
 use thiserror::Error;
 
 /// Why a netlist was not read. A fault of the text has the place of its word. Of several in one line the first in it is
-/// named, and of several at one word the one that stands first here; `Undriven` and then `CombinationalCycle` are looked
-/// for where no line has a fault.
+/// named, and of several at one word the one that stands first here. What models say of each other, and of their names as
+/// a whole, is looked for where no line has a fault: `UnknownModel`, `BadConnection`, `ModelRecursion`, `TooDeep`,
+/// `DrivenBySubckt`, `Undriven`, `TooLarge` of a hierarchy, and `CombinationalCycle`, in this order.
 #[derive(Clone, Copy, Debug, PartialEq, Eq, Error)]
 pub enum BlifFault {
     /// The first word of a line begins with a dot and is no command.
@@ -41,7 +42,7 @@ pub enum BlifFault {
     #[error("a signal is driven twice")]
     DrivenTwice(Place),
 
-    /// The first use of a name that nothing drives.
+    /// The first use of a name that nothing drives: its word, or the connection of an input.
     #[error("a signal is not driven")]
     Undriven(Place),
 
@@ -53,13 +54,36 @@ pub enum BlifFault {
     #[error("the text ends behind a backslash")]
     MissingEnd(Place),
 
-    /// A second `.model`, or a line behind `.end`.
+    /// A further `.model` with the name of an earlier one, or a line behind `.end` that begins no model.
     #[error("a second model")]
     SecondModel(Place),
 
-    /// The name of a signal past the limit, which is 65,536.
+    /// The name of a signal past the limit, which is 65,536. In a hierarchy, the name of the model in the first `.subckt`
+    /// of the top with which there are more signals, or more instances.
     #[error("too many signals")]
     TooLarge(Place),
+
+    /// A `.subckt` of a model that the file does not have: its name, or the `.subckt` where it has none.
+    #[error("no such model")]
+    UnknownModel(Place),
+
+    /// A word of a `.subckt` that is no connection, or connects what its model does not offer, or what a word before it
+    /// connects; or the name of the model, where one of its inputs is not connected.
+    #[error("models are not connected")]
+    BadConnection(Place),
+
+    /// A `.subckt` of the model in which it stands, or of one that contains that model: the name of the model.
+    #[error("a model contains itself")]
+    ModelRecursion(Place),
+
+    /// A connection of an output with a name that an input, a table, a latch or an earlier connection drives.
+    #[error("a connection drives a signal twice")]
+    DrivenBySubckt(Place),
+
+    /// A `.subckt` of a model of depth 64 or more: the name of the model. A model without a `.subckt` has depth 1, any
+    /// other one more than the deepest that it places.
+    #[error("models are placed too deep")]
+    TooDeep(Place),
 
     /// The file is longer than 268,435,456 bytes.
     #[error("the file is too long")]

@@ -1,23 +1,25 @@
 -- What is wrong with a text is a fault of the text, and none of reading it or of memory.
 use Rattle.std.proofs.Common.{◌≡◌, ℕ, Bool, true, false, cond, not, ◌&&◌, List, [], ◌∷◌, ◌++◌, length, Option, None, Some, sym, subst, ◌⊎◌, inl, inr}
-use Rattle.std.specs.List.{find}
 use Rattle.std.specs.Option.{option_map, option_or}
 use Rattle.std.specs.Prelude.{nat_le, Err}
 use Rattle.psl_base.specs.Tokens.{PlacedToken}
-use Rattle.psl_base.specs.declared.place.Place.{Place}
+use Rattle.psl_base.specs.declared.place.Place.{Place as PlaceOf}
 use Rattle.blif_model.specs.declared.command.Command.{Command}
 use Rattle.blif_model.specs.declared.command.Command.TheVariants as commands
+use Rattle.blif_model.specs.declared.file.FileCommand.{FileCommand}
+use Rattle.blif_model.specs.declared.file.FileCommand.TheVariants.{Begin, Place, Own}
 use Rattle.blif_model.specs.declared.fault.BlifFault.{BlifFault}
-use Rattle.blif_model.specs.declared.fault.BlifFault.TheVariants.{UnknownCommand, BadModel, BadRow, MixedRows, BadLatch, LatchType, TwoClocks, DrivenTwice, Undriven, CombinationalCycle, MissingEnd, SecondModel, TooLarge, TooLong, ReadFault, NoMemory}
-use Rattle.blif_model.specs.Commands.{command_of}
+use Rattle.blif_model.specs.declared.fault.BlifFault.TheVariants.{UnknownCommand, BadModel, BadRow, MixedRows, BadLatch, LatchType, TwoClocks, DrivenTwice, MissingEnd, SecondModel, TooLarge, TooLong, ReadFault, NoMemory}
 use Rattle.blif_model.specs.Lines.{Line, lines}
-use Rattle.blif_model.specs.Meaning.{fault_at, first_fault, undriven, is_undriven, unless, model_of}
-use Rattle.blif_model.specs.Models.{Gate, Mention, Model, is_driven, is_mentioned, names_of}
-use Rattle.blif_model.specs.Rules.{is_unknown, is_bad_model, is_bad_row, is_bad_latch, is_second, flags_of, signal_limit, name_rule, names_fault, first_output, differs, output_fault, row_fault_in, row_fault, differ, clocking_fault, latch_fault, head_rule, tail_fault, words_fault}
+use Rattle.blif_model.specs.Files.{FileStanding, begin_rule, file_by, file_command_of, file_fault_by, file_line_fault, file_words_fault, first_file_fault, is_repeated, models_of, parts_of, titles_of}
+use Rattle.blif_model.specs.Meaning.{unless}
+use Rattle.blif_model.specs.Models.{Gate, Mention, is_driven, is_mentioned, names_of}
+use Rattle.blif_model.specs.Rules.{is_unknown, is_bad_model, is_bad_row, is_bad_latch, is_second, flags_of, signal_limit, name_rule, names_fault, first_output, differs, output_fault, row_fault_in, row_fault, differ, clocking_fault, latch_fault, head_rule, tail_fault, command_fault}
 use Rattle.blif_model.specs.Shapes.{Clocking, LatchParts, Row, row_of, latch_of, is_level, is_one}
+use Rattle.blif_linking.specs.Names.{Parts}
 use Rattle.blif_reader.specs.Meaning.{IsReading}
 use Rattle.blif_reader.specs.Told.{IsReadFault}
-use Rattle.blif_model.specs.Standing.{Standing, last_table, mentions_of, words_of, standing_by}
+use Rattle.blif_model.specs.Standing.{Standing, last_table, mentions_of, words_of}
 
 -- a fault of the text itself
 abbrev pub IsRule : BlifFault → Type 0
@@ -30,19 +32,19 @@ abbrev OnlyRules : Option BlifFault → Type 0
 OnlyRules None = Unit {0}
 OnlyRules (Some fault) = IsRule fault
 
-abbrev AreRules : Option (Place → BlifFault) → Type 0
+abbrev AreRules : Option (PlaceOf → BlifFault) → Type 0
 AreRules None = Unit {0}
-AreRules (Some fault) = (place : Place) → IsRule (fault place)
+AreRules (Some fault) = (place : PlaceOf) → IsRule (fault place)
 
 or_rules : (one other : Option BlifFault) → OnlyRules one → OnlyRules other → OnlyRules (option_or one other)
 or_rules None other first second = second
 or_rules (Some fault) other first second = first
 
-at_place : (found : Option (Place → BlifFault)) (place : Place) → AreRules found → OnlyRules (option_map (λ fault. fault place) found)
+at_place : (found : Option (PlaceOf → BlifFault)) (place : PlaceOf) → AreRules found → OnlyRules (option_map (λ fault. fault place) found)
 at_place None place rules = tt
 at_place (Some fault) place rules = rules place
 
-either : (test : Bool) (one other : Option (Place → BlifFault)) → AreRules one → AreRules other → AreRules (cond test one other)
+either : (test : Bool) (one other : Option (PlaceOf → BlifFault)) → AreRules one → AreRules other → AreRules (cond test one other)
 either true one other first second = first
 either false one other first second = second
 
@@ -103,63 +105,55 @@ tail_rules standing commands.End words = names_rules standing.model.mentions (me
 tail_rules standing commands.Unknown words = names_rules standing.model.mentions (mentions_of commands.Unknown words)
 tail_rules standing commands.Row words = row_rules (last_table standing.model.statements) words
 
-words_rules : (standing : Standing) (words : List PlacedToken) → OnlyRules (words_fault standing words)
-words_rules standing [] = tt
-words_rules standing (head ∷ words) =
-    or_rules (option_map (λ fault. fault head.place) (head_rule standing (command_of head.text) (words_of (command_of head.text) head words)))
-    (tail_fault standing (command_of head.text) (words_of (command_of head.text) head words))
-    (at_place (head_rule standing (command_of head.text) (words_of (command_of head.text) head words)) head.place
-    (head_rules standing (command_of head.text) (words_of (command_of head.text) head words)))
-    (tail_rules standing (command_of head.text) (words_of (command_of head.text) head words))
+command_rules : (standing : Standing) (command : Command) (head : PlacedToken) (words : List PlacedToken) → OnlyRules (command_fault standing command head words)
+command_rules standing command head words =
+    or_rules (option_map (λ fault. fault head.place) (head_rule standing command words)) (tail_fault standing command words)
+    (at_place (head_rule standing command words) head.place (head_rules standing command words)) (tail_rules standing command words)
 
-stray_rules : (stray : Option Place) → OnlyRules (option_map MissingEnd stray)
+begin_rules : (bad repeated : Bool) → AreRules (begin_rule bad repeated)
+begin_rules bad repeated =
+    either bad (Some BadModel) (cond repeated (Some SecondModel) None) (λ place. tt) (either repeated (Some SecondModel) None (λ place. tt) tt)
+
+by_command_rules : (file : FileStanding) (command : FileCommand) (head : PlacedToken) (words : List PlacedToken) → OnlyRules (file_fault_by file command head words)
+by_command_rules file Begin head words =
+    at_place (begin_rule (is_bad_model (flags_of file.own) commands.Model words) (is_repeated (titles_of file) words)) head.place
+    (begin_rules (is_bad_model (flags_of file.own) commands.Model words) (is_repeated (titles_of file) words))
+by_command_rules file Place head words = command_rules file.own commands.Clock head []
+by_command_rules file (Own command) head words = command_rules file.own command head (words_of command head words)
+
+words_rules : (file : FileStanding) (words : List PlacedToken) → OnlyRules (file_words_fault file words)
+words_rules file [] = tt
+words_rules file (head ∷ words) = by_command_rules file (file_command_of head.text) head words
+
+stray_rules : (stray : Option PlaceOf) → OnlyRules (option_map MissingEnd stray)
 stray_rules None = tt
 stray_rules (Some place) = tt
 
-lines_rules : (before rest : List Line) → OnlyRules (first_fault before rest)
+lines_rules : (before rest : List Line) → OnlyRules (first_file_fault before rest)
 lines_rules before [] = tt
 lines_rules before (line ∷ rest) =
-    or_rules (fault_at before line) (first_fault (before ++ line ∷ []) rest)
-    (or_rules (words_fault (standing_by before) line.words) (option_map MissingEnd line.stray) (words_rules (standing_by before) line.words) (stray_rules line.stray))
+    or_rules (file_line_fault (file_by before) line) (first_file_fault (before ++ line ∷ []) rest)
+    (or_rules (file_words_fault (file_by before) line.words) (option_map MissingEnd line.stray) (words_rules (file_by before) line.words) (stray_rules line.stray))
     (lines_rules (before ++ line ∷ []) rest)
 
-found_rules : (found : Option Mention) → OnlyRules (option_map (λ mention. Undriven mention.word.place) found)
-found_rules None = tt
-found_rules (Some mention) = tt
+by_fault : (fault : Option BlifFault) (parts : Parts) (found : BlifFault) → OnlyRules fault → unless fault parts ≡ Err found → IsRule found
+by_fault None parts found rules is = cc
+by_fault (Some fault) parts found rules is = let same : fault ≡ found = cc in subst IsRule same rules
 
-by_fault : (fault : Option BlifFault) (model : Model) (found : BlifFault) → OnlyRules fault → unless fault model ≡ Err found → IsRule found
-by_fault None model found rules is = cc
-by_fault (Some fault) model found rules is = let same : fault ≡ found = cc in subst IsRule same rules
-
--- a fault of a text is one of its lines or names
-pub text-rule : (text : List ℕ) (found : BlifFault) → model_of text ≡ Err found → IsRule found
-text-rule text found is =
-    by_fault (option_or (first_fault [] (lines text)) (undriven (standing_by (lines text)).model)) (standing_by (lines text)).model found
-    (or_rules (first_fault [] (lines text)) (undriven (standing_by (lines text)).model) (lines_rules [] (lines text))
-    (found_rules (find (is_undriven (standing_by (lines text)).model.mentions) (standing_by (lines text)).model.mentions))) is
+-- a fault of the lines of a text is one of these
+pub text-rule : (text : List ℕ) (found : BlifFault) → models_of text ≡ Err found → IsRule found
+text-rule text found is = by_fault (first_file_fault [] (lines text)) (parts_of (file_by (lines text))) found (lines_rules [] (lines text)) is
 
 -- a first fault of a text is one that reading answers
 read_fault : (text : List ℕ) (found : BlifFault) → IsRule found → IsReading text (Err found) → IsReadFault text found
-read_fault text (UnknownCommand place) rule is = is
-read_fault text (BadModel place) rule is = is
-read_fault text (BadRow place) rule is = is
-read_fault text (MixedRows place) rule is = is
-read_fault text (BadLatch place) rule is = is
-read_fault text (LatchType place) rule is = is
-read_fault text (TwoClocks place) rule is = is
-read_fault text (DrivenTwice place) rule is = is
-read_fault text (Undriven place) rule is = is
-read_fault text (CombinationalCycle place) rule is = is
-read_fault text (MissingEnd place) rule is = is
-read_fault text (SecondModel place) rule is = is
-read_fault text (TooLarge place) rule is = is
 read_fault text TooLong rule is = rule
 read_fault text ReadFault rule is = rule
 read_fault text NoMemory rule is = tt
+read_fault text found rule is = is
 
 no_memory : (text : List ℕ) (found : BlifFault) → found ≡ NoMemory → IsReadFault text found
 no_memory text found is = subst (λ (fault : BlifFault). IsReadFault text fault) (sym is) tt
 
-pub read-fault : (text : List ℕ) (found : BlifFault) → (found ≡ NoMemory) ⊎ (model_of text ≡ Err found) → IsReadFault text found
+pub read-fault : (text : List ℕ) (found : BlifFault) → (found ≡ NoMemory) ⊎ (models_of text ≡ Err found) → IsReadFault text found
 read-fault text found (inl is) = no_memory text found is
 read-fault text found (inr is) = read_fault text found (text-rule text found is) (inl is)

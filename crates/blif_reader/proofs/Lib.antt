@@ -1,9 +1,5 @@
-pub mod Numbers
-pub mod Counting
-pub mod Counts
-pub mod Few
-pub mod Lines
-pub mod Sound
-pub mod Faulting
+pub mod Asking
+pub mod Seeking
 pub mod Readings
-pub mod Building
+pub mod Faulting
+pub mod Steps

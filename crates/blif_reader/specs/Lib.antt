@@ -1,4 +1,5 @@
-pub mod Design
-pub mod Building
+pub mod Faults
+pub mod Hierarchy
+pub mod Kept
 pub mod Meaning
 pub mod Told

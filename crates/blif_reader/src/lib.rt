@@ -1,13 +1,16 @@
-//! Netlists from text in the Berkeley Logic Interchange Format: a file is read into its netlist, or refused with its
+//! Netlists from text in the Berkeley Logic Interchange Format: the models of a file are read into one netlist, or refused with its
 //! first fault.
 #![tactic(auto)]
 
+mod flat;
+mod kept;
 mod laws;
-mod parts;
+mod models;
+mod places;
 mod reading;
 #[cfg(test)]
 mod tests;
 
 pub use blif_model::BlifFault;
-pub use laws::one_reading_law;
+pub use laws::{hierarchy_law, one_reading_law};
 pub use reading::read_blif;

@@ -14,6 +14,8 @@ use Rattle.commands.specs.declared.reason.Reason.TheVariants.{TooManySignals, Un
 use Rattle.commands.specs.declared.reason.Reason.TheVariants.{MixedRows, BadLatch, LatchType, TwoClocks, DrivenTwice}
 use Rattle.commands.specs.declared.reason.Reason.TheVariants.{Undriven, CombinationalCycle, NetlistMissingEnd}
 use Rattle.commands.specs.declared.reason.Reason.TheVariants.{SecondModel, NetlistTooLarge}
+use Rattle.commands.specs.declared.reason.Reason.TheVariants.{UnknownModel, BadConnection, ModelRecursion}
+use Rattle.commands.specs.declared.reason.Reason.TheVariants.{DrivenBySubckt, ModelTooDeep}
 
 -- what a reason speaks of
 pub data Cause : Type 0 where
@@ -83,6 +85,11 @@ row_of CombinationalCycle = row (codes "B10 CombinationalCycle") 5 OfText
 row_of NetlistMissingEnd = row (codes "B11 MissingEnd") 5 OfText
 row_of SecondModel = row (codes "B12 SecondModel") 5 OfText
 row_of NetlistTooLarge = row (codes "B13 TooLarge") 7 OfText
+row_of UnknownModel = row (codes "B14 UnknownModel") 5 OfText
+row_of BadConnection = row (codes "B15 BadConnection") 5 OfText
+row_of ModelRecursion = row (codes "B16 ModelRecursion") 5 OfText
+row_of DrivenBySubckt = row (codes "B17 DrivenBySubckt") 5 OfText
+row_of ModelTooDeep = row (codes "B18 TooDeep") 7 OfText
 
 -- what is printed of a reason
 abbrev pub fault_words : Reason → List ℕ

@@ -100,10 +100,21 @@ pub enum Reason {
     CombinationalCycle,
     /// A backslash behind which a netlist ends.
     NetlistMissingEnd,
-    /// A second `.model`, or a line behind `.end`.
+    /// A further `.model` of one name, or a line behind `.end` that begins no model.
     SecondModel,
-    /// The name of a signal of a netlist past the limit on signals.
+    /// The name of a signal of a netlist past the limit on signals, or a `.subckt` with which there are more signals or
+    /// instances.
     NetlistTooLarge,
+    /// A `.subckt` of a model that the netlist does not have.
+    UnknownModel,
+    /// A `.subckt` whose connections do not fit its model.
+    BadConnection,
+    /// A `.subckt` of a model that is or contains the one in which it stands.
+    ModelRecursion,
+    /// A connection of an output with a name that is driven already.
+    DrivenBySubckt,
+    /// A `.subckt` of a model that is too deep.
+    ModelTooDeep,
 }
 
 /// What is said of a fault: why, and where in its file.

@@ -13,7 +13,7 @@ pub struct Row {
 }
 
 /// The words and the status of each reason, in the order in which these are declared.
-const ROWS: [(&[u8], u8); 49] = [
+const ROWS: [(&[u8], u8); 54] = [
     (b"usage: pslc wave|prove|check|show|gen ARGUMENTS", 2),
     (b"read fault", 3),
     (b"write fault", 4),
@@ -63,6 +63,11 @@ const ROWS: [(&[u8], u8); 49] = [
     (b"B11 MissingEnd", 5),
     (b"B12 SecondModel", 5),
     (b"B13 TooLarge", 7),
+    (b"B14 UnknownModel", 5),
+    (b"B15 BadConnection", 5),
+    (b"B16 ModelRecursion", 5),
+    (b"B17 DrivenBySubckt", 5),
+    (b"B18 TooDeep", 7),
 ];
 
 /// The row of a reason.

@@ -1,0 +1,111 @@
+-- What is sought of the models of a text is found or not, and is one thing at the most.
+use Rattle.std.proofs.Common.{◌≡◌, ℕ, zero, suc, ◌<◌, ◌≤◌, ◌⊎◌, inl, inr, List, [], ◌∷◌, length, slice_get, Option, None, Some, refl, sym, ap, ◌∙◌, subst, ⊎_elim, arith}
+use Rattle.std.proofs.lemmas.Bool.{cases_lt, cases_eq}
+use Rattle.std.proofs.lemmas.Option.{none-some}
+use Rattle.table_order.specs.Graph.{Depends}
+use Rattle.netlist_order.proofs.Cycles.{Decided, depends-decided}
+use Rattle.flattening.specs.declared.model.Model.{Model}
+use Rattle.flattening.specs.declared.model.Placement.{Placement}
+use Rattle.flattening.specs.declared.model.TheConstants.{DEEPEST}
+use Rattle.flattening.specs.Hierarchy.{items_of, placement_of, placements_in}
+use Rattle.model_hierarchy.specs.declared.place.PlacementAt.{PlacementAt}
+use Rattle.model_hierarchy.specs.Depth.{depth_of, IsTooDeep}
+use Rattle.model_hierarchy.specs.First.{Finds}
+use Rattle.model_hierarchy.specs.Order.{model_graph, IsRecursive}
+use Rattle.model_hierarchy.specs.Sums.{FindsPast, instances_with, IsPast, placements_of, signals_with}
+use Rattle.blif_reader.proofs.Asking.{some-found}
+
+get-below : {X : Type 0} (xs : List X) (i : ℕ) (x : X) → slice_get xs i ≡ Some x → i < length xs
+get-below [] i x is = absurd (none-some x is)
+get-below (y ∷ xs) zero x is = omega arith
+get-below (y ∷ xs) (suc i) x is = omega (arith, get-below xs i x is)
+
+module _ {Line : Type 0} (models : List (Model Line)) where
+  -- a placement is there, or not
+  there : (found : Option Placement) → ((placement : Placement) × (found ≡ Some placement)) ⊎ (found ≡ None)
+  there (Some placement) = inl (placement, refl)
+  there None = inr refl
+
+  same_placement : (one other : Placement) (found : Option Placement) → found ≡ Some one → found ≡ Some other → one ≡ other
+  same_placement one other found first second = let both : Some one ≡ Some other = sym first ∙ second in cc
+
+  recursive : (model k : ℕ) → Decided (IsRecursive models model k)
+  recursive model k =
+      ⊎_elim
+      (λ is. ⊎_elim
+      (λ itself. inl (record { placement = is.0; there = is.1; back = inl itself }))
+      (λ other. ⊎_elim
+      (λ back. inl (record { placement = is.0; there = is.1; back = inr back }))
+      (λ never. inr (λ found.
+      let same = same_placement found.placement is.0 (placement_of models model k) found.there is.1 in
+      ⊎_elim (λ itself. other (subst (λ (p : Placement). p.model ≡ model) same itself))
+      (λ back. never (subst (λ (p : Placement). Depends (model_graph models) p.model model) same back)) found.back))
+      (depends-decided (model_graph models) is.0.model model))
+      (cases_eq is.0.model model))
+      (λ none. inr (λ found. none-some found.placement (sym none ∙ found.there)))
+      (there (placement_of models model k))
+
+  deep : (model k : ℕ) → Decided (IsTooDeep models model k)
+  deep model k =
+      ⊎_elim
+      (λ is. ⊎_elim
+      (λ below. inr (λ found.
+      let same = same_placement found.placement is.0 (placement_of models model k) found.there is.1 in
+      let deep : DEEPEST ≤ depth_of models DEEPEST is.0.model = subst (λ (p : Placement). DEEPEST ≤ depth_of models DEEPEST p.model) same found.deep in
+      omega (arith, below, deep)))
+      (λ past. inl (record { placement = is.0; there = is.1; deep = past }))
+      (cases_lt (depth_of models DEEPEST is.0.model) DEEPEST))
+      (λ none. inr (λ found. none-some found.placement (sym none ∙ found.there)))
+      (there (placement_of models model k))
+
+  -- a placement is one of a model
+  placed-low : (all : List (Model Line)) (model k : ℕ) (placement : Placement) → placement_of all model k ≡ Some placement → model < length all
+  placed-low [] model k placement is = absurd (none-some placement is)
+  placed-low (first ∷ all) zero k placement is = omega arith
+  placed-low (first ∷ all) (suc model) k placement is = omega (arith, placed-low all model k placement is)
+
+  pub recursive-some : (found : Option PlacementAt) × Finds (IsRecursive models) found
+  recursive-some =
+      some-found (IsRecursive models) recursive (λ model. length (placements_in (items_of models model))) (length models)
+      (λ model k is. placed-low models model k is.placement is.there)
+      (λ model k is. get-below (placements_in (items_of models model)) k is.placement is.there)
+
+  pub deep-some : (found : Option PlacementAt) × Finds (IsTooDeep models) found
+  deep-some =
+      some-found (IsTooDeep models) deep (λ model. length (placements_in (items_of models model))) (length models)
+      (λ model k is. placed-low models model k is.placement is.there)
+      (λ model k is. get-below (placements_in (items_of models model)) k is.placement is.there)
+
+  -- the first placement of the top with which a limit is passed
+  past : (limit k : ℕ) → Decided (IsPast models limit k)
+  past limit k =
+      ⊎_elim (λ signals. inl (inl signals))
+      (λ few. ⊎_elim (λ instances. inl (inr instances))
+      (λ fewer. inr (λ is. ⊎_elim (λ signals. omega (arith, signals, few)) (λ instances. omega (arith, instances, fewer)) is))
+      (cases_lt limit (instances_with models (suc k))))
+      (cases_lt limit (signals_with models (suc k)))
+
+  first_past : (limit count : ℕ) → ((k : ℕ) → k < count → IsPast models limit k → ⊥)
+      ⊎ ((k : ℕ) × (k < count) × IsPast models limit k × ((j : ℕ) → j < k → IsPast models limit j → ⊥))
+  first_past limit zero = inl (λ k lt is. omega arith)
+  first_past limit (suc count) =
+      ⊎_elim
+      (λ none. ⊎_elim (λ here. inr (count, omega arith, here, none))
+      (λ not_here. inl (λ k lt is. ⊎_elim (λ below. none k below is)
+      (λ after. let last : k ≡ count = omega arith in not_here (subst (IsPast models limit) last is)) (cases_lt k count)))
+      (past limit count))
+      (λ found. inr (found.0, omega (arith, found.1), found.2, found.3)) (first_past limit count)
+
+  pub past-some : (limit : ℕ) → (found : Option ℕ) × FindsPast models limit found
+  past-some limit =
+      ⊎_elim (λ none. (None, none)) (λ found. (Some found.0, record { there = found.1; past = found.2; first = found.3 }))
+      (first_past limit (length (placements_of models 0)))
+
+  pub past-one : (limit : ℕ) (a b : Option ℕ) → FindsPast models limit a → FindsPast models limit b → a ≡ b
+  past-one limit None None first second = refl
+  past-one limit None (Some k) first second = absurd (first k second.there second.past)
+  past-one limit (Some k) None first second = absurd (second k first.there first.past)
+  past-one limit (Some k) (Some j) first second =
+      ⊎_elim (λ below. absurd (second.first k below first.past))
+      (λ upper. ⊎_elim (λ below. absurd (first.first j below second.past)) (λ lower. ap Some (let same : k ≡ j = omega arith in same)) (cases_lt j k))
+      (cases_lt k j)

@@ -1,0 +1,14 @@
+use Rattle.std.proofs.Common.{◌∙◌, List, ap, map}
+use Rattle.blif_model.specs.declared.file.FileModel.{FileModel}
+use Rattle.blif_reader.specs.Kept.{model_titles}
+use Rattle.blif_reader.proofs.Steps.{titles-kept}
+use Rattle.blif_reader.proofs.kept.Kept.of.Goals as goal
+
+pub returns : goal.returns
+returns c = λ parts read. record {
+  titles_are =
+      c.in_ok-titles.ensures ∙ ap (λ (models : List FileModel). map model_titles models) c.as_slice.ensures
+      ∙ titles-kept c.args.bytes.now c.args.text.now parts read.1;
+  driven_is = c.in_ok-driven.ensures parts read;
+  undriven_is = c.in_ok-undriven.ensures parts read;
+}

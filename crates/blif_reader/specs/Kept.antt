@@ -1,0 +1,60 @@
+-- What is kept of a text before its models are linked, and what is found of them, each as the definitions say.
+use Rattle.std.specs.Prelude.{◌≡◌, ℕ, List, [], ◌∷◌, map, Option, None, Ok}
+use Rattle.std.specs.Option.{option_map}
+use Rattle.psl_base.specs.declared.place.Place.{Place}
+use Rattle.flattening.specs.Hierarchy.{flat_lines}
+use Rattle.flat_netlist.specs.Flat.{flat_design, flat_outputs, Models}
+use Rattle.flat_netlist.specs.Inputs.{design_in}
+use Rattle.flat_netlist.specs.declared.flat.FlatNetlist.{FlatNetlist}
+use Rattle.blif_model.specs.declared.file.FileModel.{FileModel}
+use Rattle.blif_model.specs.declared.file.PlacementLine.{PlacementLine}
+use Rattle.blif_model.specs.declared.pieces.Span.{Span}
+use Rattle.blif_model.specs.Files.{models_of}
+use Rattle.blif_model.specs.Scanning.{word_of}
+use Rattle.blif_linking.specs.Linked.{linked, linked_texts, IsHierarchy}
+use Rattle.blif_linking.specs.Names.{Parts, first_bad, first_driven, first_undriven, first_unknown}
+use Rattle.blif_linking.specs.declared.linking.LinkedModels.{LinkedModels}
+use Rattle.blif_reader.specs.declared.kept.Kept.{Kept}
+use Rattle.blif_reader.specs.Faults.{place_in, titles_in}
+
+-- the name of the model in a `.subckt`, or the `.subckt` where it has none
+abbrev pub first_span : Span → List Span → Span
+first_span head [] = head
+first_span head (word ∷ words) = word
+
+abbrev pub title_span : PlacementLine → Span
+title_span line = first_span line.head line.words
+
+abbrev pub line_titles : List PlacementLine → List ℕ
+line_titles lines = map (λ (line : PlacementLine). (title_span line).at) lines
+
+abbrev pub model_titles : FileModel → List ℕ
+model_titles model = line_titles model.placements
+
+-- the place of a word
+abbrev pub span_place : List ℕ → Option Span → Option Place
+span_place whole span = option_map (λ (word : Span). (word_of whole word).place) span
+
+-- what is kept is of these models
+pub record IsKept (whole : List ℕ) (parts : Parts) (kept : Kept) : Type 0 where
+  pub titles_are : kept.titles ≡ titles_in parts
+  pub driven_is : span_place whole kept.driven ≡ place_in (first_driven parts)
+  pub undriven_is : span_place whole kept.undriven ≡ place_in (first_undriven parts)
+
+-- models of a text by numbers, of which none is missing, and whose connections are in form
+pub record IsLinked (whole : List ℕ) (all : LinkedModels) (kept : Kept) : Type 0 where
+  pub parts : Parts
+  pub said : models_of whole ≡ Ok parts
+  pub known : first_unknown parts ≡ None
+  pub connected : first_bad parts ≡ None
+  pub models_are : all.models ≡ linked parts
+  pub texts_are : all.texts ≡ linked_texts parts
+  pub keeps : IsKept whole parts kept
+
+-- the flat netlist of models of a text that fit together
+pub record IsFlat (whole : List ℕ) (flat : FlatNetlist) : Type 0 where
+  pub models : Models
+  pub texts : List (List (List ℕ))
+  pub fits : IsHierarchy whole models texts
+  pub design : design_in flat ≡ flat_design models texts
+  pub outputs : flat.parts.outputs ≡ flat_outputs (flat_lines models)
