@@ -15,6 +15,7 @@ use Rattle.commands.specs.Generated.{AreMade, AreAnswered, answered, value_of}
 use Rattle.vcd_writer.proofs.Accepting.{accepted}
 use Rattle.vcd_writer.specs.Made.{made_text, made_names, made_sampled}
 use Rattle.vcd_reader.specs.declared.fault.VcdFault.{VcdFault}
+use Rattle.vcd_reader.specs.declared.unknown.Unknown.TheVariants.{Zero}
 use Rattle.vcd_reader.specs.Meaning.{reading}
 use Rattle.vcd_reader.specs.Rules.{sample_limit}
 use Rattle.vcd_reader.specs.Sampled.{Sampled, letters_of}
@@ -30,12 +31,12 @@ same-read a b r p q = let e : Ok a ≡ Ok b = sym p ∙ q in cc
 
 -- what is read of the shelf is what was made
 pub read-made : (shelf : MemoryShelf) (name text : List ℕ) (seed samples : ℕ) (recording : Sampled) → content_of shelf.store.files name ≡ Some text
-    → text ≡ made_text seed samples → samples ≤ sample_limit → Says (shelf_state shelf) name (Ok recording) → recording ≡ made_sampled seed samples
+    → text ≡ made_text seed samples → samples ≤ sample_limit → Says Zero (shelf_state shelf) name (Ok recording) → recording ≡ made_sampled Zero seed samples
 read-made shelf name text seed samples recording holds made few says =
     let found = says (content_of shelf.store.files) refl in
     let same : found.0 ≡ text = same-some found.0 text (sym found.1 ∙ holds) in
-    same-read recording (made_sampled seed samples) (reading (made_text seed samples))
-    (ap reading (sym (same ∙ made)) ∙ found.3) (accepted seed samples few)
+    same-read recording (made_sampled Zero seed samples) (reading Zero (made_text seed samples))
+    (ap (reading Zero) (sym (same ∙ made)) ∙ found.3) (accepted Zero seed samples few)
 
 one-all : (P : Directive → Type 0) (d : Directive) → P d → All P (d ∷ [])
 one-all P d h = All-cons P d [] h (All-nil P)
@@ -65,11 +66,11 @@ answered-in-range names unit named answers =
 pub answered-small : (unit : List Directive) → AreAnswered unit → All (λ directive. formula_size (formula_of directive.formula) ≤ 4096) unit
 answered-small unit answers = of-answered (λ f. formula_size f ≤ 4096) unit answers (omega arith)
 
-pub made-verdicts : (seed samples : ℕ) (recording : Sampled) (unit : List Directive) (verdicts : List Verdict) → samples ≤ sample_limit → recording ≡ made_sampled seed samples
+pub made-verdicts : (seed samples : ℕ) (recording : Sampled) (unit : List Directive) (verdicts : List Verdict) → samples ≤ sample_limit → recording ≡ made_sampled Zero seed samples
     → AreAnswered unit → AreVerdicts (letters_of recording) unit verdicts → AreMade seed samples verdicts
 made-verdicts seed samples recording unit verdicts few made answers judged = record {
   sampled = recording;
-  read = accepted seed samples few ∙ ap Ok (sym made);
+  read = accepted Zero seed samples few ∙ ap Ok (sym made);
   directives = unit;
   are_answered = answers;
   judged = judged;

@@ -62,6 +62,7 @@ use Rattle.commands.specs.declared.prove.Found.{Found}
 use Rattle.commands.specs.declared.reason.Reason.{Reason}
 use Rattle.commands.specs.declared.reason.Reason.TheVariants.{Usage, NoMemory}
 use Rattle.commands.specs.declared.subject.Subject.{Subject}
+use Rattle.vcd_reader.specs.declared.unknown.Unknown.TheVariants.{Zero}
 use Rattle.vcd_reader.specs.Meaning.{reading}
 use Rattle.vcd_reader.specs.Rules.{sample_limit}
 use Rattle.vcd_reader.specs.Sampled.{Sampled}
@@ -122,11 +123,11 @@ ok-no-err r d x e f = cc
 
 one-recording : (name bytes : List ℕ) → Agree (λ (r s : Sampled). r ≡ s) (RecordingReading name bytes) (RecordingReading name bytes)
 one-recording name bytes =
-    agree-told name vcd_diagnostic vcd_diagnostic (λ sampled. reading bytes ≡ Ok sampled) (λ sampled. reading bytes ≡ Ok sampled)
-    (λ fault. reading bytes ≡ Err fault) (λ fault. reading bytes ≡ Err fault) (λ (r s : Sampled). r ≡ s)
-    (λ r s h k. ok-ok r s (reading bytes) h k)
-    (λ c d _ _ h k. ap vcd_diagnostic (err-err c d (reading bytes) h k))
-    (λ r d _ h k. ok-no-err r d (reading bytes) h k) (λ c r _ h k. ok-no-err r c (reading bytes) k h)
+    agree-told name vcd_diagnostic vcd_diagnostic (λ sampled. reading Zero bytes ≡ Ok sampled) (λ sampled. reading Zero bytes ≡ Ok sampled)
+    (λ fault. reading Zero bytes ≡ Err fault) (λ fault. reading Zero bytes ≡ Err fault) (λ (r s : Sampled). r ≡ s)
+    (λ r s h k. ok-ok r s (reading Zero bytes) h k)
+    (λ c d _ _ h k. ap vcd_diagnostic (err-err c d (reading Zero bytes) h k))
+    (λ r d _ h k. ok-no-err r d (reading Zero bytes) h k) (λ c r _ h k. ok-no-err r c (reading Zero bytes) k h)
 
 -- netlists
 

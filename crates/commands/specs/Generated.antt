@@ -10,6 +10,7 @@ use Rattle.commands.specs.declared.outcome.Fault.{Fault}
 use Rattle.commands.specs.declared.outcome.Outcome.{Outcome}
 use Rattle.commands.specs.declared.outcome.Outcome.TheVariants.{Made}
 use Rattle.vcd_writer.specs.Made.{made_text}
+use Rattle.vcd_reader.specs.declared.unknown.Unknown.TheVariants.{Zero}
 use Rattle.vcd_reader.specs.Meaning.{reading}
 use Rattle.vcd_reader.specs.Sampled.{Sampled, letters_of}
 use Rattle.wave_judge.specs.Judged.{AreVerdicts}
@@ -37,7 +38,7 @@ AreAnswered directives = (directive : Directive) × (directives ≡ directive �
 -- the verdicts on the letters of the made recording, as it is read from its text
 pub record AreMade (seed samples : ℕ) (verdicts : List Verdict) : Type 0 where
   pub sampled : Sampled
-  pub read : reading (made_text seed samples) ≡ Ok sampled
+  pub read : reading Zero (made_text seed samples) ≡ Ok sampled
   pub directives : List Directive
   pub are_answered : AreAnswered directives
   pub judged : AreVerdicts (letters_of sampled) directives verdicts

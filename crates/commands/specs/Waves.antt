@@ -23,6 +23,7 @@ use Rattle.commands.specs.declared.inputs.Inputs.{Inputs}
 use Rattle.commands.specs.declared.outcome.Fault.{Fault}
 use Rattle.commands.specs.declared.outcome.Line.{Line}
 use Rattle.commands.specs.declared.subject.Subject.{Subject}
+use Rattle.vcd_reader.specs.declared.unknown.Unknown.TheVariants.{Zero}
 use Rattle.vcd_reader.specs.Meaning.{reading}
 use Rattle.vcd_reader.specs.Sampled.{Sampled, letters_of}
 use Rattle.wave_judge.specs.Faults.{IsJudgeable, IsJudgeFault}
@@ -48,9 +49,9 @@ UnitStage name = OfFile (UnitReading name) name
 abbrev pub TextAnd : {A B : Type 0} → List ℕ → (Contents → Result A Fault → Type 0) → (UnitTree → A → B) → Contents → Result B Fault → Type 0
 TextAnd unit Stage both = Then (UnitStage unit) (λ tree. Then Stage (λ value files result. result ≡ Ok (both tree value)))
 
--- the values of a recording, or its first fault
+-- the values of a recording, where unknown bits read as 0, or its first fault
 abbrev pub RecordingReading : List ℕ → List ℕ → Result Sampled Fault → Type 0
-RecordingReading name content = ToldBy name vcd_diagnostic (λ sampled. reading content ≡ Ok sampled) (λ fault. reading content ≡ Err fault)
+RecordingReading name content = ToldBy name vcd_diagnostic (λ sampled. reading Zero content ≡ Ok sampled) (λ fault. reading Zero content ≡ Err fault)
 
 abbrev pub RecordingStage : List ℕ → Contents → Result Sampled Fault → Type 0
 RecordingStage name = OfFile (RecordingReading name) name

@@ -11,7 +11,7 @@ use psl_base::{Bytes, File, Files, MemShelf, NoMemory, Numbers, Place, Text};
 use psl_sugar::{MeasuredBool, MeasuredFl, Strength, SugarFault};
 use psl_tree::{Atom, Directive, Edge, Kind, Unit};
 use std::alloc::Global;
-use vcd_reader::{Recording, read_vcd};
+use vcd_reader::{Recording, Unknown, read_vcd};
 use vcd_writer::make_recording;
 use wave_judge::{Verdicts, judge};
 
@@ -46,10 +46,10 @@ fn judge_made(alloc: Global, seed: u32, samples: u32) -> Result<(u64, Verdicts),
 fn read_made(alloc: Global, text: Bytes, seed: u32, samples: u32) -> Result<Recording, NoMemory>
     requires text { text ≡ made_text seed samples }
     requires few { samples ≤ sample_limit }
-    ensures { IfOk result (λ recording. recording ≡ made_sampled seed samples) }
+    ensures { IfOk result (λ recording. recording ≡ made_sampled Unknown.Zero seed samples) }
 {
     let mut shelf = shelf_of(alloc, text)?;
-    match read_vcd(alloc, &mut shelf, "made.vcd") {
+    match read_vcd(alloc, &mut shelf, "made.vcd", Unknown::Zero) {
         Ok(recording) => Ok(recording),
         // The text has no fault, and no call of the shelf is listed to fail: memory alone is left.
         Err(_) => Err(NoMemory),

@@ -17,7 +17,7 @@ use psl_grammar::UnitTree;
 use psl_lexer::{Tokens, lex};
 use psl_parser::parse;
 use std::alloc::Global;
-use vcd_reader::{Recording, read_vcd};
+use vcd_reader::{Recording, Unknown, read_vcd};
 
 /// What a command reads: the tree of a text, and a recording.
 #[derive(Drop)]
@@ -71,11 +71,11 @@ fn load_netlist<F: Shelf>(alloc: Global, files: &mut F, name: &str) -> Result<Ne
     }
 }
 
-/// The recording in a file.
+/// The recording in a file. Unknown bits read as 0.
 fn load_recording<F: Shelf>(alloc: Global, files: &mut F, name: &str) -> Result<Recording, Fault>
     ensures { IsStage (name.now ∷ []) (RecordingStage name.now) (F.state files.old) (F.state files.new) result }
 {
-    match read_vcd(alloc, files, name) {
+    match read_vcd(alloc, files, name, Unknown::Zero) {
         Ok(recording) => Ok(recording),
         Err(fault) => Err(fault_in(alloc, name, vcd_diagnostic(fault))),
     }

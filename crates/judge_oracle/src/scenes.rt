@@ -1,7 +1,7 @@
 use crate::fault::Fault;
 use psl_base::{Bytes, File, Files, MemShelf, Numbers};
 use std::alloc::Global;
-use vcd_reader::{Recording, read_vcd};
+use vcd_reader::{Recording, Unknown, read_vcd};
 
 /// Signals of one bit, each with its code, and two vectors, the second of which counts its indices
 /// from the left.
@@ -38,7 +38,7 @@ pub fn recording(alloc: Global, samples: &str) -> Result<Recording, Fault> {
         content: Bytes::from_slice(alloc, text.as_bytes())?,
     })?;
     let mut shelf = MemShelf::new(alloc, &files, 0, 0, &Numbers::new(alloc))?;
-    Ok(read_vcd(alloc, &mut shelf, "r.vcd")?)
+    Ok(read_vcd(alloc, &mut shelf, "r.vcd", Unknown::Zero)?)
 }
 
 /// The value of each signal at a sample.

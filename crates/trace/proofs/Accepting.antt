@@ -15,6 +15,7 @@ use Rattle.trace.proofs.Definitions.{AreWords, codes-read, declared_of, definiti
 use Rattle.trace.specs.Codes.{code_of, codes_of}
 use Rattle.trace.specs.Trace.{count_of, definitions, trace_sampled, trace_text, valuation_in}
 use Rattle.trace.specs.Words.{HasWords}
+use Rattle.vcd_reader.specs.declared.unknown.Unknown.{Unknown}
 use Rattle.vcd_reader.specs.Declarations.{bits_most}
 use Rattle.vcd_reader.specs.Meaning.{reading}
 use Rattle.vcd_reader.specs.Rules.{sample_limit}
@@ -56,15 +57,15 @@ words-are design words signal within = let word = words signal within in (word.s
 
 -- ---- the text
 
-pub trace-read : (design : Design) (run : Run) (loops : ℕ) → IsRun design run → HasWords design → design.signals ≤ bits_most → count_of run loops ≤ sample_limit
-    → reading (trace_text design run loops) ≡ Ok (trace_sampled design run loops)
-trace-read design run loops is words few short =
+pub trace-read : (unknown : Unknown) (design : Design) (run : Run) (loops : ℕ) → IsRun design run → HasWords design → design.signals ≤ bits_most → count_of run loops ≤ sample_limit
+    → reading unknown (trace_text design run loops) ≡ Ok (trace_sampled unknown design run loops)
+trace-read unknown design run loops is words few short =
     let text = trace_text design run loops in
     let count = count_of run loops in
     let declared = declared_of design.names design.signals in
     let wide : length (codes_of design.signals) ≡ design.signals = length-map-range_with_len code_of 0 design.signals in
     let last : 0 + count ≡ count = omega arith in
-    text-read text declared (valuation_in run) count (λ sample within. sized design run is sample ∙ sym wide)
+    text-read unknown text declared (valuation_in run) count (λ sample within. sized design run is sample ∙ sym wide)
     (reads-all text at_first (before_sample declared count) text (events_from (valuation_in run) 0 count)
     (reads-on text at_first (before_sample declared 0) (before_sample declared count) (definitions design) (samples_from (codes_of design.signals) (valuation_in run) 0 count) [] (events_from (valuation_in run) 0 count)
     (definitions-read text design.names design.signals (words-are design words) few)

@@ -26,6 +26,7 @@ use Rattle.psl_tree.specs.declared.name.Name.{Name}
 use Rattle.trace.proofs.Accepting.{in-loop, in-stem}
 use Rattle.trace.specs.Letters.{letters_over}
 use Rattle.trace.specs.Trace.{count_of, trace_sampled, valuation_in}
+use Rattle.vcd_reader.specs.declared.unknown.Unknown.TheVariants.{Zero}
 use Rattle.vcd_reader.specs.Sampled.{bit_at, bit_of}
 use Rattle.vcd_writer.specs.Lines.{letters_of}
 
@@ -147,15 +148,15 @@ letters-same design sound one two here there agree = ap (λ (atoms : List Atom).
 
 -- ---- the bits of a trace
 
-value-bit : (values : List Bool) (signal : ℕ) → bit_of (slice_index_or (letters_of values) signal None) 0 ≡ slice_index_or values signal false
+value-bit : (values : List Bool) (signal : ℕ) → bit_of Zero (slice_index_or (letters_of values) signal None) 0 ≡ slice_index_or values signal false
 value-bit [] signal = refl
 value-bit (false ∷ values) zero = refl
 value-bit (true ∷ values) zero = refl
 value-bit (value ∷ values) (suc signal) = value-bit values signal
 
-trace-bit : (design : Design) (run : Run) (loops sample signal : ℕ) → sample < count_of run loops → bit_at (trace_sampled design run loops) sample signal 0 ≡ bit (valuation_in run sample) signal
+trace-bit : (design : Design) (run : Run) (loops sample signal : ℕ) → sample < count_of run loops → bit_at (trace_sampled Zero design run loops) sample signal 0 ≡ bit (valuation_in run sample) signal
 trace-bit design run loops sample signal within =
-    ap (λ (row : List (Option (List ℕ))). bit_of (slice_index_or row signal None) 0)
+    ap (λ (row : List (Option (List ℕ))). bit_of Zero (slice_index_or row signal None) 0)
     (get_or-map-range_with_len (λ (n : ℕ). letters_of (valuation_in run n)) 0 (count_of run loops) sample sample [] within (omega arith))
     ∙ value-bit (valuation_in run sample) signal
 
@@ -191,7 +192,7 @@ word-loop design run place loops =
 -- ---- each letter of a trace
 
 abbrev trace_bits : Design → Run → ℕ → Bits
-trace_bits design run loops = bit_at (trace_sampled design run loops)
+trace_bits design run loops = bit_at (trace_sampled Zero design run loops)
 
 agree-stem : (design : Design) (run : Run) (loops place : ℕ) → 0 < length run.loop_part → place < suc (length run.stem) → place < count_of run loops
     → Agree (trace_bits design run loops) (bits_of run) place place
@@ -242,9 +243,9 @@ firsts trace letter start (suc count) each =
     ap trace (let e : 1 + place ≡ suc place = omega arith in e) ∙ each (suc place) (omega (arith, within)) ∙ ap (λ (n : ℕ). Some (letter n)) (let e : start + suc place ≡ start + 1 + place = omega arith in e)))
 
 pub letters-are : (design : Design) (run : Run) (loops : ℕ) → IsSound design → IsRun design run
-    → letters_over design.names (trace_sampled design run loops) ≡ first (count_of run loops) (trace_of (word design run))
+    → letters_over design.names (trace_sampled Zero design run loops) ≡ first (count_of run loops) (trace_of (word design run))
 letters-are design run loops sound is =
-    let count : length (trace_sampled design run loops).samples ≡ count_of run loops = length-map-range_with_len (λ (n : ℕ). letters_of (valuation_in run n)) 0 (count_of run loops) in
+    let count : length (trace_sampled Zero design run loops).samples ≡ count_of run loops = length-map-range_with_len (λ (n : ℕ). letters_of (valuation_in run n)) 0 (count_of run loops) in
     ap (λ (n : ℕ). map (letter_at (trace_bits design run loops) design.names) (range_with_len 0 n)) count
     ∙ sym (firsts (trace_of (word design run)) (letter_at (trace_bits design run loops) design.names) 0 (count_of run loops)
     (λ place within. each-letter design run loops place sound is.loops within ∙ ap (λ (n : ℕ). Some (letter_at (trace_bits design run loops) design.names n)) (let e : place ≡ 0 + place = omega arith in e)))

@@ -7,6 +7,8 @@ use Rattle.psl_tree.specs.Names.{first_name}
 use Rattle.psl_tree.specs.declared.name.Name.{Name}
 use Rattle.trace.specs.Codes.{code_of, codes_of}
 use Rattle.trace.specs.Printed.{printed}
+use Rattle.vcd_reader.specs.declared.unknown.Unknown.{Unknown}
+use Rattle.vcd_reader.specs.Meaning.{places_in}
 use Rattle.vcd_reader.specs.Sampled.{Sampled}
 use Rattle.vcd_writer.specs.Lines.{letters_of, line, samples_from}
 
@@ -55,9 +57,12 @@ name_in names signal = record { text = printed (first_text names signal); signal
 abbrev pub trace_names : Design → List Name
 trace_names design = map (name_in design.names) (range_with_len 0 design.signals)
 
--- what the trace says: at each sample each signal has the value that it has in the valuation
-abbrev pub trace_sampled : Design → Run → ℕ → Sampled
-trace_sampled design run loops = record {
+-- what the trace says: at each sample each signal has the value that it has in the valuation; where its samples begin is
+-- left to the text
+abbrev pub trace_sampled : Unknown → Design → Run → ℕ → Sampled
+trace_sampled unknown design run loops = record {
   names = trace_names design;
   samples = map (λ sample. letters_of (valuation_in run sample)) (range_with_len 0 (count_of run loops));
+  places = places_in (trace_text design run loops);
+  unknown = unknown;
 }

@@ -11,18 +11,20 @@ ghost use Rattle.trace.specs.Words.{HasWords};
 ghost use Rattle.vcd_reader.specs.Declarations.{bits_most};
 ghost use Rattle.vcd_reader.specs.Meaning.{reading};
 ghost use Rattle.vcd_reader.specs.Rules.{sample_limit};
+ghost use Rattle.vcd_reader.specs.declared.unknown.Unknown.{Unknown};
 
 /// A law of the definitions, which runs nothing: up to the limits on signals and samples of a recording, the trace of a
-/// run is read without a fault where first names are words, and says just the values of the run.
+/// run is read without a fault where first names are words, however unknown bits read, and says just the values of the run.
 pub fn read_law()
-    ensures { (design : Design) (run : Run) (loops : ℕ) → IsRun design run → HasWords design → design.signals ≤ bits_most → count_of run loops ≤ sample_limit
-        → reading (trace_text design run loops) ≡ Ok (trace_sampled design run loops) }
+    ensures { (unknown : Unknown) (design : Design) (run : Run) (loops : ℕ) → IsRun design run → HasWords design → design.signals ≤ bits_most → count_of run loops ≤ sample_limit
+        → reading unknown (trace_text design run loops) ≡ Ok (trace_sampled unknown design run loops) }
 {}
 
-/// A law of the definitions: what a trace says are the first letters of the run's word, over the names of the netlist.
+/// A law of the definitions: what a trace says, where unknown bits read as 0, are the first letters of the run's word, over
+/// the names of the netlist.
 pub fn word_law()
     ensures { (design : Design) (run : Run) (loops : ℕ) → IsSound design → IsRun design run
-        → letters_over design.names (trace_sampled design run loops) ≡ first (count_of run loops) (trace_of (word design run)) }
+        → letters_over design.names (trace_sampled Unknown.Zero design run loops) ≡ first (count_of run loops) (trace_of (word design run)) }
 {}
 
 /// Traces worked out by hand.

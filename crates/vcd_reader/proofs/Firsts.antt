@@ -6,6 +6,7 @@ use Rattle.psl_base.specs.Tokens.{PlacedToken, tokens}
 use Rattle.psl_base.specs.declared.place.Place.{Place}
 use Rattle.vcd_reader.specs.declared.fault.VcdFault.{VcdFault}
 use Rattle.vcd_reader.specs.declared.fault.VcdFault.TheVariants.{EndsInside}
+use Rattle.vcd_reader.specs.declared.unknown.Unknown.{Unknown}
 use Rattle.vcd_reader.specs.FirstFault.{HaveNone, IsFaultless, IsFirst}
 use Rattle.vcd_reader.specs.Meaning.{fault_at, may_end_after, fault_at_end, first_fault, dump_by, unless, end_of, reading, sampled_of}
 use Rattle.vcd_reader.specs.Sampled.{Sampled}
@@ -97,34 +98,34 @@ pub some-first : (end : Place) (ts : List PlacedToken) (found : VcdFault) → fi
 some-first end ts found some = by_found end ts found (subst (Found end [] ts) some (is_found end [] ts))
 
 -- the same of the bytes of a file
-pub faultless-reading : (bytes : List ℕ) → IsFaultless (tokens bytes) → reading bytes ≡ Ok (sampled_of (dump_by (tokens bytes)))
-faultless-reading bytes none = ap (λ (fault : Option VcdFault). unless fault (sampled_of (dump_by (tokens bytes)))) (faultless-none (end_of bytes) (tokens bytes) none)
+pub faultless-reading : (unknown : Unknown) (bytes : List ℕ) → IsFaultless (tokens bytes) → reading unknown bytes ≡ Ok (sampled_of unknown (dump_by (tokens bytes)))
+faultless-reading unknown bytes none = ap (λ (fault : Option VcdFault). unless fault (sampled_of unknown (dump_by (tokens bytes)))) (faultless-none (end_of bytes) (tokens bytes) none)
 
-pub first-reading : (bytes : List ℕ) (found : VcdFault) → IsFirst (end_of bytes) (tokens bytes) found → reading bytes ≡ Err found
-first-reading bytes found is = ap (λ (fault : Option VcdFault). unless fault (sampled_of (dump_by (tokens bytes)))) (first-some (end_of bytes) (tokens bytes) found is)
+pub first-reading : (unknown : Unknown) (bytes : List ℕ) (found : VcdFault) → IsFirst (end_of bytes) (tokens bytes) found → reading unknown bytes ≡ Err found
+first-reading unknown bytes found is = ap (λ (fault : Option VcdFault). unless fault (sampled_of unknown (dump_by (tokens bytes)))) (first-some (end_of bytes) (tokens bytes) found is)
 
 by_ok : (said recording : Sampled) (fault : Option VcdFault) → unless fault said ≡ Ok recording → (fault ≡ None) × (said ≡ recording)
 by_ok said recording None read = (refl, cc)
 by_ok said recording (Some found) read = absurd (let wrong : Err found ≡ Ok recording = read in cc)
 
-pub reading-faultless : (bytes : List ℕ) (recording : Sampled) → reading bytes ≡ Ok recording → IsFaultless (tokens bytes) × (sampled_of (dump_by (tokens bytes)) ≡ recording)
-reading-faultless bytes recording read =
-    let found = by_ok (sampled_of (dump_by (tokens bytes))) recording (first_fault (end_of bytes) [] (tokens bytes)) read in
+pub reading-faultless : (unknown : Unknown) (bytes : List ℕ) (recording : Sampled) → reading unknown bytes ≡ Ok recording → IsFaultless (tokens bytes) × (sampled_of unknown (dump_by (tokens bytes)) ≡ recording)
+reading-faultless unknown bytes recording read =
+    let found = by_ok (sampled_of unknown (dump_by (tokens bytes))) recording (first_fault (end_of bytes) [] (tokens bytes)) read in
     (none-faultless (end_of bytes) (tokens bytes) found.0, found.1)
 
 by_err : (said : Sampled) (fault : Option VcdFault) (found : VcdFault) → unless fault said ≡ Err found → fault ≡ Some found
 by_err said None found read = absurd (let wrong : Ok said ≡ Err found = read in cc)
 by_err said (Some same) found read = let equal : same ≡ found = cc in ap Some equal
 
-pub reading-first : (bytes : List ℕ) (found : VcdFault) → reading bytes ≡ Err found → IsFirst (end_of bytes) (tokens bytes) found
-reading-first bytes found read = some-first (end_of bytes) (tokens bytes) found (by_err (sampled_of (dump_by (tokens bytes))) (first_fault (end_of bytes) [] (tokens bytes)) found read)
+pub reading-first : (unknown : Unknown) (bytes : List ℕ) (found : VcdFault) → reading unknown bytes ≡ Err found → IsFirst (end_of bytes) (tokens bytes) found
+reading-first unknown bytes found read = some-first (end_of bytes) (tokens bytes) found (by_err (sampled_of unknown (dump_by (tokens bytes))) (first_fault (end_of bytes) [] (tokens bytes)) found read)
 
 by_answer : (said : Sampled) (fault : Option VcdFault) → ((recording : Sampled) × (unless fault said ≡ Ok recording)) ⊎ ((found : VcdFault) × (unless fault said ≡ Err found))
 by_answer said None = inl (said, refl)
 by_answer said (Some found) = inr (found, refl)
 
-pub some_answer : (bytes : List ℕ) → ((recording : Sampled) × (reading bytes ≡ Ok recording)) ⊎ ((found : VcdFault) × (reading bytes ≡ Err found))
-some_answer bytes = by_answer (sampled_of (dump_by (tokens bytes))) (first_fault (end_of bytes) [] (tokens bytes))
+pub some_answer : (unknown : Unknown) (bytes : List ℕ) → ((recording : Sampled) × (reading unknown bytes ≡ Ok recording)) ⊎ ((found : VcdFault) × (reading unknown bytes ≡ Err found))
+some_answer unknown bytes = by_answer (sampled_of unknown (dump_by (tokens bytes))) (first_fault (end_of bytes) [] (tokens bytes))
 
-pub one_answer : (bytes : List ℕ) (recording : Sampled) (found : VcdFault) → reading bytes ≡ Ok recording → reading bytes ≡ Err found → ⊥
-one_answer bytes recording found read refused = let wrong : Ok recording ≡ Err found = sym read ∙ refused in cc
+pub one_answer : (unknown : Unknown) (bytes : List ℕ) (recording : Sampled) (found : VcdFault) → reading unknown bytes ≡ Ok recording → reading unknown bytes ≡ Err found → ⊥
+one_answer unknown bytes recording found read refused = let wrong : Ok recording ≡ Err found = sym read ∙ refused in cc

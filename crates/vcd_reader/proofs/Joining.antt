@@ -6,6 +6,7 @@ use Rattle.std.proofs.lemmas.List.FromFn.{fill_by_all}
 use Rattle.std.specs.List.{All, range_with_len}
 use Rattle.std.specs.Option.{option_map}
 use Rattle.psl_base.proofs.Placing.{placed}
+use Rattle.psl_base.specs.Places.{file_limit, place_at}
 use Rattle.psl_base.specs.Tokens.{PlacedToken, tokens, all_tokens}
 use Rattle.psl_base.specs.declared.place.Place.{Place}
 use Rattle.vcd_reader.specs.declared.changes.Change.{Change}
@@ -13,13 +14,15 @@ use Rattle.vcd_reader.specs.declared.fault.VcdFault.{VcdFault}
 use Rattle.vcd_reader.specs.declared.fault.VcdFault.TheVariants as vcd
 use Rattle.vcd_reader.proofs.Holding.{State, lettered, Holds}
 use Rattle.vcd_reader.proofs.Saying.{walk-said}
+use Rattle.vcd_reader.proofs.Starting.{begun, offsets, run-starts, run-samples, begun-within, places-kept}
 use Rattle.vcd_reader.proofs.Telling.{state_of, state_in, AgreeWhole, defining_agrees}
 use Rattle.vcd_reader.proofs.Values.{kept, latest, last_change-kept, times_upto-get_or}
 use Rattle.vcd_reader.specs.Declarations.{Declared, nothing_declared}
 use Rattle.vcd_reader.specs.Events.{Event, value_at, times_of}
-use Rattle.vcd_reader.specs.Meaning.{first_fault, events_after, unless, dump_by, sampled_of, end_of, reading}
-use Rattle.vcd_reader.specs.Rows.{value_of, rows_of, IsSound}
-use Rattle.vcd_reader.specs.Running.{Outcome, changes_after, raised, run_to, defining, Halts}
+use Rattle.vcd_reader.specs.declared.unknown.Unknown.{Unknown}
+use Rattle.vcd_reader.specs.Meaning.{first_fault, events_after, places_after, unless, dump_by, sampled_of, end_of, reading}
+use Rattle.vcd_reader.specs.Rows.{value_of, rows_of, kept_as, IsSound}
+use Rattle.vcd_reader.specs.Running.{Outcome, changes_after, starts_after, raised, run_to, defining, Halts}
 use Rattle.vcd_reader.specs.Rules.{rule_at, may_end}
 use Rattle.vcd_reader.specs.Sampled.{AreAlike}
 use Rattle.vcd_reader.specs.Changes.{latest_change, letters_in}
@@ -82,18 +85,27 @@ by_fault bytes (Some found) standing events out agree = absurd agree
 read_whole : (bytes : List ℕ) (out : Outcome) → defining nothing_declared Ready (all_tokens bytes) ≡ Ok out → Read bytes (first_fault (end_of bytes) [] (tokens bytes)) (standing_by (tokens bytes)) (events_after [] (tokens bytes)) out
 read_whole bytes out read = by_fault bytes _ _ _ out (subst (λ found. AgreeWhole bytes (unless (first_fault (end_of bytes) [] (tokens bytes)) (standing_by (tokens bytes), events_after [] (tokens bytes))) found) read (whole bytes))
 
-pub says_recording : (bytes : List ℕ) (d : Declared) (told : Told) (changes : List (List Change)) → defining nothing_declared Ready (all_tokens bytes) ≡ Ok (record { declared = d; part = Telling told; changes = changes }) →
-    reading bytes ≡ Ok (record { names = d.names; samples = rows_of bytes told.samples changes })
-says_recording bytes d told changes read =
-    let found = read_whole bytes _ read in
-    ap (λ (fault : Option VcdFault). unless fault (sampled_of (dump_by (tokens bytes)))) found.none
-    ∙ ap (λ (rows : List (List (Option (List ℕ)))). Ok (record { names = (standing_by (tokens bytes)).declared.names; samples = rows })) (samples-held bytes (length (standing_by (tokens bytes)).declared.codes) (events_after [] (tokens bytes)) (state_of told changes) found.holds)
-    ∙ ap (λ (known : Declared). Ok (record { names = known.names; samples = rows_of bytes told.samples changes })) (sym found.declared)
+-- where the samples begin is kept
+starts-read : (bytes : List ℕ) (out : Outcome) → defining nothing_declared Ready (all_tokens bytes) ≡ Ok out → out.starts ≡ offsets (begun Defining Ready (tokens bytes))
+starts-read bytes out read = run-starts (end_of bytes) nothing_declared Defining [] [] Ready (tokens bytes) out read
 
-pub sound_recording : (bytes : List ℕ) (d : Declared) (told : Told) (changes : List (List Change)) → defining nothing_declared Ready (all_tokens bytes) ≡ Ok (record { declared = d; part = Telling told; changes = changes }) →
-    All (λ name. name.signal < length d.codes) d.names → AreAlike d.names → IsSound d.names bytes told.samples changes
-sound_recording bytes d told changes read within alike =
+pub says_recording : (unknown : Unknown) (bytes : List ℕ) (d : Declared) (told : Told) (changes : List (List Change)) (starts : List ℕ) → defining nothing_declared Ready (all_tokens bytes) ≡ Ok (record { declared = d; part = Telling told; changes = changes; starts = starts }) →
+    reading unknown bytes ≡ Ok (kept_as d.names bytes told.samples changes starts unknown)
+says_recording unknown bytes d told changes starts read =
     let found = read_whole bytes _ read in
+    ap (λ (fault : Option VcdFault). unless fault (sampled_of unknown (dump_by (tokens bytes)))) found.none
+    ∙ ap (λ (rows : List (List (Option (List ℕ)))). Ok (record { names = (standing_by (tokens bytes)).declared.names; samples = rows; places = places_after [] (tokens bytes); unknown = unknown })) (samples-held bytes (length (standing_by (tokens bytes)).declared.codes) (events_after [] (tokens bytes)) (state_of told changes) found.holds)
+    ∙ ap (λ (places : List Place). Ok (record { names = (standing_by (tokens bytes)).declared.names; samples = rows_of bytes told.samples changes; places = places; unknown = unknown }))
+    (places-kept bytes ∙ ap (map (place_at bytes)) (sym (starts-read bytes _ read)))
+    ∙ ap (λ (known : Declared). Ok (kept_as known.names bytes told.samples changes starts unknown)) (sym found.declared)
+
+pub sound_recording : (bytes : List ℕ) (d : Declared) (told : Told) (changes : List (List Change)) (starts : List ℕ) → length bytes ≤ file_limit → defining nothing_declared Ready (all_tokens bytes) ≡ Ok (record { declared = d; part = Telling told; changes = changes; starts = starts }) →
+    All (λ name. name.signal < length d.codes) d.names → AreAlike d.names → IsSound d.names bytes told.samples changes starts
+sound_recording bytes d told changes starts short read within alike =
+    let found = read_whole bytes _ read in
+    let kept = starts-read bytes _ read in
+    let sized = ap length kept ∙ length-map (begun Defining Ready (tokens bytes)) (λ (t : PlacedToken). t.at) in
+    let samples = run-samples (end_of bytes) nothing_declared Defining [] [] Ready (tokens bytes) _ read in
     let codes = ap (λ (known : Declared). length known.codes) found.declared in
     let count = found.holds.count ∙ length-replicate (length (standing_by (tokens bytes)).declared.codes) [] in
     record {
@@ -101,17 +113,20 @@ sound_recording bytes d told changes read within alike =
       inside = found.holds.inside (All-replicate (λ (list : List Change). All (λ (change : Change). (0 < change.len) × (change.start + change.len ≤ length bytes)) list) (length (standing_by (tokens bytes)).declared.codes) [] (All-nil (λ (change : Change). (0 < change.len) × (change.start + change.len ≤ length bytes))));
       signals = λ i name in_range. let low = within i name in_range in omega (arith, low, codes, count);
       alike = alike;
+      short = short;
+      counted = omega (arith, sized, samples);
+      within = subst (All (λ (start : ℕ). start ≤ length bytes)) (sym kept) (begun-within bytes Defining Ready (tokens bytes) (placed bytes));
     }
 
 by_error : (bytes : List ℕ) (fault : Option VcdFault) (standing : Standing) (events : List Event) (found : VcdFault) → AgreeWhole bytes (unless fault (standing, events)) (Err found) → fault ≡ Some found
 by_error bytes None standing events found agree = absurd agree
 by_error bytes (Some same) standing events found agree = ap Some agree
 
-pub says_fault : (bytes : List ℕ) (found : VcdFault) → defining nothing_declared Ready (all_tokens bytes) ≡ Err found → reading bytes ≡ Err found
-says_fault bytes found halts =
+pub says_fault : (unknown : Unknown) (bytes : List ℕ) (found : VcdFault) → defining nothing_declared Ready (all_tokens bytes) ≡ Err found → reading unknown bytes ≡ Err found
+says_fault unknown bytes found halts =
     let first : first_fault (end_of bytes) [] (tokens bytes) ≡ Some found =
     by_error bytes _ _ _ found (subst (λ out. AgreeWhole bytes (unless (first_fault (end_of bytes) [] (tokens bytes)) (standing_by (tokens bytes), events_after [] (tokens bytes))) out) halts (whole bytes)) in
-    ap (λ (fault : Option VcdFault). unless fault (sampled_of (dump_by (tokens bytes)))) first
+    ap (λ (fault : Option VcdFault). unless fault (sampled_of unknown (dump_by (tokens bytes)))) first
 
 -- a fault of the text is none of the shelf
 abbrev IsOfText : VcdFault → Type 0
@@ -143,20 +158,20 @@ raised_of_text : (rule : Option (Place → VcdFault)) (place : Place) (later : R
 raised_of_text None place later each rest = rest
 raised_of_text (Some fault) place later each rest = each place
 
-run_of_text : (end : Place) (d : Declared) (p : Part) (changes : List (List Change)) (o : Open) (ts : List PlacedToken) → ErrOfText (run_to end d p changes o ts)
-run_of_text end d p changes o [] = end_of_text end (may_end p o) (record { declared = d; part = p; changes = changes })
-run_of_text end d p changes o (t ∷ ts) =
+run_of_text : (end : Place) (d : Declared) (p : Part) (changes : List (List Change)) (starts : List ℕ) (o : Open) (ts : List PlacedToken) → ErrOfText (run_to end d p changes starts o ts)
+run_of_text end d p changes starts o [] = end_of_text end (may_end p o) (record { declared = d; part = p; changes = changes; starts = starts })
+run_of_text end d p changes starts o (t ∷ ts) =
     raised_of_text (rule_at d p o t.text) t.place _ (rule_of_text d p o t.text)
-    (run_of_text end (declared_after d p o t.text) (part_after p o t.text) (changes_after d p changes o t.at t.text) (opened_after o t.at t.text) ts)
+    (run_of_text end (declared_after d p o t.text) (part_after p o t.text) (changes_after d p changes o t.at t.text) (starts_after p starts o t.at t.text) (opened_after o t.at t.text) ts)
 
-by_fault_read : (bytes : List ℕ) (found : VcdFault) → IsOfText found → reading bytes ≡ Err found → IsReadFault bytes found
-by_fault_read bytes vcd.TooLong of_text read = of_text
-by_fault_read bytes vcd.ReadFault of_text read = of_text
-by_fault_read bytes vcd.NoMemory of_text read = tt
-by_fault_read bytes found of_text read = read
+by_fault_read : (unknown : Unknown) (bytes : List ℕ) (found : VcdFault) → IsOfText found → reading unknown bytes ≡ Err found → IsReadFault unknown bytes found
+by_fault_read unknown bytes vcd.TooLong of_text read = of_text
+by_fault_read unknown bytes vcd.ReadFault of_text read = of_text
+by_fault_read unknown bytes vcd.NoMemory of_text read = tt
+by_fault_read unknown bytes found of_text read = read
 
 -- where the reading halts, the answer is the text's first fault, or memory was refused
-pub fault_read : (bytes : List ℕ) (found : VcdFault) → Halts found (defining nothing_declared Ready (all_tokens bytes)) → IsReadFault bytes found
-fault_read bytes found (inl memory) = subst (IsReadFault bytes) (sym memory) tt
-fault_read bytes found (inr halts) =
-    by_fault_read bytes found (subst (ErrOfText {A = Outcome}) halts (run_of_text (end_of bytes) nothing_declared Defining [] Ready (tokens bytes))) (says_fault bytes found halts)
+pub fault_read : (unknown : Unknown) (bytes : List ℕ) (found : VcdFault) → Halts found (defining nothing_declared Ready (all_tokens bytes)) → IsReadFault unknown bytes found
+fault_read unknown bytes found (inl memory) = subst (IsReadFault unknown bytes) (sym memory) tt
+fault_read unknown bytes found (inr halts) =
+    by_fault_read unknown bytes found (subst (ErrOfText {A = Outcome}) halts (run_of_text (end_of bytes) nothing_declared Defining [] [] Ready (tokens bytes))) (says_fault unknown bytes found halts)

@@ -9,5 +9,7 @@ mod Rows
 mod Saying
 mod Shaped
 mod Short
+mod Starting
 mod Telling
+mod Unknowns
 mod Values

@@ -6,7 +6,8 @@ use Rattle.std.proofs.lemmas.List.FromFn.{length-map-range_with_len, get_or-map-
 use Rattle.std.specs.List.{All, Any}
 use Rattle.psl_tree.specs.declared.name.Name.{Name}
 use Rattle.vcd_reader.specs.declared.changes.Change.{Change}
-use Rattle.vcd_reader.specs.Rows.{value_of, rows_of, AreInside, IsSound}
+use Rattle.vcd_reader.specs.declared.unknown.Unknown.{Unknown}
+use Rattle.vcd_reader.specs.Rows.{value_of, rows_of, kept_as, AreInside, IsSound}
 use Rattle.vcd_reader.specs.Sampled.{Sampled, value_in}
 use Rattle.vcd_reader.specs.Changes.{latest_change, letters_in}
 
@@ -14,9 +15,9 @@ pub length-rows_of : (bytes : List ℕ) (samples : ℕ) (changes : List (List Ch
 length-rows_of bytes samples changes = length-map-range_with_len _ 0 samples
 
 -- the value of a signal at a sample is that of its list
-pub value_in-rows : (recording : Sampled) (names : List Name) (bytes : List ℕ) (samples : ℕ) (changes : List (List Change)) (sample signal : ℕ) (list : List Change) →
-    record { names = names; samples = rows_of bytes samples changes } ≡ recording → sample < length recording.samples → signal < length changes → list ≡ get_or changes signal list → value_in recording sample signal ≡ value_of bytes sample list
-value_in-rows recording names bytes samples changes sample signal list view in_samples in_changes here =
+pub value_in-rows : (recording : Sampled) (names : List Name) (bytes : List ℕ) (samples : ℕ) (changes : List (List Change)) (starts : List ℕ) (unknown : Unknown) (sample signal : ℕ) (list : List Change) →
+    kept_as names bytes samples changes starts unknown ≡ recording → sample < length recording.samples → signal < length changes → list ≡ get_or changes signal list → value_in recording sample signal ≡ value_of bytes sample list
+value_in-rows recording names bytes samples changes starts unknown sample signal list view in_samples in_changes here =
     let counted : samples ≡ length recording.samples = sym (length-rows_of bytes samples changes) ∙ ap (λ (r : Sampled). length r.samples) view in
     let in_range : sample < samples = omega (arith, counted, in_samples) in
     let row : get_or recording.samples sample [] ≡ map (value_of bytes sample) changes =
@@ -35,8 +36,8 @@ latest_change-All P old samples (x ∷ xs) change before each latest =
     (λ now. by_turn P (leb x.sample samples) x change old now (All-head P x xs each) before) (All-tail P x xs each) latest
 
 -- a signal that some name has is one of the changes'
-pub has_changes : (names : List Name) (bytes : List ℕ) (samples : ℕ) (changes : List (List Change)) (signal : ℕ) → IsSound names bytes samples changes → Any (λ name. name.signal ≡ signal) names → signal < length changes
-has_changes names bytes samples changes signal sound (k, name, in_range, here, same) =
+pub has_changes : (names : List Name) (bytes : List ℕ) (samples : ℕ) (changes : List (List Change)) (starts : List ℕ) (signal : ℕ) → IsSound names bytes samples changes starts → Any (λ name. name.signal ≡ signal) names → signal < length changes
+has_changes names bytes samples changes starts signal sound (k, name, in_range, here, same) =
     let below = sound.signals k name in_range in
     let at : (get_or names k name).signal ≡ signal = ap (λ (n : Name). n.signal) here ∙ same in
     omega (arith, below, at)

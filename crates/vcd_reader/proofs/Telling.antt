@@ -19,7 +19,7 @@ use Rattle.vcd_reader.specs.Events.{Event, At, Gets}
 use Rattle.vcd_reader.specs.Labels.{place_of}
 use Rattle.vcd_reader.specs.Meaning.{fault_at_end, unless}
 use Rattle.vcd_reader.specs.Rules.{rule_at, may_end, is_strange_change, of_time, is_lower, changes_unknown, is_past_samples, is_unknown_keyword, is_missing_end, is_bad_var, differs_in_size, is_scope_not_open, is_bad_time, is_falling, is_undeclared, is_bad_value, is_too_long, is_early, begins_too_many}
-use Rattle.vcd_reader.specs.Running.{run_to, raised, Outcome, changes_with, changes_by, with_change}
+use Rattle.vcd_reader.specs.Running.{run_to, raised, Outcome, changes_with, changes_by, starts_after, with_change}
 use Rattle.vcd_reader.specs.Shapes.{shape_of, is_end}
 use Rattle.vcd_reader.specs.Changes.{letters_in}
 use Rattle.vcd_reader.specs.Standing.{Told, nothing_told, Part, Defining, Telling, Open, Ready, InComment, WantsDefinitionsEnd, WantsVectorCode, WantsUnreadCode, time_of, opened_by, opened_after, defined_after, told_by, told_time, told_event, change_of}
@@ -167,10 +167,10 @@ agree_rule : (bytes : List ℕ) (d : Declared) (old : State) (rule : Option (Pla
 agree_rule bytes d old None place said out agree = agree refl
 agree_rule bytes d old (Some broken) place said out agree = refl
 
-agree_end : (end : Place) (bytes : List ℕ) (d : Declared) (told : Told) (changes : List (List Change)) (opened : Open) (may : Bool) →
-    Agree bytes d (state_of told changes) (unless (fault_at_end end may) (record { declared = d; part = Telling told; opened = opened }, [])) (cond may (Ok (record { declared = d; part = Telling told; changes = changes })) (Err (EndsInside end)))
-agree_end end bytes d told changes opened true = (refl, refl, no_more bytes (state_of told changes))
-agree_end end bytes d told changes opened false = refl
+agree_end : (end : Place) (bytes : List ℕ) (d : Declared) (told : Told) (changes : List (List Change)) (starts : List ℕ) (opened : Open) (may : Bool) →
+    Agree bytes d (state_of told changes) (unless (fault_at_end end may) (record { declared = d; part = Telling told; opened = opened }, [])) (cond may (Ok (record { declared = d; part = Telling told; changes = changes; starts = starts })) (Err (EndsInside end)))
+agree_end end bytes d told changes starts opened true = (refl, refl, no_more bytes (state_of told changes))
+agree_end end bytes d told changes starts opened false = refl
 
 by_count : (unread : Bool) (changes : List (List Change)) (change : Change) (number : ℕ) → length (cond unread changes (with_change changes number change)) ≡ length changes
 by_count true changes change number = refl
@@ -185,30 +185,30 @@ changes_by-count d told changes Scalar at text = changes_count d changes _ (plac
 changes_by-count d told changes shape at text = refl
 
 -- the body
-telling_agrees : (end : Place) (bytes : List ℕ) (d : Declared) (told : Told) (changes : List (List Change)) (o : Open) (ts : List PlacedToken) → ArePlaced bytes ts → IsSet bytes o → length changes ≡ length d.codes →
-    Agree bytes d (state_of told changes) (walk end (record { declared = d; part = Telling told; opened = o }) ts) (run_to end d (Telling told) changes o ts)
-telling_agrees end bytes d told changes o [] placed set count = agree_end end bytes d told changes o (may_end (Telling told) o)
-telling_agrees end bytes d told changes Ready (t ∷ ts) placed set count =
+telling_agrees : (end : Place) (bytes : List ℕ) (d : Declared) (told : Told) (changes : List (List Change)) (starts : List ℕ) (o : Open) (ts : List PlacedToken) → ArePlaced bytes ts → IsSet bytes o → length changes ≡ length d.codes →
+    Agree bytes d (state_of told changes) (walk end (record { declared = d; part = Telling told; opened = o }) ts) (run_to end d (Telling told) changes starts o ts)
+telling_agrees end bytes d told changes starts o [] placed set count = agree_end end bytes d told changes starts o (may_end (Telling told) o)
+telling_agrees end bytes d told changes starts Ready (t ∷ ts) placed set count =
     agree_rule bytes d (state_of told changes) (rule_at d (Telling told) Ready t.text) t.place _ _
     (λ none. let fine = passed d (Telling told) Ready t.text none in
     agree_more bytes d (state_of told changes) _ _ _ _
     (by_shape bytes d told changes t (shape_of t.text) refl placed.0 count fine.time fine.steady fine.declared fine.few)
-    (telling_agrees end bytes d (told_by told (shape_of t.text) t.text) (changes_by d told changes (shape_of t.text) t.at t.text) (opened_by (shape_of t.text) t.at t.text) ts placed.1
+    (telling_agrees end bytes d (told_by told (shape_of t.text) t.text) (changes_by d told changes (shape_of t.text) t.at t.text) (starts_after (Telling told) starts Ready t.at t.text) (opened_by (shape_of t.text) t.at t.text) ts placed.1
     (set_by bytes told t (shape_of t.text) refl placed.0 fine.keyword) (changes_by-count d told changes (shape_of t.text) t.at t.text ∙ count)))
-telling_agrees end bytes d told changes InComment (t ∷ ts) placed set count =
+telling_agrees end bytes d told changes starts InComment (t ∷ ts) placed set count =
     agree_rule bytes d (state_of told changes) (rule_at d (Telling told) InComment t.text) t.place _ _
     (λ none. agree_more bytes d (state_of told changes) (state_of told changes) None _ _ Stays
-    (telling_agrees end bytes d told changes (cond (is_end t.text) Ready InComment) ts placed.1 (set_comment bytes (is_end t.text)) count))
-telling_agrees end bytes d told changes WantsUnreadCode (t ∷ ts) placed set count =
+    (telling_agrees end bytes d told changes starts (cond (is_end t.text) Ready InComment) ts placed.1 (set_comment bytes (is_end t.text)) count))
+telling_agrees end bytes d told changes starts WantsUnreadCode (t ∷ ts) placed set count =
     agree_rule bytes d (state_of told changes) (rule_at d (Telling told) WantsUnreadCode t.text) t.place _ _
-    (λ none. agree_more bytes d (state_of told changes) (state_of told changes) None _ _ Stays (telling_agrees end bytes d told changes Ready ts placed.1 tt count))
-telling_agrees end bytes d told changes (WantsVectorCode start value) (t ∷ ts) placed set count =
+    (λ none. agree_more bytes d (state_of told changes) (state_of told changes) None _ _ Stays (telling_agrees end bytes d told changes starts Ready ts placed.1 tt count))
+telling_agrees end bytes d told changes starts (WantsVectorCode start value) (t ∷ ts) placed set count =
     agree_rule bytes d (state_of told changes) (rule_at d (Telling told) (WantsVectorCode start value) t.text) t.place _ _
     (λ none. let fine = passed d (Telling told) (WantsVectorCode start value) t.text none in
     agree_more bytes d (state_of told changes) _ _ _ _
     (change_step bytes d told changes value t.text start (length value) (place_of d.codes t.text) refl fine.declared count (letters_at bytes value told.samples start (length value) set.2) set.0 set.1)
-    (telling_agrees end bytes d told (changes_with d changes (record { sample = told.samples; start = start; len = length value }) (place_of d.codes t.text)) Ready ts placed.1 tt (changes_count d changes _ (place_of d.codes t.text) ∙ count)))
-telling_agrees end bytes d told changes o (t ∷ ts) placed set count = absurd set
+    (telling_agrees end bytes d told (changes_with d changes (record { sample = told.samples; start = start; len = length value }) (place_of d.codes t.text)) starts Ready ts placed.1 tt (changes_count d changes _ (place_of d.codes t.text) ∙ count)))
+telling_agrees end bytes d told changes starts o (t ∷ ts) placed set count = absurd set
 
 -- what is held of the whole, from its first token on
 abbrev pub AgreeWhole : List ℕ → Said → Result Outcome VcdFault → Type 0
@@ -235,10 +235,10 @@ agree_if bytes None place said out agree = agree
 agree_if bytes (Some broken) place said out agree = refl
 
 -- the definitions, and then the body
-pub defining_agrees : (end : Place) (bytes : List ℕ) (d : Declared) (o : Open) (ts : List PlacedToken) → ArePlaced bytes ts → AgreeWhole bytes (walk end (record { declared = d; part = Defining; opened = o }) ts) (run_to end d Defining [] o ts)
+pub defining_agrees : (end : Place) (bytes : List ℕ) (d : Declared) (o : Open) (ts : List PlacedToken) → ArePlaced bytes ts → AgreeWhole bytes (walk end (record { declared = d; part = Defining; opened = o }) ts) (run_to end d Defining [] [] o ts)
 defining_agrees end bytes d o [] placed = refl
 defining_agrees end bytes d WantsDefinitionsEnd (t ∷ ts) placed =
     agree_if bytes (rule_at d Defining WantsDefinitionsEnd t.text) t.place _ _
-    (agree_none bytes _ _ (agree_begins bytes d _ _ (telling_agrees end bytes d nothing_told (replicate (length d.codes) []) Ready ts placed.1 tt (length-replicate (length d.codes) []))))
+    (agree_none bytes _ _ (agree_begins bytes d _ _ (telling_agrees end bytes d nothing_told (replicate (length d.codes) []) [] Ready ts placed.1 tt (length-replicate (length d.codes) []))))
 defining_agrees end bytes d o (t ∷ ts) placed =
     agree_if bytes (rule_at d Defining o t.text) t.place _ _ (agree_none bytes _ _ (defining_agrees end bytes (defined_after d o t.text) (opened_after o t.at t.text) ts placed.1))

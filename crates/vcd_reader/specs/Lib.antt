@@ -3,6 +3,7 @@ pub use Rattle.psl_base.specs.Shelf
 pub use Rattle.psl_base.specs.Tokens
 pub use Rattle.psl_base.specs.declared.place.Place
 pub use Rattle.psl_tree.specs.Names
+pub mod Beginnings
 pub mod Changes
 pub mod Declarations
 pub mod Events
@@ -20,3 +21,4 @@ pub mod Shapes
 pub mod Short
 pub mod Standing
 pub mod Told
+pub mod Unknowns

@@ -1,11 +1,13 @@
 -- The samples of a recording, from what is kept of it.
-use Rattle.std.specs.Prelude.{ℕ, ◌+◌, ◌<◌, ◌≤◌, List, map, length, Option, None, All}
+use Rattle.std.specs.Prelude.{◌≡◌, ℕ, ◌+◌, ◌<◌, ◌≤◌, List, map, length, Option, None, All}
 use Rattle.std.specs.List.{range_with_len}
 use Rattle.std.specs.Option.{option_map}
+use Rattle.psl_base.specs.Places.{file_limit, place_at}
 use Rattle.psl_tree.specs.declared.name.Name.{Name}
 use Rattle.vcd_reader.specs.declared.changes.Change.{Change}
 use Rattle.vcd_reader.specs.Rules.{sample_limit}
-use Rattle.vcd_reader.specs.Sampled.{AreAlike}
+use Rattle.vcd_reader.specs.Sampled.{Sampled, AreAlike}
+use Rattle.vcd_reader.specs.declared.unknown.Unknown.{Unknown}
 use Rattle.vcd_reader.specs.Changes.{latest_change, letters_in}
 
 -- the value of a signal, by its changes, at a sample: its latest change with at most so many samples begun, this one among them
@@ -19,9 +21,22 @@ rows_of bytes samples changes = map (λ sample. map (value_of bytes sample) chan
 abbrev pub AreInside : List ℕ → List (List Change) → Type 0
 AreInside bytes changes = All (λ list. All (λ change. (0 < change.len) × (change.start + change.len ≤ length bytes)) list) changes
 
+-- a recording, from what is kept of it: its names and its bytes, how many samples it has, of each signal its changes, and
+-- before how many bytes each sample begins
+abbrev pub kept_as : List Name → List ℕ → ℕ → List (List Change) → List ℕ → Unknown → Sampled
+kept_as names bytes samples changes starts unknown = record {
+  names = names;
+  samples = rows_of bytes samples changes;
+  places = map (place_at bytes) starts;
+  unknown = unknown;
+}
+
 -- what each recording keeps
-pub record IsSound (names : List Name) (bytes : List ℕ) (samples : ℕ) (changes : List (List Change)) : Type 0 where
+pub record IsSound (names : List Name) (bytes : List ℕ) (samples : ℕ) (changes : List (List Change)) (starts : List ℕ) : Type 0 where
   pub few : samples ≤ sample_limit
+  pub short : length bytes ≤ file_limit
   pub inside : AreInside bytes changes
   pub signals : All (λ name. name.signal < length changes) names
   pub alike : AreAlike names
+  pub counted : length starts ≡ samples
+  pub within : All (λ start. start ≤ length bytes) starts

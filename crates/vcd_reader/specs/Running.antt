@@ -8,20 +8,23 @@ use Rattle.vcd_reader.specs.declared.fault.VcdFault.{VcdFault}
 use Rattle.vcd_reader.specs.declared.fault.VcdFault.TheVariants.{EndsInside, TooManySignals, NoMemory}
 use Rattle.vcd_reader.specs.declared.shape.Shape.{Shape}
 use Rattle.vcd_reader.specs.declared.shape.Shape.TheVariants.{Scalar}
+use Rattle.vcd_reader.specs.Beginnings.{begins_sample}
 use Rattle.vcd_reader.specs.Declarations.{Declared, signal_at, bits_of, bits_most}
 use Rattle.vcd_reader.specs.Labels.{place_of}
 use Rattle.vcd_reader.specs.Rules.{rule_at, may_end}
 use Rattle.vcd_reader.specs.Shapes.{shape_of}
 use Rattle.vcd_reader.specs.Standing.{Told, nothing_told, Part, Defining, Telling, Open, Ready, WantsScopeType, WantsScopeName, WantsScopeEnd, WantsUpscopeEnd, WantsDefinitionsEnd, WantsType, WantsReference, WantsVectorCode, declared_after, part_after, opened_after}
 
--- what is kept of the body: what was told, and of each signal its changes
+-- what is kept of the body: what was told, of each signal its changes, and how many bytes of the text stand
+-- before the token with which each sample begins
 pub record Held : Type 0 where
   pub told : Told
   pub changes : List (List Change)
+  pub starts : List ℕ
 
 -- nothing yet of so many signals
 abbrev pub nothing_held : ℕ → Held
-nothing_held signals = record { told = nothing_told; changes = replicate signals [] }
+nothing_held signals = record { told = nothing_told; changes = replicate signals []; starts = [] }
 
 -- the changes with one more of a signal
 abbrev pub with_change : List (List Change) → ℕ → Change → List (List Change)
@@ -44,11 +47,16 @@ changes_after declared (Telling told) changes (WantsVectorCode start value) at t
     changes_with declared changes (record { sample = told.samples; start = start; len = length value }) (place_of declared.codes text)
 changes_after declared part changes opened at text = changes
 
+-- where samples begin, after a token
+abbrev pub starts_after : Part → List ℕ → Open → ℕ → List ℕ → List ℕ
+starts_after part starts opened at text = cond (begins_sample part opened text) (starts ++ at ∷ []) starts
+
 -- what is known after the last token
 pub record Outcome : Type 0 where
   pub declared : Declared
   pub part : Part
   pub changes : List (List Change)
+  pub starts : List ℕ
 
 -- a token's fault, raised at its place, or else what comes later
 abbrev pub raised : {A : Type 0} → Option (Place → VcdFault) → Place → Result A VcdFault → Result A VcdFault
@@ -56,24 +64,24 @@ raised None place later = later
 raised (Some fault) place later = Err (fault place)
 
 -- what tokens say, from what was read before; the text ends at a place
-abbrev pub run_to : Place → Declared → Part → List (List Change) → Open → List PlacedToken → Result Outcome VcdFault
-run_to end declared part changes opened [] =
-    cond (may_end part opened) (Ok (record { declared = declared; part = part; changes = changes })) (Err (EndsInside end))
-run_to end declared part changes opened (t ∷ ts) =
+abbrev pub run_to : Place → Declared → Part → List (List Change) → List ℕ → Open → List PlacedToken → Result Outcome VcdFault
+run_to end declared part changes starts opened [] =
+    cond (may_end part opened) (Ok (record { declared = declared; part = part; changes = changes; starts = starts })) (Err (EndsInside end))
+run_to end declared part changes starts opened (t ∷ ts) =
     raised (rule_at declared part opened t.text) t.place
-    (run_to end (declared_after declared part opened t.text) (part_after part opened t.text) (changes_after declared part changes opened t.at t.text) (opened_after opened t.at t.text) ts)
+    (run_to end (declared_after declared part opened t.text) (part_after part opened t.text) (changes_after declared part changes opened t.at t.text) (starts_after part starts opened t.at t.text) (opened_after opened t.at t.text) ts)
 
 -- what the tokens say that are left
-abbrev pub run : Declared → Part → List (List Change) → Open → TokensLeft → Result Outcome VcdFault
-run declared part changes opened left = run_to left.end declared part changes opened left.tokens
+abbrev pub run : Declared → Part → List (List Change) → List ℕ → Open → TokensLeft → Result Outcome VcdFault
+run declared part changes starts opened left = run_to left.end declared part changes starts opened left.tokens
 
 -- the definitions, from what is open there
 abbrev pub defining : Declared → Open → TokensLeft → Result Outcome VcdFault
-defining declared opened left = run declared Defining [] opened left
+defining declared opened left = run declared Defining [] [] opened left
 
 -- the body, from what is open there
 abbrev pub telling : Declared → Held → Open → TokensLeft → Result Outcome VcdFault
-telling declared held opened left = run declared (Telling held.told) held.changes opened left
+telling declared held opened left = run declared (Telling held.told) held.changes held.starts opened left
 
 -- where a reading ends with a fault, the tokens have it; want of memory may come at any time
 abbrev pub Halts : VcdFault → Result Outcome VcdFault → Type 0

@@ -19,13 +19,15 @@ use std::marker::Model;
 /// How many samples a recording has at most.
 pub const SAMPLE_LIMIT: u32 = 1_000_000;
 
-/// What is kept of a recording's times and changes while they are read.
+/// What is kept of a recording's times and changes while they are read: the changes of each signal, and how many bytes of
+/// the text stand before the token with which each sample begins.
 #[derive(Drop)]
 pub struct Body {
     last: Option<u64>,
     samples: u32,
     in_block: bool,
     changes: Vec<Changes>,
+    starts: Vec<u32>,
 }
 
 impl Model for Body {
@@ -35,7 +37,7 @@ impl Model for Body {
 
     ghost Value = { Held };
 
-    ghost view = { λ body. record { told = record { last = body.last; samples = body.samples; in_block = body.in_block }; changes = body.changes.items } };
+    ghost view = { λ body. record { told = record { last = body.last; samples = body.samples; in_block = body.in_block }; changes = body.changes.items; starts = body.starts.items } };
 
     ghost invariant = { λ body. (body.samples ≤ sample_limit) × All (λ list. All (λ change. change.sample ≤ body.samples) list) body.changes.items };
 }
@@ -43,7 +45,7 @@ impl Model for Body {
 impl Body {
     /// What the tokens say, which stand after the definitions.
     pub fn read(alloc: Global, found: &Definitions, cursor: &mut Cursor) -> Result<Body, VcdFault>
-        ensures ok { IfOk result (λ body. telling found.now (nothing_held (length found.now.codes)) Ready cursor.old ≡ Ok (record { declared = found.now; part = Telling body.told; changes = body.changes })) }
+        ensures ok { IfOk result (λ body. telling found.now (nothing_held (length found.now.codes)) Ready cursor.old ≡ Ok (record { declared = found.now; part = Telling body.told; changes = body.changes; starts = body.starts })) }
         ensures err { IfErr result (λ fault. Halts fault (telling found.now (nothing_held (length found.now.codes)) Ready cursor.old)) }
     {
         let mut body = Body::new(alloc, found.len(), cursor.room())?;
@@ -56,17 +58,19 @@ impl Body {
         Ok(body)
     }
 
-    /// The changes of each signal, and how many samples were begun.
-    pub fn into_parts(self) -> (Vec<Changes>, u32)
+    /// The changes of each signal, where samples begin, and how many there are.
+    pub fn into_parts(self) -> (Vec<Changes>, Vec<u32>, u32)
         ensures changes { result.0.items ≡ self.changes }
-        ensures samples { result.1 ≡ self.told.samples }
+        ensures starts { result.1.items ≡ self.starts }
+        ensures samples { result.2 ≡ self.told.samples }
     {
         let Body {
             changes,
+            starts,
             samples,
             ..
         } = self;
-        (changes, samples)
+        (changes, starts, samples)
     }
 
     /// Nothing yet of so many signals, of which so many bytes tell.
@@ -83,6 +87,7 @@ impl Body {
             samples: 0,
             in_block: false,
             changes,
+            starts: Vec::new(alloc),
         })
     }
 
@@ -145,7 +150,7 @@ impl Body {
     /// A time: a higher one than the last begins a sample.
     fn time(&mut self, token: &Token) -> Result<(), VcdFault>
         requires { shape_of token.now.text ≡ Shape.Time }
-        ensures goes { (d : Declared) (left : TokensLeft) → GoesOn result (telling d self.old Ready (token.now ▸ left)) (telling d self.new Ready left) }
+        ensures goes { (d : Declared) (left : TokensLeft) → Goes result (telling d self.old Ready (token.now ▸ left)) (telling d self.new Ready left) }
         ensures changes { self.new.changes ≡ self.old.changes }
     {
         if self.in_block {
@@ -163,6 +168,7 @@ impl Body {
         if self.samples >= SAMPLE_LIMIT {
             return Err(VcdFault::TooManySamples(token.place()));
         }
+        self.starts.push(token.at() as u32)?;
         self.last = Some(time);
         self.samples += 1;
         Ok(())

@@ -2,24 +2,30 @@ ghost use Rattle.std.specs.Prelude.{◌≡◌, ◌<◌, ◌≤◌, ◌^◌, leng
 ghost use Rattle.psl_base.specs.Places.{file_limit};
 ghost use Rattle.psl_base.specs.Shelf.{OnlyReads, IsLonger, Tells, HasTaken, ReadingFails, SelectsNoOther};
 ghost use Rattle.vcd_reader.specs.Meaning.{reading};
-ghost use Rattle.vcd_reader.specs.Rows.{rows_of, IsSound};
+ghost use Rattle.vcd_reader.specs.Rows.{kept_as, IsSound};
 ghost use Rattle.vcd_reader.specs.Told.{Says, IsFirstFault, IsReadFault};
+ghost use Rattle.vcd_reader.specs.declared.unknown.Unknown.{Unknown};
 
 use crate::body::Body;
-use crate::changes::Changes;
 use crate::definitions::Definitions;
-use crate::{Recording, VcdFault};
+use crate::recording::Parts;
+use crate::{Recording, Unknown, VcdFault};
 use psl_base::{Bytes, Cursor, FILE_LIMIT, Shelf, read_all};
-use psl_tree::Names;
 use std::alloc::Global;
 
 /// The recording that a file holds, a value change dump (IEEE 1364, clause 18). It has one sample for
 /// each distinct time that the file lists, in order, and at it of each signal the last change before the
-/// next higher time. A file at fault is refused with its first fault; of several at one token the one
-/// that stands first in `VcdFault` is named.
-pub fn read_vcd<S: Shelf>(alloc: Global, shelf: &mut S, name: &str) -> Result<Recording, VcdFault>
-    ensures sampled { IfOk result (λ recording. Says (S.state shelf.old) name.now (Ok recording)) }
-    ensures fault { IfErr result (λ fault. IsFirstFault (S.state shelf.old) name.now fault) }
+/// next higher time. Bits that are unknown read as `unknown` says; which they are can still be asked of the
+/// recording. A file at fault is refused with its first fault; of several at one token the one that stands
+/// first in `VcdFault` is named.
+pub fn read_vcd<S: Shelf>(
+    alloc: Global,
+    shelf: &mut S,
+    name: &str,
+    unknown: Unknown,
+) -> Result<Recording, VcdFault>
+    ensures sampled { IfOk result (λ recording. Says unknown (S.state shelf.old) name.now (Ok recording)) }
+    ensures fault { IfErr result (λ fault. IsFirstFault unknown (S.state shelf.old) name.now fault) }
 
     // The content is longer than a file may be, and so many bytes of it were taken.
     ensures longer { IsErrOf result VcdFault.TooLong → IsLonger file_limit (S.state shelf.old) name.now }
@@ -35,29 +41,34 @@ pub fn read_vcd<S: Shelf>(alloc: Global, shelf: &mut S, name: &str) -> Result<Re
     ensures rest { OnlyReads (S.state shelf.old) (S.state shelf.new) }
 {
     let bytes = read_all(alloc, shelf, name, FILE_LIMIT)?;
-    read_bytes(alloc, bytes)
+    read_bytes(alloc, bytes, unknown)
 }
 
 /// The recording that the bytes of a file say.
-fn read_bytes(alloc: Global, bytes: Bytes) -> Result<Recording, VcdFault>
+fn read_bytes(alloc: Global, bytes: Bytes, unknown: Unknown) -> Result<Recording, VcdFault>
     requires { length bytes ≤ file_limit }
-    ensures ok { IfOk result (λ recording. reading bytes ≡ Ok recording) }
-    ensures err { IfErr result (λ fault. IsReadFault bytes fault) }
+    ensures ok { IfOk result (λ recording. reading unknown bytes ≡ Ok recording) }
+    ensures err { IfErr result (λ fault. IsReadFault unknown bytes fault) }
 {
-    let (names, changes, samples) = read_parts(alloc, bytes.as_slice())?;
-    Ok(Recording::of(names, bytes, changes, samples))
+    let parts = read_parts(alloc, bytes.as_slice())?;
+    Ok(Recording::of(bytes, parts, unknown))
 }
 
-/// The names, the changes and the number of samples that the bytes say.
-fn read_parts(alloc: Global, bytes: &[u8]) -> Result<(Names, Vec<Changes>, u32), VcdFault>
+/// What the bytes say, apart from themselves.
+fn read_parts(alloc: Global, bytes: &[u8]) -> Result<Parts, VcdFault>
     requires { length bytes.now ≤ file_limit }
-    ensures ok { IfOk result (λ parts. reading bytes.now ≡ Ok (record { names = parts.0; samples = rows_of bytes.now parts.2 parts.1.items })) }
-    ensures sound { IfOk result (λ parts. IsSound parts.0 bytes.now parts.2 parts.1.items) }
-    ensures err { IfErr result (λ fault. IsReadFault bytes.now fault) }
+    ensures ok { IfOk result (λ parts. (unknown : Unknown) → reading unknown bytes.now ≡ Ok (kept_as parts.names bytes.now parts.samples parts.changes.items parts.starts.items unknown)) }
+    ensures sound { IfOk result (λ parts. IsSound parts.names bytes.now parts.samples parts.changes.items parts.starts.items) }
+    ensures err { IfErr result (λ fault. (unknown : Unknown) → IsReadFault unknown bytes.now fault) }
 {
     let mut cursor = Cursor::new(bytes);
     let found = Definitions::read(alloc, &mut cursor)?;
     let body = Body::read(alloc, &found, &mut cursor)?;
-    let (changes, samples) = body.into_parts();
-    Ok((found.into_names(), changes, samples))
+    let (changes, starts, samples) = body.into_parts();
+    Ok(Parts {
+        names: found.into_names(),
+        changes,
+        starts,
+        samples,
+    })
 }

@@ -1,47 +1,68 @@
 ghost use Rattle.std.specs.Prelude.{◌≡◌, ◌<◌, ◌≤◌, ◌+◌, length, Any};
 ghost use Rattle.vcd_reader.specs.Rules.{sample_limit};
-ghost use Rattle.vcd_reader.specs.Sampled.{letter_before, letter_of, reads_one, bit_at, atom_at, AtomInRange, AreAlike};
+ghost use Rattle.vcd_reader.specs.Sampled.{letter_before, letter_of, says_one, says_zero, says_nothing, is_one_under, reads_one, bit_at, unknown_at, place_of_time, atom_at, AtomInRange, AreAlike};
 ghost use Rattle.vcd_reader.specs.Changes.{letters_in};
 
+use crate::Unknown;
 use crate::changes::{Change, Changes};
-use psl_base::Bytes;
+use psl_base::{Bytes, Place, place_of};
 use psl_tree::{Atom, Edge, Names};
 use std::marker::Model;
 
 /// The values that signals have at samples, with the signals' names. It is kept as lists of changes,
-/// whose letters stand in the bytes of the file.
+/// whose letters stand in the bytes of the file; so which bits are unknown is known without a bit more.
 #[derive(Drop)]
 pub struct Recording {
     names: Names,
     bytes: Bytes,
     changes: Vec<Changes>,
+    starts: Vec<u32>,
     samples: u32,
+    unknown: Unknown,
+}
+
+/// What is kept of a recording beside its bytes: the names, the changes of each signal, how many bytes stand before the token
+/// with which each sample begins, and how many samples there are.
+#[derive(Drop)]
+pub struct Parts {
+    pub names: Names,
+    pub changes: Vec<Changes>,
+    pub starts: Vec<u32>,
+    pub samples: u32,
 }
 
 impl Model for Recording {
-    ghost use Rattle.vcd_reader.specs.Rows.{rows_of, IsSound};
+    ghost use Rattle.vcd_reader.specs.Rows.{kept_as, IsSound};
     ghost use Rattle.vcd_reader.specs.Sampled.{Sampled};
 
     ghost Value = { Sampled };
 
-    ghost view = { λ recording. record { names = recording.names; samples = rows_of recording.bytes recording.samples recording.changes.items } };
+    ghost view = { λ recording. kept_as recording.names recording.bytes recording.samples recording.changes.items recording.starts.items recording.unknown };
 
-    ghost invariant = { λ recording. IsSound recording.names recording.bytes recording.samples recording.changes.items };
+    ghost invariant = { λ recording. IsSound recording.names recording.bytes recording.samples recording.changes.items recording.starts.items };
 }
 
 impl Recording {
-    ghost use Rattle.vcd_reader.specs.Rows.{rows_of, IsSound};
+    ghost use Rattle.vcd_reader.specs.Rows.{kept_as, IsSound};
 
     /// A recording of its parts.
-    pub(crate) fn of(names: Names, bytes: Bytes, changes: Vec<Changes>, samples: u32) -> Recording
-        requires { IsSound names bytes samples changes.items }
-        ensures { result ≡ record { names = names; samples = rows_of bytes samples changes.items } }
+    pub(crate) fn of(bytes: Bytes, parts: Parts, unknown: Unknown) -> Recording
+        requires { IsSound parts.names bytes parts.samples parts.changes.items parts.starts.items }
+        ensures { result ≡ kept_as parts.names bytes parts.samples parts.changes.items parts.starts.items unknown }
     {
+        let Parts {
+            names,
+            changes,
+            starts,
+            samples,
+        } = parts;
         Recording {
             names,
             bytes,
             changes,
+            starts,
             samples,
+            unknown,
         }
     }
 
@@ -96,6 +117,30 @@ impl Recording {
         }
     }
 
+    /// Whether a bit of a signal, counted from the right, is unknown at a sample, each counted from 0: its letter says neither
+    /// 0 nor 1, or the signal was not given a value yet. How unknown bits read does not matter.
+    pub fn is_unknown(&self, sample: u32, signal: u32, bit: u32) -> bool
+        requires sample { sample < length self.now.samples }
+        requires signal { Any (λ name. name.signal ≡ signal) self.now.names }
+        ensures { result ≡ unknown_at self.now sample signal bit }
+    {
+        let changes = &self.changes[signal as usize];
+        let mut hint = 0;
+        match changes.at(sample + 1, &mut hint) {
+            None => true,
+            Some(change) => nothing(letter(letters(self.bytes.as_slice(), change), bit)),
+        }
+    }
+
+    /// The place of the first token that lists the time of a sample, counted from 0. It counts the text up to there.
+    pub fn time_place(&self, sample: u32) -> Place
+        requires { sample < length self.now.samples }
+        ensures { result ≡ place_of_time self.now sample }
+    {
+        let start = self.starts[sample as usize] as usize;
+        place_of(self.bytes.as_slice(), start)
+    }
+
     /// Whether a bit of a signal is 1 at a sample.
     fn is_one(&self, sample: u32, signal: u32, bit: u32, hint: &mut usize) -> bool
         requires sample { sample < length self.now.samples }
@@ -104,8 +149,11 @@ impl Recording {
     {
         let changes = &self.changes[signal as usize];
         match changes.at(sample + 1, hint) {
-            None => false,
-            Some(change) => one(letter(letters(self.bytes.as_slice(), change), bit)),
+            None => one_under(self.unknown),
+            Some(change) => one(
+                self.unknown,
+                letter(letters(self.bytes.as_slice(), change), bit),
+            ),
         }
     }
 }
@@ -144,8 +192,39 @@ fn before(first: u8) -> u8
 }
 
 /// Whether a letter reads as 1.
-fn one(letter: u8) -> bool
-    ensures { result ≡ reads_one letter }
+fn one(unknown: Unknown, letter: u8) -> bool
+    ensures { result ≡ reads_one unknown letter }
+{
+    says_one(letter) || (nothing(letter) && one_under(unknown))
+}
+
+/// Whether an unknown bit reads as 1.
+fn one_under(unknown: Unknown) -> bool
+    ensures { result ≡ is_one_under unknown }
+{
+    match unknown {
+        Unknown::Zero | Unknown::Refuse => false,
+        Unknown::One => true,
+    }
+}
+
+/// Whether a letter leaves its bit unknown.
+fn nothing(letter: u8) -> bool
+    ensures { result ≡ says_nothing letter }
+{
+    !(says_one(letter) || says_zero(letter))
+}
+
+/// Whether a letter says 1.
+fn says_one(letter: u8) -> bool
+    ensures { result ≡ says_one letter }
 {
     letter == b'1' || letter == b'h' || letter == b'H'
+}
+
+/// Whether a letter says 0.
+fn says_zero(letter: u8) -> bool
+    ensures { result ≡ says_zero letter }
+{
+    letter == b'0' || letter == b'l' || letter == b'L'
 }

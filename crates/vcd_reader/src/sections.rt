@@ -1,4 +1,4 @@
-ghost use Rattle.std.specs.Prelude.{◌≡◌, ◌<◌, ◌≤◌, [], true, false, length, OnOk, IfOk, IfErr, List};
+ghost use Rattle.std.specs.Prelude.{◌≡◌, ℕ, ◌<◌, ◌≤◌, [], true, false, length, OnOk, IfOk, IfErr, List};
 ghost use Rattle.psl_base.specs.Tokens.{PlacedToken, ◌▸◌};
 ghost use Rattle.vcd_reader.specs.Declarations.{Declared};
 ghost use Rattle.vcd_reader.specs.Running.{run, GoesOn, wants_part, wants_end};
@@ -26,7 +26,7 @@ pub fn wanted<'a>(cursor: &mut Cursor<'a>) -> Result<Token<'a>, VcdFault>
 pub fn part<'a>(cursor: &mut Cursor<'a>) -> Result<Token<'a>, VcdFault>
     ensures ok { IfOk result (λ token. cursor.old ≡ token ▸ cursor.new) }
     ensures part { IfOk result (λ token. is_end token.text ≡ false) }
-    ensures err { IfErr result (λ fault. (d : Declared) (p : Part) (changes : List (List Change)) (o : Open) → wants_part o ≡ true → run d p changes o cursor.old ≡ Err fault) }
+    ensures err { IfErr result (λ fault. (d : Declared) (p : Part) (changes : List (List Change)) (starts : List ℕ) (o : Open) → wants_part o ≡ true → run d p changes starts o cursor.old ≡ Err fault) }
     ensures fewer { OnOk result (length cursor.new.tokens < length cursor.old.tokens) }
 {
     let token = wanted(cursor)?;
@@ -39,7 +39,7 @@ pub fn part<'a>(cursor: &mut Cursor<'a>) -> Result<Token<'a>, VcdFault>
 /// The `$end` of a section.
 pub fn end(cursor: &mut Cursor) -> Result<(), VcdFault>
     ensures ok { OnOk result ((t : PlacedToken) × (cursor.old ≡ t ▸ cursor.new) × (is_end t.text ≡ true)) }
-    ensures err { IfErr result (λ fault. (d : Declared) (p : Part) (changes : List (List Change)) (o : Open) → wants_end o ≡ true → run d p changes o cursor.old ≡ Err fault) }
+    ensures err { IfErr result (λ fault. (d : Declared) (p : Part) (changes : List (List Change)) (starts : List ℕ) (o : Open) → wants_end o ≡ true → run d p changes starts o cursor.old ≡ Err fault) }
     ensures fewer { OnOk result (length cursor.new.tokens < length cursor.old.tokens) }
 {
     let token = wanted(cursor)?;
@@ -51,7 +51,7 @@ pub fn end(cursor: &mut Cursor) -> Result<(), VcdFault>
 
 /// Passes over the tokens of a comment or a header, up to the first `$end`.
 pub fn comment(cursor: &mut Cursor) -> Result<(), VcdFault>
-    ensures goes { (d : Declared) (p : Part) (changes : List (List Change)) → GoesOn result (run d p changes InComment cursor.old) (run d p changes Ready cursor.new) }
+    ensures goes { (d : Declared) (p : Part) (changes : List (List Change)) (starts : List ℕ) → GoesOn result (run d p changes starts InComment cursor.old) (run d p changes starts Ready cursor.new) }
     ensures fewer { OnOk result (length cursor.new.tokens < length cursor.old.tokens) }
 {
     loop {

@@ -7,6 +7,7 @@ use Rattle.vcd_writer.proofs.Standings.{Goes}
 use Rattle.vcd_writer.proofs.Texts.{text-read}
 use Rattle.vcd_writer.specs.Made.{definitions, made_codes, made_names, made_sampled, made_text, made_values}
 use Rattle.vcd_writer.specs.Lines.{samples_from}
+use Rattle.vcd_reader.specs.declared.unknown.Unknown.{Unknown}
 use Rattle.vcd_reader.specs.Declarations.{Declared}
 use Rattle.vcd_reader.specs.Events.{Event}
 use Rattle.vcd_reader.specs.Meaning.{reading}
@@ -34,13 +35,13 @@ codes-read : AreRead declared 0 made_codes
 codes-read =
     (record { some = omega arith; solid = refl; found = refl; read = refl }, (record { some = omega arith; solid = refl; found = refl; read = refl }, tt))
 
-pub accepted : (seed samples : ℕ) → samples ≤ sample_limit → reading (made_text seed samples) ≡ Ok (made_sampled seed samples)
-accepted seed samples few =
+pub accepted : (unknown : Unknown) (seed samples : ℕ) → samples ≤ sample_limit → reading unknown (made_text seed samples) ≡ Ok (made_sampled unknown seed samples)
+accepted unknown seed samples few =
     let text = made_text seed samples in
     let lines = samples_from made_codes (made_values seed) 0 samples in
     let events = events_from (made_values seed) 0 samples in
     let last : 0 + samples ≡ samples = omega arith in
-    text-read text declared (made_values seed) samples (λ sample within. refl)
+    text-read unknown text declared (made_values seed) samples (λ sample within. refl)
     (definitions-go text lines events (before_sample declared samples)
     (subst (λ (n : ℕ). Goes (before_sample declared 0) (tokens_from text 67 lines) events (before_sample declared n)) last
     (reads-all text (before_sample declared 0) (before_sample declared (0 + samples)) lines events

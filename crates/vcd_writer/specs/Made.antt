@@ -4,6 +4,8 @@ use Rattle.std.specs.List.{range_with_len}
 use Rattle.psl_tree.specs.declared.name.Name.{Name}
 use Rattle.vcd_writer.specs.Generator.{request_at, answer_at}
 use Rattle.vcd_writer.specs.Lines.{letters_of, line, samples_from}
+use Rattle.vcd_reader.specs.declared.unknown.Unknown.{Unknown}
+use Rattle.vcd_reader.specs.Meaning.{places_in}
 use Rattle.vcd_reader.specs.Sampled.{Sampled}
 
 -- the definitions: one signal `req` with the code `!`, and one signal `ack` with the code `"`
@@ -25,6 +27,11 @@ made_text seed samples = definitions ++ samples_from made_codes (made_values see
 abbrev pub made_names : List Name
 made_names = record { text = codes "req"; signal = 0; left = 0; right = 0 } ∷ record { text = codes "ack"; signal = 1; left = 0; right = 0 } ∷ []
 
--- what the text says
-abbrev pub made_sampled : ℕ → ℕ → Sampled
-made_sampled seed samples = record { names = made_names; samples = map (λ sample. letters_of (made_values seed sample)) (range_with_len 0 samples) }
+-- what the text says; where its samples begin is left to the text
+abbrev pub made_sampled : Unknown → ℕ → ℕ → Sampled
+made_sampled unknown seed samples = record {
+  names = made_names;
+  samples = map (λ sample. letters_of (made_values seed sample)) (range_with_len 0 samples);
+  places = places_in (made_text seed samples);
+  unknown = unknown;
+}

@@ -7,6 +7,7 @@ ghost use Rattle.std.specs.Prelude.{◌≡◌, ◌≤◌, ℕ, Ok};
 ghost use Rattle.vcd_writer.specs.Made.{made_text, made_sampled};
 ghost use Rattle.vcd_reader.specs.Meaning.{reading};
 ghost use Rattle.vcd_reader.specs.Rules.{sample_limit};
+ghost use Rattle.vcd_reader.specs.declared.unknown.Unknown.{Unknown};
 
 mod lines;
 mod making;
@@ -15,8 +16,8 @@ pub use lines::add_time;
 pub use making::make_recording;
 
 /// A law of the definitions, which runs nothing: up to the limit on samples, a made recording is read without a
-/// fault, and says just the values that it was made of.
+/// fault, however unknown bits read, and says just the values that it was made of.
 
 pub fn accepted()
-    ensures { (seed samples : ℕ) → samples ≤ sample_limit → reading (made_text seed samples) ≡ Ok (made_sampled seed samples) }
+    ensures { (unknown : Unknown) (seed samples : ℕ) → samples ≤ sample_limit → reading unknown (made_text seed samples) ≡ Ok (made_sampled unknown seed samples) }
 {}

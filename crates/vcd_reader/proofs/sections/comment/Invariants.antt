@@ -1,4 +1,4 @@
-use Rattle.std.proofs.Common.{◌≡◌, ◌≤◌, List, length}
+use Rattle.std.proofs.Common.{◌≡◌, ◌≤◌, ℕ, List, length}
 use Rattle.vcd_reader.specs.declared.changes.Change.{Change}
 use Rattle.vcd_reader.specs.Declarations.{Declared}
 use Rattle.vcd_reader.specs.Running.{run}
@@ -7,7 +7,7 @@ use Rattle.vcd_reader.proofs.sections.comment.Given as goal
 
 abbrev pub invariant-loop-token : goal.invariant-loop-token
 invariant-loop-token l = record {
-  same : (d : Declared) (p : Part) (changes : List (List Change)) → run d p changes InComment l.initial.cursor ≡ run d p changes InComment l.cursor;
+  same : (d : Declared) (p : Part) (changes : List (List Change)) (starts : List ℕ) → run d p changes starts InComment l.initial.cursor ≡ run d p changes starts InComment l.cursor;
   fewer : length l.cursor.tokens ≤ length l.initial.cursor.tokens;
 }
 

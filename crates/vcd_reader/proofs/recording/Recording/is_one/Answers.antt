@@ -13,13 +13,13 @@ overflow_add-sample c =
 pub letters-requires : goal.letters-requires
 letters-requires c =
     let names = ap (λ (recording : Sampled). recording.names) c.self.view_is in
-    let in_changes = has_changes c.self.inside.names c.self.inside.bytes c.self.inside.samples c.self.inside.changes.items c.args.signal c.self.invariant (rw names c.requires.signal) in
+    let in_changes = has_changes c.self.inside.names c.self.inside.bytes c.self.inside.samples c.self.inside.changes.items c.self.inside.starts.items c.args.signal c.self.invariant (rw names c.requires.signal) in
     rw c.as_slice.ensures (change-inside c.self.inside.bytes c.self.inside.changes.items c.args.signal _ c.index-changes.result.now c.in-Some.change c.self.invariant.inside in_changes c.index-changes.ensures c.in-Some.ensures).1
 
 pub letter-requires : goal.letter-requires
 letter-requires c =
     let names = ap (λ (recording : Sampled). recording.names) c.self.view_is in
-    let in_changes = has_changes c.self.inside.names c.self.inside.bytes c.self.inside.samples c.self.inside.changes.items c.args.signal c.self.invariant (rw names c.requires.signal) in
+    let in_changes = has_changes c.self.inside.names c.self.inside.bytes c.self.inside.samples c.self.inside.changes.items c.self.inside.starts.items c.args.signal c.self.invariant (rw names c.requires.signal) in
     let here = change-inside c.self.inside.bytes c.self.inside.changes.items c.args.signal _ c.index-changes.result.now c.in-Some.change c.self.invariant.inside in_changes c.index-changes.ensures c.in-Some.ensures in
     let sized = length-letters_in c.self.inside.bytes c.in-Some.change here.1 in
     rw (c.letters.ensures, c.as_slice.ensures) (omega (arith, sized, here.0))
@@ -27,14 +27,16 @@ letter-requires c =
 pub returns-in-None : goal.returns-in-None
 returns-in-None c =
     let names = ap (λ (recording : Sampled). recording.names) c.self.view_is in
-    let in_changes = has_changes c.self.inside.names c.self.inside.bytes c.self.inside.samples c.self.inside.changes.items c.args.signal c.self.invariant (rw names c.requires.signal) in
-    let value = value_in-rows c.args.self.now c.self.inside.names c.self.inside.bytes c.self.inside.samples c.self.inside.changes.items c.args.sample c.args.signal c.index-changes.result.now c.self.view_is c.requires.sample in_changes c.index-changes.ensures in
-    sym (ap (λ o. bit_of o c.args.bit) (value ∙ ap (option_map (letters_in c.self.inside.bytes)) (sym c.in-None.ensures)))
+    let in_changes = has_changes c.self.inside.names c.self.inside.bytes c.self.inside.samples c.self.inside.changes.items c.self.inside.starts.items c.args.signal c.self.invariant (rw names c.requires.signal) in
+    let value = value_in-rows c.args.self.now c.self.inside.names c.self.inside.bytes c.self.inside.samples c.self.inside.changes.items c.self.inside.starts.items c.self.inside.unknown c.args.sample c.args.signal c.index-changes.result.now c.self.view_is c.requires.sample in_changes c.index-changes.ensures in
+    let told = ap (λ (recording : Sampled). recording.unknown) c.self.view_is in
+    rw (c.one_under.ensures, told) (sym (ap (λ o. bit_of c.args.self.now.unknown o c.args.bit) (value ∙ ap (option_map (letters_in c.self.inside.bytes)) (sym c.in-None.ensures))))
 
 pub returns-in-Some : goal.returns-in-Some
 returns-in-Some c =
     let names = ap (λ (recording : Sampled). recording.names) c.self.view_is in
-    let in_changes = has_changes c.self.inside.names c.self.inside.bytes c.self.inside.samples c.self.inside.changes.items c.args.signal c.self.invariant (rw names c.requires.signal) in
-    let value = value_in-rows c.args.self.now c.self.inside.names c.self.inside.bytes c.self.inside.samples c.self.inside.changes.items c.args.sample c.args.signal c.index-changes.result.now c.self.view_is c.requires.sample in_changes c.index-changes.ensures in
-    let read = ap (λ o. bit_of o c.args.bit) (value ∙ ap (option_map (letters_in c.self.inside.bytes)) (sym c.in-Some.ensures)) in
-    rw (c.one.ensures, c.letter.ensures, c.letters.ensures, c.as_slice.ensures) (sym read)
+    let in_changes = has_changes c.self.inside.names c.self.inside.bytes c.self.inside.samples c.self.inside.changes.items c.self.inside.starts.items c.args.signal c.self.invariant (rw names c.requires.signal) in
+    let value = value_in-rows c.args.self.now c.self.inside.names c.self.inside.bytes c.self.inside.samples c.self.inside.changes.items c.self.inside.starts.items c.self.inside.unknown c.args.sample c.args.signal c.index-changes.result.now c.self.view_is c.requires.sample in_changes c.index-changes.ensures in
+    let told = ap (λ (recording : Sampled). recording.unknown) c.self.view_is in
+    let read = ap (λ o. bit_of c.args.self.now.unknown o c.args.bit) (value ∙ ap (option_map (letters_in c.self.inside.bytes)) (sym c.in-Some.ensures)) in
+    rw (c.one.ensures, told, c.letter.ensures, c.letters.ensures, c.as_slice.ensures) (sym read)
