@@ -1,4 +1,5 @@
 mod Defining
+mod FirstUnknown
 pub mod Firsts
 mod Holding
 pub mod Joining

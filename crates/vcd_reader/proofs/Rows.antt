@@ -4,11 +4,12 @@ use Rattle.std.proofs.lemmas.List.{get_or-map, length-take-le}
 use Rattle.std.proofs.lemmas.List.Elements.{All-head, All-tail}
 use Rattle.std.proofs.lemmas.List.FromFn.{length-map-range_with_len, get_or-map-range_with_len}
 use Rattle.std.specs.List.{All, Any}
+use Rattle.psl_base.specs.Places.{place_at}
 use Rattle.psl_tree.specs.declared.name.Name.{Name}
 use Rattle.vcd_reader.specs.declared.changes.Change.{Change}
 use Rattle.vcd_reader.specs.declared.unknown.Unknown.{Unknown}
 use Rattle.vcd_reader.specs.Rows.{value_of, rows_of, kept_as, AreInside, IsSound}
-use Rattle.vcd_reader.specs.Sampled.{Sampled, value_in}
+use Rattle.vcd_reader.specs.Sampled.{Sampled, value_in, place_of_time}
 use Rattle.vcd_reader.specs.Changes.{latest_change, letters_in}
 
 pub length-rows_of : (bytes : List ℕ) (samples : ℕ) (changes : List (List Change)) → length (rows_of bytes samples changes) ≡ samples
@@ -47,6 +48,21 @@ pub change-inside : (bytes : List ℕ) (changes : List (List Change)) (signal sa
 change-inside bytes changes signal samples list change inside in_range here latest =
     let each : All (λ change. (0 < change.len) × (change.start + change.len ≤ length bytes)) list = rw here (inside signal list in_range) in
     latest_change-All (λ change. (0 < change.len) × (change.start + change.len ≤ length bytes)) None samples list change (λ no. absurd (let e : None ≡ Some change = no in cc)) each (sym latest)
+
+-- the place of a sample's time is that of the token with which it begins
+pub place-kept : (recording : Sampled) (names : List Name) (bytes : List ℕ) (samples : ℕ) (changes : List (List Change)) (starts : List ℕ) (unknown : Unknown) (sample start : ℕ) →
+    kept_as names bytes samples changes starts unknown ≡ recording → sample < length starts → start ≡ get_or starts sample 0 → place_at bytes start ≡ place_of_time recording sample
+place-kept recording names bytes samples changes starts unknown sample start view in_starts here =
+    ap (place_at bytes) here ∙ sym (get_or-map (place_at bytes) starts sample 0 (record { line = 1; column = 1 }) in_starts)
+    ∙ ap (λ (r : Sampled). place_of_time r sample) view
+
+-- each sample of a recording begins somewhere
+pub begins-within : (recording : Sampled) (names : List Name) (bytes : List ℕ) (samples : ℕ) (changes : List (List Change)) (starts : List ℕ) (unknown : Unknown) (sample : ℕ) →
+    kept_as names bytes samples changes starts unknown ≡ recording → IsSound names bytes samples changes starts → sample < length recording.samples → sample < length starts
+begins-within recording names bytes samples changes starts unknown sample view sound in_samples =
+    let counted = sym (length-rows_of bytes samples changes) ∙ ap (λ (r : Sampled). length r.samples) view in
+    let same = sound.counted in
+    omega (arith, counted, same, in_samples)
 
 pub length-letters_in : (bytes : List ℕ) (change : Change) → change.start + change.len ≤ length bytes → length (letters_in bytes change) ≡ change.len
 length-letters_in bytes change within =

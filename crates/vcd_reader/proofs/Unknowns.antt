@@ -41,9 +41,12 @@ reads-as-told unknown bytes recording read = sym (ap (λ (s : Sampled). s.unknow
 pub unknown-of-text : (unknown : Unknown) (bytes : List ℕ) (recording : Sampled) → reading unknown bytes ≡ Ok recording → (sample signal bit : ℕ) → unknown_at recording sample signal bit ≡ unknown_in bytes sample signal bit
 unknown-of-text unknown bytes recording read sample signal bit = sym (ap (λ (s : Sampled). unknown_at s sample signal bit) (says unknown bytes recording read))
 
-known-letter : (one zero under over : Bool) → not (one || zero) ≡ false → (one || (not (one || zero) && under)) ≡ (one || (not (one || zero) && over))
+known-letter : (one zero under over : Bool) → not (one || zero) ≡ false → (one || (under && not (one || zero))) ≡ (one || (over && not (one || zero)))
 known-letter true zero under over known = refl
-known-letter false true under over known = refl
+known-letter false true true true known = refl
+known-letter false true true false known = refl
+known-letter false true false true known = refl
+known-letter false true false false known = refl
 known-letter false false under over known = absurd (let wrong : true ≡ false = known in cc)
 
 known-bit : (value : Option (List ℕ)) (under over : Unknown) (bit : ℕ) → is_unknown_of value bit ≡ false → bit_of under value bit ≡ bit_of over value bit
@@ -53,10 +56,11 @@ known-bit (Some value) under over bit known = known-letter (says_one (letter_of 
 pub known-reads : (other : Unknown) (recording : Sampled) (sample signal bit : ℕ) → unknown_at recording sample signal bit ≡ false → bit_at (with recording other) sample signal bit ≡ bit_at recording sample signal bit
 known-reads other recording sample signal bit known = known-bit (value_in recording sample signal) other recording.unknown bit known
 
-unknown-letter : (one zero under : Bool) → not (one || zero) ≡ true → (one || (not (one || zero) && under)) ≡ under
+unknown-letter : (one zero under : Bool) → not (one || zero) ≡ true → (one || (under && not (one || zero))) ≡ under
 unknown-letter true zero under unknown = absurd (let wrong : false ≡ true = unknown in cc)
 unknown-letter false true under unknown = absurd (let wrong : false ≡ true = unknown in cc)
-unknown-letter false false under unknown = refl
+unknown-letter false false true unknown = refl
+unknown-letter false false false unknown = refl
 
 unknown-bit : (value : Option (List ℕ)) (under : Unknown) (bit : ℕ) → is_unknown_of value bit ≡ true → bit_of under value bit ≡ is_one_under under
 unknown-bit None under bit unknown = refl

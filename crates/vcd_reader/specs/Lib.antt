@@ -9,6 +9,7 @@ pub mod Declarations
 pub mod Events
 pub mod Faults
 pub mod FirstFault
+pub mod FirstUnknown
 pub mod Kept
 pub mod Labels
 pub mod Meaning
@@ -20,5 +21,6 @@ pub mod Sampled
 pub mod Shapes
 pub mod Short
 pub mod Standing
+pub mod Tested
 pub mod Told
 pub mod Unknowns

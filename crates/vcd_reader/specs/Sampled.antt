@@ -42,7 +42,7 @@ is_one_under Refuse = false
 
 -- whether a letter reads as 1
 abbrev pub reads_one : Unknown → ℕ → Truth
-reads_one unknown letter = says_one letter || (says_nothing letter && is_one_under unknown)
+reads_one unknown letter = says_one letter || (is_one_under unknown && says_nothing letter)
 
 -- what stands to the left of a value's letters: 0 where the first is 0 or 1, else the first
 abbrev pub letter_before : ℕ → ℕ
@@ -52,15 +52,26 @@ letter_before first = cond ((first == 48) || (first == 49)) 48 first
 abbrev pub letter_of : List ℕ → ℕ → ℕ
 letter_of value bit = cond (nat_lt bit (length value)) (slice_index value (length value - 1 - bit)) (letter_before (slice_index value 0))
 
--- the bit of a value: it is unknown where there is none
-abbrev pub bit_of : Unknown → Option (List ℕ) → ℕ → Truth
-bit_of unknown None bit = is_one_under unknown
-bit_of unknown (Some value) bit = reads_one unknown (letter_of value bit)
+-- the letter of a bit, where there is a value
+abbrev pub letter_in : Option (List ℕ) → ℕ → Option ℕ
+letter_in None bit = None
+letter_in (Some value) bit = Some (letter_of value bit)
 
--- whether the bit of a value is unknown
+-- a bit by its letter: it is unknown where there is none
+abbrev pub bit_by : Unknown → Option ℕ → Truth
+bit_by unknown None = is_one_under unknown
+bit_by unknown (Some letter) = reads_one unknown letter
+
+abbrev pub is_unknown_by : Option ℕ → Truth
+is_unknown_by None = true
+is_unknown_by (Some letter) = says_nothing letter
+
+-- the bit of a value, and whether it is unknown
+abbrev pub bit_of : Unknown → Option (List ℕ) → ℕ → Truth
+bit_of unknown value bit = bit_by unknown (letter_in value bit)
+
 abbrev pub is_unknown_of : Option (List ℕ) → ℕ → Truth
-is_unknown_of None bit = true
-is_unknown_of (Some value) bit = says_nothing (letter_of value bit)
+is_unknown_of value bit = is_unknown_by (letter_in value bit)
 
 -- the value of a signal at a sample
 abbrev pub value_in : Sampled → ℕ → ℕ → Option (List ℕ)

@@ -7,6 +7,7 @@ mod changes;
 mod codes;
 mod definitions;
 mod fault;
+mod first_unknown;
 mod laws;
 mod names;
 mod ranges;

@@ -1,6 +1,6 @@
 ghost use Rattle.std.specs.Prelude.{◌≡◌, ◌<◌, ◌≤◌, ◌+◌, length, Any};
 ghost use Rattle.vcd_reader.specs.Rules.{sample_limit};
-ghost use Rattle.vcd_reader.specs.Sampled.{letter_before, letter_of, says_one, says_zero, says_nothing, is_one_under, reads_one, bit_at, unknown_at, place_of_time, atom_at, AtomInRange, AreAlike};
+ghost use Rattle.vcd_reader.specs.Sampled.{letter_before, letter_of, says_one, says_zero, says_nothing, is_one_under, reads_one, letter_in, value_in, bit_at, unknown_at, place_of_time, atom_at, AtomInRange, AreAlike};
 ghost use Rattle.vcd_reader.specs.Changes.{letters_in};
 
 use crate::Unknown;
@@ -124,11 +124,25 @@ impl Recording {
         requires signal { Any (λ name. name.signal ≡ signal) self.now.names }
         ensures { result ≡ unknown_at self.now sample signal bit }
     {
-        let changes = &self.changes[signal as usize];
         let mut hint = 0;
-        match changes.at(sample + 1, &mut hint) {
+        self.is_unknown_near(sample, signal, bit, &mut hint)
+    }
+
+    /// The same for one who asks of a bit at sample after sample, with a hint where to look first.
+    pub(crate) fn is_unknown_near(
+        &self,
+        sample: u32,
+        signal: u32,
+        bit: u32,
+        hint: &mut usize,
+    ) -> bool
+        requires sample { sample < length self.now.samples }
+        requires signal { Any (λ name. name.signal ≡ signal) self.now.names }
+        ensures { result ≡ unknown_at self.now sample signal bit }
+    {
+        match self.letter_near(sample, signal, bit, hint) {
             None => true,
-            Some(change) => nothing(letter(letters(self.bytes.as_slice(), change), bit)),
+            Some(letter) => nothing(letter),
         }
     }
 
@@ -147,13 +161,22 @@ impl Recording {
         requires signal { Any (λ name. name.signal ≡ signal) self.now.names }
         ensures { result ≡ bit_at self.now sample signal bit }
     {
+        match self.letter_near(sample, signal, bit, hint) {
+            None => one_under(self.unknown),
+            Some(letter) => one(self.unknown, letter),
+        }
+    }
+
+    /// The letter of a bit of a signal at a sample, none where the signal was not given a value yet.
+    fn letter_near(&self, sample: u32, signal: u32, bit: u32, hint: &mut usize) -> Option<u8>
+        requires sample { sample < length self.now.samples }
+        requires signal { Any (λ name. name.signal ≡ signal) self.now.names }
+        ensures { result ≡ letter_in (value_in self.now sample signal) bit }
+    {
         let changes = &self.changes[signal as usize];
         match changes.at(sample + 1, hint) {
-            None => one_under(self.unknown),
-            Some(change) => one(
-                self.unknown,
-                letter(letters(self.bytes.as_slice(), change), bit),
-            ),
+            None => None,
+            Some(change) => Some(letter(letters(self.bytes.as_slice(), change), bit)),
         }
     }
 }
@@ -195,7 +218,7 @@ fn before(first: u8) -> u8
 fn one(unknown: Unknown, letter: u8) -> bool
     ensures { result ≡ reads_one unknown letter }
 {
-    says_one(letter) || (nothing(letter) && one_under(unknown))
+    says_one(letter) || (one_under(unknown) && nothing(letter))
 }
 
 /// Whether an unknown bit reads as 1.

@@ -1,9 +1,9 @@
 use Rattle.std.proofs.Common.{◌∙◌, sym, ap, length, arith}
 use Rattle.std.specs.Option.{option_map}
 use Rattle.vcd_reader.proofs.Rows.{length-rows_of, value_in-rows, has_changes, change-inside, length-letters_in}
-use Rattle.vcd_reader.specs.Sampled.{Sampled, bit_of}
+use Rattle.vcd_reader.specs.Sampled.{Sampled, letter_in}
 use Rattle.vcd_reader.specs.Changes.{letters_in}
-use Rattle.vcd_reader.proofs.recording.Recording.is_one.Goals as goal
+use Rattle.vcd_reader.proofs.recording.Recording.letter_near.Goals as goal
 
 pub overflow_add-sample : goal.overflow_add-sample
 overflow_add-sample c =
@@ -29,14 +29,12 @@ returns-in-None c =
     let names = ap (λ (recording : Sampled). recording.names) c.self.view_is in
     let in_changes = has_changes c.self.inside.names c.self.inside.bytes c.self.inside.samples c.self.inside.changes.items c.self.inside.starts.items c.args.signal c.self.invariant (rw names c.requires.signal) in
     let value = value_in-rows c.args.self.now c.self.inside.names c.self.inside.bytes c.self.inside.samples c.self.inside.changes.items c.self.inside.starts.items c.self.inside.unknown c.args.sample c.args.signal c.index-changes.result.now c.self.view_is c.requires.sample in_changes c.index-changes.ensures in
-    let told = ap (λ (recording : Sampled). recording.unknown) c.self.view_is in
-    rw (c.one_under.ensures, told) (sym (ap (λ o. bit_of c.args.self.now.unknown o c.args.bit) (value ∙ ap (option_map (letters_in c.self.inside.bytes)) (sym c.in-None.ensures))))
+    sym (ap (λ o. letter_in o c.args.bit) (value ∙ ap (option_map (letters_in c.self.inside.bytes)) (sym c.in-None.ensures)))
 
 pub returns-in-Some : goal.returns-in-Some
 returns-in-Some c =
     let names = ap (λ (recording : Sampled). recording.names) c.self.view_is in
     let in_changes = has_changes c.self.inside.names c.self.inside.bytes c.self.inside.samples c.self.inside.changes.items c.self.inside.starts.items c.args.signal c.self.invariant (rw names c.requires.signal) in
     let value = value_in-rows c.args.self.now c.self.inside.names c.self.inside.bytes c.self.inside.samples c.self.inside.changes.items c.self.inside.starts.items c.self.inside.unknown c.args.sample c.args.signal c.index-changes.result.now c.self.view_is c.requires.sample in_changes c.index-changes.ensures in
-    let told = ap (λ (recording : Sampled). recording.unknown) c.self.view_is in
-    let read = ap (λ o. bit_of c.args.self.now.unknown o c.args.bit) (value ∙ ap (option_map (letters_in c.self.inside.bytes)) (sym c.in-Some.ensures)) in
-    rw (c.one.ensures, told, c.letter.ensures, c.letters.ensures, c.as_slice.ensures) (sym read)
+    let read = ap (λ o. letter_in o c.args.bit) (value ∙ ap (option_map (letters_in c.self.inside.bytes)) (sym c.in-Some.ensures)) in
+    rw (c.letter.ensures, c.letters.ensures, c.as_slice.ensures) (sym read)
