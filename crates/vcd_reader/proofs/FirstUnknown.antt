@@ -48,7 +48,7 @@ is-first test (suc n) =
           (record { within = omega (arith, low); before = found.before; here = λ _. found.here low })
       | inr high ↦
           let ends : first_below test n ≡ n = let within = found.within in omega (arith, high, within) in
-          subst (IsFirstBelow test (suc n)) (sym (cond-false (nat_lt (first_below test n) n) _ _ (le-ltb n (first_below test n) high)))
+          subst (IsFirstBelow test (suc n)) (sym (cond-false (nat_lt (first_below test n) n) _ _ (le-ltb (first_below test n) n high)))
           (by_found test n (first_below test n) (test n) refl found ends)
     ]
 
@@ -60,9 +60,9 @@ one-first test until first other a b =
     elim (cases_lt first other) [
       | inl low ↦ absurd (no_less first other a b low)
       | inr high ↦ elim (cases_lt other first) [
-          | inl low ↦ absurd (no_less other first b a low)
-          | inr below ↦ omega (arith, high, below)
-        ]
+        | inl low ↦ absurd (no_less other first b a low)
+        | inr below ↦ omega (arith, high, below)
+      ]
     ]
 
 -- ---- of all atoms

@@ -46,7 +46,6 @@ pub record AreRead : Type 0 where
   pub under_zero : letters_under Zero (codes "xXzZuUwW-") ≡ false ∷ false ∷ false ∷ false ∷ false ∷ false ∷ false ∷ false ∷ false ∷ []
   pub under_one : letters_under One (codes "xXzZuUwW-") ≡ true ∷ true ∷ true ∷ true ∷ true ∷ true ∷ true ∷ true ∷ true ∷ []
   pub refused : letters_under Refuse (codes "xXzZuUwW-") ≡ letters_under Zero (codes "xXzZuUwW-")
-
   -- what stands to the left of a value
   pub x : (unknown_bits (Some (codes "x1")) ≡ four true true true false) × (bits_under One (Some (codes "x1")) ≡ four true true true true) × (bits_under Zero (Some (codes "x1")) ≡ four false false false true)
   pub z : (unknown_bits (Some (codes "z")) ≡ four true true true true) × (bits_under One (Some (codes "z")) ≡ four true true true true)
@@ -54,10 +53,8 @@ pub record AreRead : Type 0 where
   pub zero : (unknown_bits (Some (codes "0u1")) ≡ four false false true false) × (bits_under One (Some (codes "0u1")) ≡ four false false true true)
   pub high : (unknown_bits (Some (codes "h0")) ≡ four false false false false) × (bits_under Zero (Some (codes "h0")) ≡ four true true true false)
   pub low : (unknown_bits (Some (codes "L1")) ≡ four false false false false) × (bits_under One (Some (codes "L1")) ≡ four false false false true)
-
   -- a value never given
   pub none : (unknown_bits None ≡ four true true true true) × (bits_under One None ≡ four true true true true) × (bits_under Zero None ≡ four false false false false)
-
   -- a whole recording
   pub read : (unknown : Unknown) → reading unknown example ≡ Ok (example_under unknown)
   pub block : (unknown_in example 0 1 0 ≡ true) × (unknown_in example 1 1 0 ≡ true)

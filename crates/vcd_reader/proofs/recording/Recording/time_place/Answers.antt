@@ -1,13 +1,22 @@
-use Rattle.std.proofs.Common.{sym, ap, ◌∙◌, length, arith}
+use Rattle.std.proofs.Common.{◌≡◌, ◌≤◌, ◌∙◌, ℕ, get_or, sym, ap, subst, length, arith}
+use Rattle.std.proofs.lemmas.List.{get_or_read}
+use Rattle.psl_base.specs.Places.{place_at}
 use Rattle.vcd_reader.proofs.Rows.{place-kept, begins-within}
 use Rattle.vcd_reader.proofs.recording.Recording.time_place.Goals as goal
 
 pub index-requires : goal.index-requires
 index-requires c =
-    begins-within c.args.self.now c.self.inside.names c.self.inside.bytes c.self.inside.samples c.self.inside.changes.items c.self.inside.starts.items c.self.inside.unknown c.args.sample c.self.view_is c.self.invariant c.requires
+    let low = begins-within c.args.self.now c.self.inside.names c.self.inside.bytes c.self.inside.samples c.self.inside.changes.items c.self.inside.starts.items c.self.inside.unknown c.args.sample c.self.view_is c.self.invariant c.requires in
+    omega (arith, low, c.self.inside.starts.ok.0)
 
 pub place_of-requires-clause-within : goal.place_of-requires-clause-within
-place_of-requires-clause-within c = ?
+place_of-requires-clause-within c =
+    let low = begins-within c.args.self.now c.self.inside.names c.self.inside.bytes c.self.inside.samples c.self.inside.changes.items c.self.inside.starts.items c.self.inside.unknown c.args.sample c.self.view_is c.self.invariant c.requires in
+    rw c.as_slice.ensures (subst (λ (start : ℕ). start ≤ length c.self.inside.bytes) (sym c.index.ensures) (c.self.invariant.within c.args.sample c.index.result.now low))
 
 pub returns : goal.returns
-returns c = ?
+returns c =
+    let low = begins-within c.args.self.now c.self.inside.names c.self.inside.bytes c.self.inside.samples c.self.inside.changes.items c.self.inside.starts.items c.self.inside.unknown c.args.sample c.self.view_is c.self.invariant c.requires in
+    let here : c.index.result.now ≡ get_or c.self.inside.starts.items c.args.sample 0 = get_or_read c.self.inside.starts.items c.args.sample c.index.result.now low c.index.ensures 0 in
+    c.place_of.ensures ∙ ap (λ bytes. place_at bytes c.index.result.now) c.as_slice.ensures
+    ∙ place-kept c.args.self.now c.self.inside.names c.self.inside.bytes c.self.inside.samples c.self.inside.changes.items c.self.inside.starts.items c.self.inside.unknown c.args.sample c.index.result.now c.self.view_is low here

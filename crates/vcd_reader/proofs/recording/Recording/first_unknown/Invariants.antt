@@ -1,7 +1,7 @@
 use Rattle.std.proofs.Common.{◌≡◌, ◌≤◌, length, take}
 use Rattle.vcd_reader.specs.FirstUnknown.{earliest}
 use Rattle.vcd_reader.specs.Tested.{atoms_tested}
-use Rattle.vcd_reader.proofs.first_unknown.Recording.first_unknown.Given as goal
+use Rattle.vcd_reader.proofs.recording.Recording.first_unknown.Given as goal
 
 abbrev pub invariant-loop-directive : goal.invariant-loop-directive
 invariant-loop-directive l = record {
