@@ -1,12 +1,12 @@
 -- The first sample at which a bit is unknown, atom by atom.
-use Rattle.std.proofs.Common.{◌≡◌, inl, inr, ℕ, zero, suc, ◌<◌, ◌≤◌, nat_lt, Bool, true, false, ◌||◌, cond, List, [], ◌∷◌, ◌++◌, length, Option, None, Some, refl, sym, ap, subst, ◌∙◌, arith}
+use Rattle.std.proofs.Common.{◌≡◌, inl, inr, ℕ, zero, suc, ◌<◌, ◌≤◌, nat_lt, Bool, true, false, ◌||◌, cond, List, [], ◌∷◌, ◌++◌, length, None, Some, refl, sym, ap, subst, ◌∙◌, arith}
 use Rattle.std.proofs.lemmas.Bool.{cases_lt, lt-ltb, le-ltb, cond-true, cond-false}
 use Rattle.std.proofs.lemmas.List.{append-nil}
 use Rattle.std.specs.List.{list_any}
 use Rattle.psl_tree.specs.Trees.{formula_of}
 use Rattle.psl_tree.specs.declared.atom.Atom.{Atom}
 use Rattle.psl_tree.specs.declared.directive.Directive.{Directive}
-use Rattle.vcd_reader.specs.FirstUnknown.{is_unknown_for, tests_unknown, IsFirstUnknown, first_below, earliest}
+use Rattle.vcd_reader.specs.FirstUnknown.{is_unknown_for, IsFirstUnknown, first_below, earliest}
 use Rattle.vcd_reader.specs.Sampled.{Sampled}
 use Rattle.vcd_reader.specs.Tested.{atoms_in, atoms_tested}
 

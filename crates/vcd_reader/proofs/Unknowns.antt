@@ -1,11 +1,10 @@
 -- How unknown bits read, and values worked out by hand.
-use Rattle.std.proofs.Common.{◌≡◌, ℕ, Bool, true, false, not, ◌&&◌, ◌||◌, List, [], Option, None, Some, Result, Ok, Err, refl, sym, ap, ◌∙◌}
+use Rattle.std.proofs.Common.{◌≡◌, ℕ, Bool, true, false, not, ◌&&◌, ◌||◌, List, [], Option, None, Some, Ok, Err, refl, sym, ap, ◌∙◌}
 use Rattle.psl_base.specs.Tokens.{tokens}
 use Rattle.vcd_reader.specs.declared.fault.VcdFault.{VcdFault}
 use Rattle.vcd_reader.specs.declared.unknown.Unknown.{Unknown}
-use Rattle.vcd_reader.specs.declared.unknown.Unknown.TheVariants.{Refuse}
 use Rattle.vcd_reader.specs.Meaning.{first_fault, dump_by, unless, end_of, reading, sampled_of, unknown_in}
-use Rattle.vcd_reader.specs.Sampled.{Sampled, letter_of, says_one, says_zero, says_nothing, is_one_under, bit_of, is_unknown_of, value_in, bit_at, unknown_at}
+use Rattle.vcd_reader.specs.Sampled.{Sampled, letter_of, says_one, says_zero, is_one_under, bit_of, is_unknown_of, value_in, bit_at, unknown_at}
 use Rattle.vcd_reader.specs.Shapes.{shape_of, keyword_of}
 use Rattle.vcd_reader.specs.Unknowns.{AreRead}
 

@@ -1,7 +1,7 @@
 -- A recording, read token by token from what was read before: what the code is proved against. That this
 -- is what the definitions say is the law of the reading.
 use Rattle.std.specs.Prelude.{◌≡◌, ◌⊎◌, ℕ, Bool, true, false, nat_lt, cond, List, [], ◌∷◌, ◌++◌, length, replicate, slice_index_or, slice_set, drop, Option, None, Some, Result, Ok, Err}
-use Rattle.psl_base.specs.Tokens.{PlacedToken, TokensLeft}
+use Rattle.psl_base.specs.Tokens.{PlacedToken, TokensLeft, all_tokens}
 use Rattle.psl_base.specs.declared.place.Place.{Place}
 use Rattle.vcd_reader.specs.declared.changes.Change.{Change}
 use Rattle.vcd_reader.specs.declared.fault.VcdFault.{VcdFault}
@@ -9,7 +9,7 @@ use Rattle.vcd_reader.specs.declared.fault.VcdFault.TheVariants.{EndsInside, Too
 use Rattle.vcd_reader.specs.declared.shape.Shape.{Shape}
 use Rattle.vcd_reader.specs.declared.shape.Shape.TheVariants.{Scalar}
 use Rattle.vcd_reader.specs.Beginnings.{begins_sample}
-use Rattle.vcd_reader.specs.Declarations.{Declared, signal_at, bits_of, bits_most}
+use Rattle.vcd_reader.specs.Declarations.{Declared, nothing_declared, signal_at, bits_of, bits_most}
 use Rattle.vcd_reader.specs.Labels.{place_of}
 use Rattle.vcd_reader.specs.Rules.{rule_at, may_end}
 use Rattle.vcd_reader.specs.Shapes.{shape_of}
@@ -82,6 +82,10 @@ defining declared opened left = run declared Defining [] [] opened left
 -- the body, from what is open there
 abbrev pub telling : Declared → Held → Open → TokensLeft → Result Outcome VcdFault
 telling declared held opened left = run declared (Telling held.told) held.changes held.starts opened left
+
+-- all tokens of a text
+abbrev pub run_whole : List ℕ → Result Outcome VcdFault
+run_whole bytes = defining nothing_declared Ready (all_tokens bytes)
 
 -- where a reading ends with a fault, the tokens have it; want of memory may come at any time
 abbrev pub Halts : VcdFault → Result Outcome VcdFault → Type 0

@@ -1,12 +1,12 @@
 ghost use Rattle.std.specs.Prelude.{◌≡◌, ℕ, ◌⊎◌, true, false, List, Ok, Err};
-ghost use Rattle.psl_base.specs.Tokens.{tokens, all_tokens};
-ghost use Rattle.vcd_reader.specs.Declarations.{Declared, nothing_declared};
+ghost use Rattle.psl_base.specs.Tokens.{tokens};
+ghost use Rattle.vcd_reader.specs.Declarations.{Declared};
 ghost use Rattle.vcd_reader.specs.FirstFault.{IsFaultless, IsFirst};
 ghost use Rattle.vcd_reader.specs.Meaning.{dump_by, end_of, reading, sampled_of, unknown_in};
 ghost use Rattle.vcd_reader.specs.Rows.{kept_as};
-ghost use Rattle.vcd_reader.specs.Running.{defining};
+ghost use Rattle.vcd_reader.specs.Running.{run_whole};
 ghost use Rattle.vcd_reader.specs.Sampled.{Sampled, bit_at, is_one_under, unknown_at};
-ghost use Rattle.vcd_reader.specs.Standing.{Ready, Told, Telling};
+ghost use Rattle.vcd_reader.specs.Standing.{Told, Telling};
 ghost use Rattle.vcd_reader.specs.Unknowns.{AreRead};
 ghost use Rattle.vcd_reader.specs.declared.changes.Change.{Change};
 ghost use Rattle.vcd_reader.specs.declared.fault.VcdFault.{VcdFault};
@@ -46,7 +46,8 @@ pub fn values_law()
 
 /// A law of the definitions: reading token by token, from what was read before, says the same.
 pub fn running_law()
-    ensures recording { (unknown : Unknown) (bytes : List ℕ) (declared : Declared) (told : Told) (changes : List (List Change)) (starts : List ℕ) → defining nothing_declared Ready (all_tokens bytes) ≡ Ok (record { declared = declared; part = Telling told; changes = changes; starts = starts })
+    ensures recording { (unknown : Unknown) (bytes : List ℕ) (declared : Declared) (told : Told) (changes : List (List Change)) (starts : List ℕ)
+        → run_whole bytes ≡ Ok (record { declared = declared; part = Telling told; changes = changes; starts = starts })
         → reading unknown bytes ≡ Ok (kept_as declared.names bytes told.samples changes starts unknown) }
-    ensures fault { (unknown : Unknown) (bytes : List ℕ) (found : VcdFault) → defining nothing_declared Ready (all_tokens bytes) ≡ Err found → reading unknown bytes ≡ Err found }
+    ensures fault { (unknown : Unknown) (bytes : List ℕ) (found : VcdFault) → run_whole bytes ≡ Err found → reading unknown bytes ≡ Err found }
 {}

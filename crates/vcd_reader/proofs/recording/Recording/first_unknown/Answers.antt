@@ -1,4 +1,4 @@
-use Rattle.std.proofs.Common.{◌≡◌, ◌<◌, ◌≤◌, ◌+◌, ◌++◌, ◌∷◌, [], ℕ, length, take, sym, ◌∙◌, ap, arith, List}
+use Rattle.std.proofs.Common.{◌≡◌, ◌<◌, ◌+◌, ◌++◌, ◌∷◌, [], length, take, sym, ◌∙◌, ap, arith, List}
 use Rattle.std.proofs.lemmas.List.{take_more, take_all}
 use Rattle.psl_tree.specs.Trees.{formula_of}
 use Rattle.psl_tree.specs.declared.directive.Directive.{Directive}
