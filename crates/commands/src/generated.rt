@@ -5,6 +5,7 @@ ghost use Rattle.commands.specs.declared.reason.Reason.{Reason};
 ghost use Rattle.commands.specs.Generated.{AreMade, AreAnswered, GeneratedStage, answered, value_of};
 ghost use Rattle.vcd_writer.specs.Made.{made_text, made_sampled};
 ghost use Rattle.vcd_reader.specs.Rules.{sample_limit};
+ghost use Rattle.vcd_reader.specs.declared.unknown.Unknown.{Unknown};
 
 use crate::outcome::{Fault, Outcome};
 use psl_base::{Bytes, File, Files, MemShelf, NoMemory, Numbers, Place, Text};
