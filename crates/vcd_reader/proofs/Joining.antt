@@ -24,7 +24,7 @@ use Rattle.vcd_reader.specs.Meaning.{first_fault, events_after, places_after, un
 use Rattle.vcd_reader.specs.Rows.{value_of, rows_of, kept_as, IsSound}
 use Rattle.vcd_reader.specs.Running.{Outcome, changes_after, starts_after, raised, run_to, defining, Halts}
 use Rattle.vcd_reader.specs.Rules.{rule_at, may_end}
-use Rattle.vcd_reader.specs.Sampled.{AreAlike}
+use Rattle.vcd_reader.specs.Sampled.{Sampled, AreAlike}
 use Rattle.vcd_reader.specs.Changes.{latest_change, letters_in}
 use Rattle.vcd_reader.specs.Standing.{Standing, standing_by, Told, nothing_told, Part, Defining, Telling, Open, Ready, declared_after, part_after, opened_after}
 use Rattle.vcd_reader.specs.Told.{IsReadFault}
@@ -127,6 +127,30 @@ says_fault unknown bytes found halts =
     let first : first_fault (end_of bytes) [] (tokens bytes) ≡ Some found =
     by_error bytes _ _ _ found (subst (λ out. AgreeWhole bytes (unless (first_fault (end_of bytes) [] (tokens bytes)) (standing_by (tokens bytes), events_after [] (tokens bytes))) out) halts (whole bytes)) in
     ap (λ (fault : Option VcdFault). unless fault (sampled_of unknown (dump_by (tokens bytes)))) first
+
+-- one place for each time that is listed
+counted-run : (bytes : List ℕ) (standing : Standing) (events : List Event) (out : Result Outcome VcdFault) → defining nothing_declared Ready (all_tokens bytes) ≡ out → AgreeWhole bytes (Ok (standing, events)) out → length (times_of events) ≡ length (begun Defining Ready (tokens bytes))
+counted-run bytes standing events (Ok out) read agree =
+    let samples = run-samples (end_of bytes) nothing_declared Defining [] [] Ready (tokens bytes) out read in
+    let listed = agree.1.samples in
+    omega (arith, samples, listed)
+counted-run bytes standing events (Err fault) read agree = absurd agree
+
+counted-fault : (bytes : List ℕ) (said recording : Sampled) (standing : Standing) (events : List Event) (fault : Option VcdFault) → unless fault said ≡ Ok recording → AgreeWhole bytes (unless fault (standing, events)) (defining nothing_declared Ready (all_tokens bytes)) →
+    (said ≡ recording) × (length (times_of events) ≡ length (begun Defining Ready (tokens bytes)))
+counted-fault bytes said recording standing events None read agree = (cc, counted-run bytes standing events (defining nothing_declared Ready (all_tokens bytes)) refl agree)
+counted-fault bytes said recording standing events (Some fault) read agree = absurd (let wrong : Err fault ≡ Ok recording = read in cc)
+
+-- there is a place for each sample
+pub places-counted : (unknown : Unknown) (bytes : List ℕ) (recording : Sampled) → reading unknown bytes ≡ Ok recording → length recording.places ≡ length recording.samples
+places-counted unknown bytes recording read =
+    let events = events_after [] (tokens bytes) in
+    let found = counted-fault bytes (sampled_of unknown (dump_by (tokens bytes))) recording (standing_by (tokens bytes)) events (first_fault (end_of bytes) [] (tokens bytes)) read (whole bytes) in
+    let begins = begun Defining Ready (tokens bytes) in
+    let signals = length (standing_by (tokens bytes)).declared.codes in
+    let rows = length-map (times_of events) (λ time. map (λ signal. value_at events signal time) (range_with_len 0 signals)) in
+    let places = ap length (places-kept bytes) ∙ length-map (offsets begins) (place_at bytes) ∙ length-map begins (λ (t : PlacedToken). t.at) in
+    sym (ap (λ (r : Sampled). length r.places) found.0) ∙ places ∙ sym found.1 ∙ sym rows ∙ ap (λ (r : Sampled). length r.samples) found.0
 
 -- a fault of the text is none of the shelf
 abbrev IsOfText : VcdFault → Type 0

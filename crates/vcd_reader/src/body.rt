@@ -1,4 +1,4 @@
-ghost use Rattle.std.specs.Prelude.{◌≡◌, List, ◌+◌, ◌<◌, ◌≤◌, ◌^◌, ◌∷◌, drop, length, Some, Ok, OnOk, IfOk, IfErr};
+ghost use Rattle.std.specs.Prelude.{◌≡◌, List, ◌+◌, ◌<◌, ◌≤◌, ◌^◌, [], ◌∷◌, drop, length, Some, Ok, OnOk, IfOk, IfErr};
 ghost use Rattle.psl_base.specs.Tokens.{TokensLeft, ◌▸◌};
 ghost use Rattle.vcd_reader.specs.Declarations.{Declared};
 ghost use Rattle.vcd_reader.specs.Events.{is_last, falls};
@@ -87,7 +87,7 @@ impl Body {
             samples: 0,
             in_block: false,
             changes,
-            starts: Vec::new(alloc),
+            starts: with_room(alloc, room.min(SAMPLE_LIMIT as usize)),
         })
     }
 
@@ -239,7 +239,17 @@ impl Body {
     }
 }
 
-/// How many changes of each signal to make room for before they are read: as many as so many bytes tell of so many
+/// No numbers, with room for so many where memory is there for them.
+fn with_room(alloc: Global, numbers: usize) -> Vec<u32>
+    ensures { result.items ≡ [] }
+{
+    match Vec::with_capacity(alloc, numbers) {
+        Ok(list) => list,
+        Err(_) => Vec::new(alloc),
+    }
+}
+
+/// How many changes of each signal, and samples, to make room for before they are read: as many as so many bytes tell of so many
 /// signals, where all change alike. A change has two bytes or more and white space. Room for few is not worth its making.
 fn changes_expected(signals: usize, bytes: usize) -> usize {
     match (bytes / 3).checked_div(signals) {

@@ -1,4 +1,4 @@
-ghost use Rattle.std.specs.Prelude.{◌≡◌, ℕ, ◌⊎◌, true, false, List, Ok, Err};
+ghost use Rattle.std.specs.Prelude.{◌≡◌, ℕ, ◌⊎◌, true, false, length, List, Ok, Err};
 ghost use Rattle.psl_base.specs.Tokens.{tokens};
 ghost use Rattle.vcd_reader.specs.Declarations.{Declared};
 ghost use Rattle.vcd_reader.specs.FirstFault.{IsFaultless, IsFirst};
@@ -37,6 +37,11 @@ pub fn unknown_law()
     ensures text { (unknown : Unknown) (bytes : List ℕ) (recording : Sampled) → reading unknown bytes ≡ Ok recording → (sample signal bit : ℕ) → unknown_at recording sample signal bit ≡ unknown_in bytes sample signal bit }
     ensures known { (other : Unknown) (recording : Sampled) (sample signal bit : ℕ) → unknown_at recording sample signal bit ≡ false → bit_at (record recording { unknown = other }) sample signal bit ≡ bit_at recording sample signal bit }
     ensures unknown { (recording : Sampled) (sample signal bit : ℕ) → unknown_at recording sample signal bit ≡ true → bit_at recording sample signal bit ≡ is_one_under recording.unknown }
+{}
+
+/// A law of the definitions: each sample has a place where its time is listed.
+pub fn places_law()
+    ensures { (unknown : Unknown) (bytes : List ℕ) (recording : Sampled) → reading unknown bytes ≡ Ok recording → length recording.places ≡ length recording.samples }
 {}
 
 /// Values worked out by hand: how each letter reads, what stands to the left of a value, and where values are missing.

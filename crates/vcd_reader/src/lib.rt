@@ -20,7 +20,9 @@ mod unknown;
 
 pub use body::SAMPLE_LIMIT;
 pub use fault::VcdFault;
-pub use laws::{first_fault_law, one_meaning_law, running_law, unknown_law, values_law};
+pub use laws::{
+    first_fault_law, one_meaning_law, places_law, running_law, unknown_law, values_law,
+};
 pub use psl_base::Place;
 pub use reading::read_vcd;
 pub use recording::Recording;
