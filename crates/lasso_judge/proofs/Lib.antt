@@ -2,6 +2,7 @@ pub mod Forms
 pub mod Hitting
 pub mod Lasting
 pub mod Letters
+pub mod Merging
 pub mod Passed
 pub mod Pushed
 pub mod Cellular

@@ -1,6 +1,8 @@
 pub mod Arrows
 pub mod Cells
 pub mod Limits
+pub mod MergedView
+pub mod Merging
 pub mod Seen
 pub mod Stops
 pub mod Tables

@@ -7,7 +7,9 @@ ghost use Rattle.sere_nfa.specs.Acceptance.{IsSound};
 ghost use Rattle.sere_nfa.specs.Construction.{nfa_of};
 ghost use Rattle.sere_nfa.specs.Views.{edges_of};
 ghost use Rattle.lasso_judge.specs.Arrows.{arrows_in, arrows_below, places_from, IsChart};
+ghost use Rattle.lasso_judge.specs.Merging.{IsMerged};
 
+use crate::merged::Merged;
 use psl_base::{Items, NoMemory};
 use psl_tree::{MOST_STATES, Sere};
 use sere_nfa::{Nfa, NfaEdge, NfaFault};
@@ -26,7 +28,7 @@ pub(crate) struct Arrow {
 /// has the number place times the number of states plus state.
 #[derive(Drop)]
 pub(crate) struct Chart {
-    pub(crate) nfa: Nfa,
+    pub(crate) nfa: Merged,
     pub(crate) arrows: Vec<Arrow>,
     /// For each state, the arrows that lead to it.
     pub(crate) into: Vec<Items<usize>>,
@@ -44,9 +46,9 @@ impl Chart {
         requires small { states_of (sequence_of r.now) ≤ MOST_STATES }
         requires within { (place : ℕ) → place < length next.now → slice_index next.now place < length next.now }
         ensures chart { IfOk result (λ chart. IsChart next.now chart) }
-        ensures automaton { IfOk result (λ chart. chart.nfa ≡ nfa_of (sequence_of r.now)) }
+        ensures automaton { IfOk result (λ chart. IsMerged (nfa_of (sequence_of r.now)).states chart.nfa.states) }
     {
-        let nfa = automaton(alloc, r)?;
+        let nfa = merged_automaton(alloc, r)?;
         let arrows = arrows_of(alloc, &nfa)?;
         let targets = targets_of(alloc, &arrows)?;
         let into = places_of_each(alloc, &targets, nfa.len())?;
@@ -60,6 +62,20 @@ impl Chart {
             cells,
         })
     }
+}
+
+// The automaton of a sequence, its states merged.
+fn merged_automaton(alloc: Global, r: &Sere) -> Result<Merged, NoMemory>
+    requires plain { HasNoClock (sequence_of r.now) }
+    requires small { states_of (sequence_of r.now) ≤ MOST_STATES }
+    ensures merged { IfOk result (λ nfa. IsMerged (nfa_of (sequence_of r.now)).states nfa.states) }
+    ensures sound { IfOk result (λ nfa. IsSound nfa) }
+    ensures size { IfOk result (λ nfa. length nfa.states ≤ states_of (sequence_of r.now)) }
+    ensures some { IfOk result (λ nfa. 0 < length nfa.states) }
+{
+    let nfa = automaton(alloc, r)?;
+    let merged = Merged::new(alloc, &nfa)?;
+    Ok(merged)
 }
 
 fn automaton(alloc: Global, r: &Sere) -> Result<Nfa, NoMemory>
@@ -89,7 +105,7 @@ fn cell_count(places: usize, states: usize) -> Result<usize, NoMemory>
     }
 }
 
-fn arrows_of(alloc: Global, nfa: &Nfa) -> Result<Vec<Arrow>, NoMemory>
+fn arrows_of(alloc: Global, nfa: &Merged) -> Result<Vec<Arrow>, NoMemory>
     requires { length nfa.now.states < 2 ^ 32 }
     ensures { IfOk result (λ arrows. arrows.items ≡ arrows_below nfa.now.states (length nfa.now.states)) }
 {

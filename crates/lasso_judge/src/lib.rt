@@ -8,6 +8,7 @@ mod chart;
 mod hits;
 mod judge;
 mod lasts;
+mod merged;
 mod places;
 mod sequences;
 mod tables;

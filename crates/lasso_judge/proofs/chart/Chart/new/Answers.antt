@@ -1,9 +1,7 @@
-use Rattle.std.proofs.Common.{◌∙◌, ap, sym, subst, ℕ, ◌<◌, ◌*◌, List, map, length, arith}
-use Rattle.psl_tree.specs.Trees.{sequence_of}
-use Rattle.sere_nfa.specs.Acceptance.{Automaton}
+use Rattle.std.proofs.Common.{◌∙◌, ap, sym, ℕ, ◌<◌, ◌*◌, List, map, length, arith}
 use Rattle.lasso_judge.specs.declared.chart.Arrow.{Arrow}
 use Rattle.lasso_judge.specs.Arrows.{places_from}
-use Rattle.lasso_judge.proofs.Drawn.{arrows-real, targets-below, some-state}
+use Rattle.lasso_judge.proofs.Drawn.{arrows-real, targets-below}
 use Rattle.lasso_judge.proofs.chart.Chart.new.Goals as goal
 
 pub arrows_of-requires : goal.arrows_of-requires
@@ -19,7 +17,7 @@ pub returns-clause-chart : goal.returns-clause-chart
 returns-clause-chart c = record {
   drawn = record {
     sound = c.in_ok-nfa.ensures.sound;
-    some = subst (λ (a : Automaton). 0 < length a.states) (sym c.in_ok-nfa.ensures.built) (some-state (sequence_of c.args.r.now));
+    some = c.in_ok-nfa.ensures.some;
     arrows = c.in_ok-arrows.ensures;
     real = arrows-real c.in_ok-nfa.nfa.states c.in_ok-arrows.arrows.items c.in_ok-arrows.ensures;
     into_length = c.in_ok-into.ensures.len ∙ c.len.ensures;
