@@ -18,10 +18,10 @@ pub(crate) struct MergedState {
     pub(crate) edges: Edges,
 }
 
-/// An automaton in which states that are final alike and have the same edges are one: the first of them
-/// has these edges and all that lead to one of them, and the others have none (the follow automaton of Ilie
-/// and Yu). So a choice of n letters that is repeated, n states with n edges each, takes n edges, not n * n.
-/// Contracts see it as an automaton, with its states in order.
+/// An automaton whose equal states are one (the follow automaton of Ilie and Yu, 2003). States are equal
+/// where both or neither are final and their edges are the same. The first of them stands for all: edges to
+/// any of them lead to it, and the others have none. So a repeated choice of n letters, n states with n edges
+/// each, takes n edges and not n * n. Contracts see the automaton with its states in order.
 #[derive(Drop)]
 pub(crate) struct Merged {
     states: Vec<MergedState>,
@@ -232,12 +232,7 @@ fn state_of(
 }
 
 // A state with its edges led.
-fn kept(
-    alloc: Global,
-    nfa: &Nfa,
-    classes: &[usize],
-    state: usize,
-) -> Result<MergedState, NoMemory>
+fn kept(alloc: Global, nfa: &Nfa, classes: &[usize], state: usize) -> Result<MergedState, NoMemory>
     requires few { length nfa.now.states < 2 ^ 32 }
     requires classes { AreClasses nfa.now.states (length nfa.now.states) classes.now }
     requires state { state < length nfa.now.states }
