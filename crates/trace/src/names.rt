@@ -8,6 +8,9 @@ use psl_tree::Name;
 use std::alloc::Global;
 
 /// By the number of a signal, the place of its first name; a place behind all names, where it has none.
+///
+/// # Errors
+/// `NoMemory` where the allocator refuses memory.
 pub fn first_places(alloc: Global, names: &[Name], signals: u32) -> Result<Vec<usize>, NoMemory>
     requires { All (NamesBit signals) names.now }
     ensures length { IfOk result (λ first. length first.items ≡ signals) }
