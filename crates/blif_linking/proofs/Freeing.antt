@@ -13,8 +13,7 @@ use Rattle.blif_model.specs.declared.file.FileText.{FileText}
 use Rattle.blif_model.specs.declared.line.ModelLine.{ModelLine}
 use Rattle.blif_model.specs.FileKnown.{OwnLines, numbered_part, part_in}
 use Rattle.blif_model.specs.Files.{Part, Placing}
-use Rattle.blif_model.specs.Meaning.{is_undriven}
-use Rattle.blif_model.specs.Models.{Mention, Model, Statement, IsInputs, IsOutputs, IsLatch, IsTable, driven, is_driven, names_of, used}
+use Rattle.blif_model.specs.Models.{Mention, Model, Statement, IsInputs, IsOutputs, IsLatch, IsTable, driven, is_driven, is_undriven, names_of, used}
 use Rattle.blif_model.specs.Names.{named_by, nothing_named, number_at, number_of, place_of}
 use Rattle.blif_model.specs.Numbered.{items_of, line_of, words_in}
 use Rattle.blif_model.proofs.Held.{PartsHold, parts-hold}

@@ -4,8 +4,7 @@ use Rattle.std.specs.List.{find, flat_map, list_any}
 use Rattle.std.specs.Option.{option_map, option_or}
 use Rattle.psl_base.specs.Tokens.{PlacedToken}
 use Rattle.blif_model.specs.Files.{Part, Placing, model_named}
-use Rattle.blif_model.specs.Meaning.{is_undriven}
-use Rattle.blif_model.specs.Models.{Mention, Model, Statement, IsInputs, IsOutputs, IsLatch, IsTable, driven, is_driven, names_of, used}
+use Rattle.blif_model.specs.Models.{Mention, Model, Statement, IsInputs, IsOutputs, IsLatch, IsTable, driven, is_driven, is_undriven, names_of, used}
 use Rattle.blif_linking.specs.Interfaces.{Role, Input, Output, Clock, inputs_in, is_one_of, role_of}
 use Rattle.blif_linking.specs.Links.{Link, connections_in, formal_of, link_of, title_in}
 

@@ -1,6 +1,6 @@
 -- The worked examples hold.
 use Rattle.std.proofs.Common.{refl}
-use Rattle.blif_model.specs.Examples.{LinesAreJoined, BackslashIsPart, NamesInOrder, UnknownWord, ModelBehindInputs, RowWithoutTable, RowOfAnotherOutput, LatchOfOneWord, LatchOfALevel, LatchesOfTwoClocks, InputTwice, OutputOfNothing, BackslashAtTheEnd, LineBehindTheEnd}
+use Rattle.blif_model.specs.Examples.{LinesAreJoined, BackslashIsPart, NamesInOrder, UnknownWord, ModelBehindInputs, RowWithoutTable, RowOfAnotherOutput, LatchOfOneWord, LatchOfALevel, LatchesOfTwoClocks, InputTwice, BackslashAtTheEnd, LineBehindTheEnd}
 
 pub lines_are_joined : LinesAreJoined
 lines_are_joined = refl
@@ -35,13 +35,10 @@ latches_of_two_clocks = refl
 pub input_twice : InputTwice
 input_twice = refl
 
-pub output_of_nothing : OutputOfNothing
-output_of_nothing = refl
-
 pub backslash_at_the_end : BackslashAtTheEnd
 backslash_at_the_end = refl
 
 pub line_behind_the_end : LineBehindTheEnd
 line_behind_the_end = refl
 
-pub ruleset examples = (lines_are_joined, backslash_is_part, names_in_order, unknown_word, model_behind_inputs, row_without_table, row_of_another_output, latch_of_one_word, latch_of_a_level, latches_of_two_clocks, input_twice, output_of_nothing, backslash_at_the_end, line_behind_the_end)
+pub ruleset examples = (lines_are_joined, backslash_is_part, names_in_order, unknown_word, model_behind_inputs, row_without_table, row_of_another_output, latch_of_one_word, latch_of_a_level, latches_of_two_clocks, input_twice, backslash_at_the_end, line_behind_the_end)

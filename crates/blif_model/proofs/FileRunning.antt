@@ -10,9 +10,8 @@ use Rattle.blif_model.specs.declared.fault.BlifFault.{BlifFault}
 use Rattle.blif_model.specs.declared.fault.BlifFault.TheVariants.{MissingEnd, NoMemory}
 use Rattle.blif_model.specs.declared.file.FileText.{FileText}
 use Rattle.blif_model.specs.FileKnown.{AreSaidOf, FileKnown, FileSays, file_fault_in, file_known_after, file_line_fault_in, file_running, no_file_known, numbered_part, parts_known}
-use Rattle.blif_model.specs.Files.{FileStanding, Part, file_after, file_by, file_line_fault, first_file_fault, model_named, models_of, no_file, parts_of}
+use Rattle.blif_model.specs.Files.{FileStanding, Part, file_after, file_by, file_line_fault, first_file_fault, model_named, models_of, no_file, parts_of, unless}
 use Rattle.blif_model.specs.Lines.{Line, lines}
-use Rattle.blif_model.specs.Meaning.{unless}
 use Rattle.blif_model.specs.Models.{Model}
 use Rattle.blif_model.specs.Names.{place_of}
 use Rattle.blif_model.proofs.Titles.{ordered-by, ordered-first, titles-number}

@@ -10,18 +10,27 @@ use Rattle.blif_model.specs.declared.file.FileCommand.TheVariants.{Begin, Place,
 use Rattle.blif_model.specs.declared.flags.Flags.{Flags}
 use Rattle.blif_model.specs.FileKnown.{FileKnown, OwnLines, file_command_fault_in, file_fault_in, file_known_after, file_known_by, known_begun, known_begun_as, no_file_known, numbered_part, part_known, parts_known}
 use Rattle.blif_model.specs.Files.{FileStanding, Part, Placing, begin_rule, begun_as, begun_by, clocks_by, file_after_words, file_by_command, file_command_of, file_fault_by, file_words_fault, first_of, is_repeated, no_file, part_of, parts_of, title_text, titles_of}
-use Rattle.blif_model.specs.Known.{Known, closed, known_by_command, nothing_known}
-use Rattle.blif_model.specs.Models.{Model, Statement}
+use Rattle.blif_model.specs.Known.{Known, closed, known_by_command, nothing_known, text_of}
+use Rattle.blif_model.specs.Models.{Model, Statement, names_of}
 use Rattle.blif_model.specs.Names.{Named, named_by, nothing_named}
-use Rattle.blif_model.specs.Numbered.{items_of}
+use Rattle.blif_model.specs.Numbered.{items_of, numbered}
 use Rattle.blif_model.specs.Rules.{flags_of, is_bad_model}
 use Rattle.blif_model.specs.Standing.{Standing, at_first, standing_by_command, words_of}
 use Rattle.blif_model.proofs.Following.{Follows, command-fault-is, command-step, flags-are, follows-first, model-step}
 use Rattle.blif_model.proofs.Knowing.{closed-are}
-use Rattle.blif_model.proofs.Naming.{naming-more}
-use Rattle.blif_model.proofs.Running.{text-is}
+use Rattle.blif_model.proofs.Naming.{naming-more, naming-names}
 use Rattle.blif_model.proofs.Stepping.{mentions-whole}
 use Rattle.blif_model.proofs.Titles.{flat-push}
+
+-- the names and the lines of what is known
+text-is : (whole : List ℕ) (standing : Standing) (known : Known) → Follows whole standing known → text_of known ≡ numbered standing.model
+text-is whole standing known follows =
+    let names : known.named.names ≡ names_of standing.model.mentions =
+    ap (λ n. n.names) follows.said.named_are ∙ sym (naming-names whole standing.model.mentions) in
+    let items : closed known.lines known.table ≡ items_of (names_of standing.model.mentions) standing.model.statements =
+    closed-are known.named.names standing.in_table standing.model.statements known.lines known.table follows.said.lines_are
+    ∙ ap (λ n. items_of n standing.model.statements) names in
+    rw (items, names) refl
 
 pub record FileFollows (whole : List ℕ) (file : FileStanding) (known : FileKnown) : Type 0 where
   pub own : Follows whole file.own known.own

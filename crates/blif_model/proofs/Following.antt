@@ -11,14 +11,13 @@ use Rattle.blif_model.specs.declared.fault.BlifFault.{BlifFault}
 use Rattle.blif_model.specs.declared.fault.BlifFault.TheVariants.{BadRow}
 use Rattle.blif_model.specs.declared.flags.Flags.{Flags}
 use Rattle.blif_model.specs.declared.line.ModelLine.{ModelLine}
-use Rattle.blif_model.specs.Commands.{command_of}
-use Rattle.blif_model.specs.Known.{Known, Opened, closed, nothing_known, command_fault_in, flags_in, known_after_words, known_by_command, own, row_fault_of, row_fault_on, row_on, row_onto, said_fault, words_fault_in, width_of_open}
+use Rattle.blif_model.specs.Known.{Known, Opened, closed, nothing_known, command_fault_in, flags_in, known_by_command, own, row_fault_of, row_fault_on, row_on, row_onto, said_fault, width_of_open}
 use Rattle.blif_model.specs.Models.{Gate, Mention, Model, Statement, IsInputs, IsOutputs, IsLatch, IsTable, driven, used, mention_as}
 use Rattle.blif_model.specs.Names.{Named, named_by, names_fault_in, number_of, numbers_in, with_mentions}
 use Rattle.blif_model.specs.Numbered.{items_of, kind_of, line_of, words_in}
-use Rattle.blif_model.specs.Rules.{command_fault, flags_of, head_rule_by, latch_fault, names_fault, tail_fault, row_fault, row_fault_in, width_of, words_fault}
+use Rattle.blif_model.specs.Rules.{command_fault, flags_of, head_rule_by, latch_fault, names_fault, tail_fault, row_fault, row_fault_in, width_of}
 use Rattle.blif_model.specs.Shapes.{Clocking, LatchParts, Row, latch_of, row_of}
-use Rattle.blif_model.specs.Standing.{Standing, all_but_last, at_first, first_clocking, last_of, last_table, mentions_of, mentions_of_names, standing_after_words, standing_by_command, with_last_row, with_row, words_of}
+use Rattle.blif_model.specs.Standing.{Standing, all_but_last, at_first, first_clocking, last_of, last_table, mentions_of, mentions_of_names, standing_by_command, with_last_row, with_row}
 use Rattle.blif_model.proofs.Knowing.{AreLines, HoldSaid, closed-are, grows-all, held-all, items-stay, numbers-are, opened_of, said-last, said-push, said-stays, words_of_mentions, HoldAll}
 use Rattle.blif_model.proofs.Naming.{naming-fault, naming-more}
 
@@ -202,11 +201,6 @@ command-fault-is whole standing known commands.Clock head words follows = both-f
 command-fault-is whole standing known commands.End head words follows = both-faults whole standing known commands.End head words follows refl
 command-fault-is whole standing known commands.Unknown head words follows = both-faults whole standing known commands.Unknown head words follows refl
 
-pub words-fault-is : (whole : List ℕ) (standing : Standing) (known : Known) (words : List PlacedToken) → Follows whole standing known → words_fault_in known words ≡ words_fault standing words
-words-fault-is whole standing known [] follows = refl
-words-fault-is whole standing known (head ∷ words) follows =
-    command-fault-is whole standing known (command_of head.text) head (words_of (command_of head.text) head words) follows
-
 -- the words that mentions of one kind are of
 words-as : (drives : Bool) (words : List PlacedToken) → words_of_mentions (map (mention_as drives) words) ≡ words
 words-as drives [] = refl
@@ -326,12 +320,6 @@ command-step whole standing known commands.Clock head words follows faultless =
     record { said = other-step whole standing known follows; clocking = follows.clocking; begun = refl; titled = follows.titled; ended = follows.ended }
 command-step whole standing known commands.Unknown head words follows faultless =
     record { said = other-step whole standing known follows; clocking = follows.clocking; begun = refl; titled = follows.titled; ended = follows.ended }
-
-pub words-step : (whole : List ℕ) (standing : Standing) (known : Known) (words : List PlacedToken) → Follows whole standing known
-    → words_fault_in known words ≡ None → Follows whole (standing_after_words standing words) (known_after_words known words)
-words-step whole standing known [] follows faultless = follows
-words-step whole standing known (head ∷ words) follows faultless =
-    command-step whole standing known (command_of head.text) head (words_of (command_of head.text) head words) follows faultless
 
 pub follows-first : (whole : List ℕ) → Follows whole at_first (nothing_known whole)
 follows-first whole = record {

@@ -1,8 +1,6 @@
 -- What holds of what lines without a fault say.
-use Rattle.std.proofs.Common.{◌≡◌, ℕ, ◌+◌, ◌≤◌, Bool, true, false, cond, ◌||◌, List, [], ◌∷◌, ◌++◌, length, map, Option, None, Some, refl, sym, ap, ◌∙◌, subst, arith}
+use Rattle.std.proofs.Common.{◌≡◌, ℕ, ◌+◌, ◌≤◌, Bool, true, false, cond, ◌||◌, List, [], ◌∷◌, ◌++◌, map, Option, None, Some, refl, sym, ap, ◌∙◌, subst, arith}
 use Rattle.std.proofs.lemmas.List.{append-nil, append_assoc}
-use Rattle.std.proofs.lemmas.List.Sums.{fold-append}
-use Rattle.std.specs.List.{find}
 use Rattle.std.specs.Option.{option_map, option_or}
 use Rattle.std.specs.Prelude.{Ok}
 use Rattle.psl_base.specs.Tokens.{PlacedToken}
@@ -11,15 +9,12 @@ use Rattle.netlist.specs.declared.latch.Init.TheVariants as inits
 use Rattle.blif_model.specs.declared.command.Command.{Command}
 use Rattle.blif_model.specs.declared.command.Command.TheVariants as commands
 use Rattle.blif_model.specs.declared.fault.BlifFault.{BlifFault}
-use Rattle.blif_model.specs.declared.fault.BlifFault.TheVariants.{MissingEnd, Undriven}
-use Rattle.blif_model.specs.Commands.{command_of}
-use Rattle.blif_model.specs.Lines.{Line, lines}
-use Rattle.blif_model.specs.Meaning.{fault_at, first_fault, undriven, is_undriven, unless, model_of}
+use Rattle.blif_model.specs.Files.{unless}
 use Rattle.blif_model.specs.Models.{Mention, Model, driven, used}
-use Rattle.blif_model.specs.Rules.{name_rule, names_fault, head_rule, tail_fault, words_fault, latch_fault}
+use Rattle.blif_model.specs.Rules.{name_rule, names_fault, tail_fault, latch_fault}
 use Rattle.blif_model.specs.Shapes.{Clocking, LatchParts, with_init, latch_of, init_of, is_edge, is_level}
-use Rattle.blif_model.specs.Standing.{Standing, at_first, standing_after, standing_after_words, standing_by, standing_by_command, words_of, mentions_of, mentions_of_names, mentions_of_latch, statements_of, latch_by, last_of}
-use Rattle.blif_model.proofs.Texts.{IsWord, AreWords, size_of, AreLines, lines_size, text-lined}
+use Rattle.blif_model.specs.Standing.{Standing, standing_by_command, words_of, mentions_of, mentions_of_names, mentions_of_latch, statements_of, latch_by, last_of}
+use Rattle.blif_model.proofs.Texts.{IsWord, AreWords, size_of}
 use Rattle.blif_model.proofs.Mentioned.{all_mentions, all_mentions-append, AllWide, AllWide-append, cost_of, cost-append, last_row, names_mentions, table_wide}
 
 -- of two faults there is none
@@ -91,7 +86,7 @@ no_names_fault standing commands.End words none = refl
 no_names_fault standing commands.Unknown words none = refl
 no_names_fault standing commands.Row words none = refl
 
--- a text says a model where no line has a fault and no name is undriven
+-- there is a value in place of a fault where there is none
 pub unless_ok : {A B : Type 0} (fault : Option B) (value said : A) → unless fault value ≡ Ok said → (fault ≡ None) × (value ≡ said)
 unless_ok None value said is = (refl, let same : value ≡ said = cc in same)
 unless_ok (Some fault) value said is = cc
@@ -205,50 +200,3 @@ module _ (size : ℕ) where
   words_within commands.End head words all = (all.1, omega arith)
   words_within commands.Unknown head words all = (all.1, omega arith)
   words_within commands.Row head words all = (all, omega arith)
-
-  holds_words : (standing : Standing) (words : List PlacedToken) (before most : ℕ) → Holds standing.model before → AreWords size words
-      → words_fault standing words ≡ None → before + size_of words ≤ most → Holds (standing_after_words standing words).model most
-  holds_words standing [] before most holds all none room =
-      record { mentions = holds.mentions; faultless = holds.faultless; named = holds.named; wide = holds.wide; few = omega (arith, holds.few) }
-  holds_words standing (head ∷ words) before most holds all none room =
-      let within = words_within (command_of head.text) head words all in
-      let some = all.0.some in
-      let parts = or_none (option_map (λ fault. fault head.place) (head_rule standing (command_of head.text) (words_of (command_of head.text) head words)))
-      (tail_fault standing (command_of head.text) (words_of (command_of head.text) head words)) none in
-      holds_said standing (command_of head.text) (words_of (command_of head.text) head words) before most holds within.0
-      (no_names_fault standing (command_of head.text) (words_of (command_of head.text) head words) parts.1)
-      (omega (arith, some)) (omega (arith, within.1))
-
-  holds_lines : (before rest : List Line) (most : ℕ) → Holds (standing_by before).model most → AreLines size rest → first_fault before rest ≡ None
-      → Holds (standing_by (before ++ rest)).model (most + lines_size rest)
-  holds_lines before [] most holds all none =
-      subst (λ (list : List Line). Holds (standing_by list).model (most + 0)) (sym (append-nil before))
-      (record { mentions = holds.mentions; faultless = holds.faultless; named = holds.named; wide = holds.wide; few = omega (arith, holds.few) })
-  holds_lines before (line ∷ rest) most holds all none =
-      let parts = or_none (fault_at before line) (first_fault (before ++ line ∷ []) rest) none in
-      let here = or_none (words_fault (standing_by before) line.words) (option_map MissingEnd line.stray) parts.0 in
-      let one = holds_words (standing_by before) line.words most (most + size_of line.words) holds all.0 here.0 (omega arith) in
-      let next : Holds (standing_by (before ++ line ∷ [])).model (most + size_of line.words) =
-      subst (λ (standing : Standing). Holds standing.model (most + size_of line.words)) (sym (fold-append standing_after at_first before (line ∷ []))) one in
-      let later = holds_lines (before ++ line ∷ []) rest (most + size_of line.words) next all.1 parts.1 in
-      let joined = subst (λ (list : List Line). Holds (standing_by list).model (most + size_of line.words + lines_size rest)) (append_assoc before (line ∷ []) rest) later in
-      record { mentions = joined.mentions; faultless = joined.faultless; named = joined.named; wide = joined.wide; few = omega (arith, joined.few) }
-
-pub record Said (text : List ℕ) (model : Model) : Type 0 where
-  pub holds : Holds (length text) model (length text)
-  pub driven : find (is_undriven model.mentions) model.mentions ≡ None
-
-pub said : (text : List ℕ) (model : Model) → model_of text ≡ Ok model → Said text model
-said text model is =
-    let stands = (standing_by (lines text)).model in
-    let parts = unless_ok (option_or (first_fault [] (lines text)) (undriven stands)) stands model is in
-    let none = or_none (first_fault [] (lines text)) (undriven stands) parts.0 in
-    let lined = text-lined text in
-    let first : Holds (length text) (standing_by []).model 0 = record { mentions = refl; faultless = refl; named = tt; wide = tt; few = omega arith } in
-    let all = holds_lines (length text) [] (lines text) 0 first lined.words none.0 in
-    let whole : Holds (length text) stands (length text) =
-    record { mentions = all.mentions; faultless = all.faultless; named = all.named; wide = all.wide; few = omega (arith, all.few, lined.few) } in
-    record {
-      holds = subst (λ (m : Model). Holds (length text) m (length text)) parts.1 whole;
-      driven = subst (λ (m : Model). find (is_undriven m.mentions) m.mentions ≡ None) parts.1 (map_none (λ (mention : Mention). Undriven mention.word.place) (find (is_undriven stands.mentions) stands.mentions) none.1);
-    }

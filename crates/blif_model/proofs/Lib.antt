@@ -15,7 +15,6 @@ pub mod Mentioned
 pub mod Mentioning
 pub mod Naming
 pub mod Places
-pub mod Running
 pub mod Saying
 pub mod Stepping
 pub mod Texts

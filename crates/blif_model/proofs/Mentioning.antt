@@ -1,5 +1,5 @@
 -- Mentions one behind the other, and their faults.
-use Rattle.std.proofs.Common.{◌≡◌, ℕ, suc, ◌+◌, ◌<◌, ◌≤◌, Bool, true, false, List, [], ◌∷◌, ◌++◌, length, map, get_or, drop, Option, None, Some, refl, ap, ◌∙◌, arith, add-one, drop-cons}
+use Rattle.std.proofs.Common.{◌≡◌, ℕ, suc, ◌+◌, ◌≤◌, true, false, List, [], ◌∷◌, ◌++◌, length, map, get_or, Option, None, Some, refl, ap, ◌∙◌, arith}
 use Rattle.std.proofs.lemmas.List.{length-map, map-append}
 use Rattle.std.specs.Option.{option_or}
 use Rattle.std.specs.Prelude.{nat_le}
@@ -9,9 +9,8 @@ use Rattle.blif_model.specs.declared.fault.BlifFault.{BlifFault}
 use Rattle.blif_model.specs.declared.fault.BlifFault.TheVariants.{DrivenTwice, TooLarge}
 use Rattle.blif_model.specs.declared.pieces.Span.{Span}
 use Rattle.blif_model.specs.Models.{Mention, driven, used, mention_as}
-use Rattle.blif_model.specs.Names.{Named, mention_fault, names_fault_in, number_of, numbers_in, place_of, undriven_from, with_mention, with_mentions}
+use Rattle.blif_model.specs.Names.{Named, mention_fault, names_fault_in, number_of, numbers_in, place_of, with_mention, with_mentions}
 use Rattle.blif_model.specs.Rules.{signal_limit}
-use Rattle.blif_model.specs.Scanning.{word_of}
 use Rattle.blif_model.specs.Standing.{last_of, mentions_of_names}
 use Rattle.blif_model.specs.Known.{Known, width_in, with_table, with_table_of}
 
@@ -104,9 +103,3 @@ names-known known word words inputs output is =
     table-of known (map word words) (map (mention_as false) (map word inputs) ++ mention_as true (word output) ∷ []) (length inputs) (word output)
     (ap last_of parts ∙ last-split (map word inputs) (word output)) (names-mentions word words inputs output is)
     (ap width_in parts ∙ width-split (map word inputs) (word output) ∙ length-map inputs word)
-
--- a word whose name is driven is passed over
-pub driven-past : (whole : List ℕ) (drives : List Bool) (words : List Span) (n : ℕ) → n < length drives → n < length words → get_or drives n false ≡ true
-    → undriven_from (drop n drives) (map (word_of whole) (drop n words)) ≡ undriven_from (drop (n + 1) drives) (map (word_of whole) (drop (n + 1) words))
-driven-past whole drives words n in_drives in_words is =
-    rw (add-one, drop-cons drives n false, drop-cons words n (record { at = 0; len = 0 }), is) refl

@@ -2,9 +2,9 @@
 use Rattle.std.specs.Prelude.{◌≡◌, ℕ, List, [], ◌∷◌, map, codes, Result, Ok, Err}
 use Rattle.psl_base.specs.declared.place.Place.{Place}
 use Rattle.blif_model.specs.declared.fault.BlifFault.{BlifFault}
-use Rattle.blif_model.specs.declared.fault.BlifFault.TheVariants.{UnknownCommand, BadModel, BadRow, MixedRows, BadLatch, LatchType, TwoClocks, DrivenTwice, Undriven, MissingEnd, SecondModel}
+use Rattle.blif_model.specs.declared.fault.BlifFault.TheVariants.{UnknownCommand, BadModel, BadRow, MixedRows, BadLatch, LatchType, TwoClocks, DrivenTwice, MissingEnd, SecondModel}
+use Rattle.blif_model.specs.Files.{Part, models_of}
 use Rattle.blif_model.specs.Lines.{Line, lines}
-use Rattle.blif_model.specs.Meaning.{model_of}
 use Rattle.blif_model.specs.Models.{Model, names_of}
 
 -- the words of the lines
@@ -24,15 +24,17 @@ BackslashIsPart = texts_of (lines (codes "a\\b \\\r\nc")) ≡ (codes "a\\b" ∷ 
 
 -- a text is refused with a fault at a line and a column
 abbrev pub IsRefused : List ℕ → (Place → BlifFault) → ℕ → ℕ → Type 0
-IsRefused text fault line column = model_of text ≡ Err (fault (record { line = line; column = column }))
+IsRefused text fault line column = models_of text ≡ Err (fault (record { line = line; column = column }))
 
-abbrev pub names_in : Result Model BlifFault → List (List ℕ)
-names_in (Ok model) = names_of model.mentions
+-- the names of each model of an accepted text, in the order of their first mention
+abbrev pub names_in : Result (List (Part Model)) BlifFault → List (List (List ℕ))
+names_in (Ok parts) = map (λ part. names_of part.own.mentions) parts
 names_in (Err fault) = []
 
--- the names of an accepted text, in the order of their first mention
 abbrev pub NamesInOrder : Type 0
-NamesInOrder = names_in (model_of (codes ".inputs a\n.latch b c re clk 0\n.names a c b\n11 1\n0- 1\n.outputs b\n.end\n")) ≡ codes "a" ∷ codes "b" ∷ codes "c" ∷ []
+NamesInOrder =
+    names_in (models_of (codes ".inputs a\n.latch b c re clk 0\n.names a c b\n11 1\n0- 1\n.outputs b\n.end\n"))
+    ≡ (codes "a" ∷ codes "b" ∷ codes "c" ∷ []) ∷ []
 
 -- one text for each fault
 abbrev pub UnknownWord : Type 0
@@ -58,9 +60,6 @@ LatchesOfTwoClocks = IsRefused (codes ".latch a a re c\n.latch b b re d 0\n") Tw
 
 abbrev pub InputTwice : Type 0
 InputTwice = IsRefused (codes ".model m\n.inputs a a\n.end\n") DrivenTwice 2 11
-
-abbrev pub OutputOfNothing : Type 0
-OutputOfNothing = IsRefused (codes ".model m\n.outputs y\n.end\n") Undriven 2 10
 
 abbrev pub BackslashAtTheEnd : Type 0
 BackslashAtTheEnd = IsRefused (codes ".model m\n.inputs a \\\n") MissingEnd 2 11

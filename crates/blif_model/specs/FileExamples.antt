@@ -1,8 +1,8 @@
 -- Worked examples of texts with several models.
 use Rattle.std.specs.Prelude.{◌≡◌, ℕ, List, [], ◌∷◌, map, codes, Result, Ok, Err}
-use Rattle.psl_base.specs.declared.place.Place.{Place}
 use Rattle.blif_model.specs.declared.fault.BlifFault.{BlifFault}
 use Rattle.blif_model.specs.declared.fault.BlifFault.TheVariants.{BadModel, BadRow, SecondModel}
+use Rattle.blif_model.specs.Examples.{IsRefused}
 use Rattle.blif_model.specs.Files.{Part, models_of, title_text}
 use Rattle.blif_model.specs.Models.{Model, names_of}
 
@@ -28,10 +28,6 @@ abbrev pub shown_parts : Result (List (Part Model)) BlifFault → List Shown
 shown_parts (Ok parts) = map shown_part parts
 shown_parts (Err fault) = []
 
--- a text is refused with a fault at a line and a column
-abbrev pub IsFileRefused : List ℕ → (Place → BlifFault) → ℕ → ℕ → Type 0
-IsFileRefused text fault line column = models_of text ≡ Err (fault (record { line = line; column = column }))
-
 -- a model may stand before or behind where it is placed, an `.end` may be missing, and each model has names of its own
 abbrev pub TwoModels : Type 0
 TwoModels =
@@ -55,13 +51,13 @@ NoTitle =
 -- two models of one name, a line behind `.end` that begins no model, a further `.model` without a name, and a row whose
 -- table a `.subckt` has closed
 abbrev pub TwiceNamed : Type 0
-TwiceNamed = IsFileRefused (codes ".model a\n.end\n.model b\n.model a\n") SecondModel 4 1
+TwiceNamed = IsRefused (codes ".model a\n.end\n.model b\n.model a\n") SecondModel 4 1
 
 abbrev pub PlacedBehindTheEnd : Type 0
-PlacedBehindTheEnd = IsFileRefused (codes ".model a\n.end\n.subckt a\n") SecondModel 3 1
+PlacedBehindTheEnd = IsRefused (codes ".model a\n.end\n.subckt a\n") SecondModel 3 1
 
 abbrev pub FurtherWithoutName : Type 0
-FurtherWithoutName = IsFileRefused (codes ".model a\n.end\n.model\n") BadModel 3 1
+FurtherWithoutName = IsRefused (codes ".model a\n.end\n.model\n") BadModel 3 1
 
 abbrev pub RowBehindPlacement : Type 0
-RowBehindPlacement = IsFileRefused (codes ".model a\n.names q\n.subckt a\n1\n") BadRow 4 1
+RowBehindPlacement = IsRefused (codes ".model a\n.names q\n.subckt a\n1\n") BadRow 4 1

@@ -2,7 +2,7 @@
 -- `.end`, at the next `.model` or at the text's end; the first is the top. A `.subckt` places a model (Berkeley Logic
 -- Interchange Format, models and model references). Each model's own lines say what they would alone, and their faults
 -- are counted model by model.
-use Rattle.std.specs.Prelude.{ℕ, Bool, false, not, cond, List, [], ◌∷◌, ◌++◌, length, codes, Option, None, Some, Result}
+use Rattle.std.specs.Prelude.{ℕ, Bool, false, not, cond, List, [], ◌∷◌, ◌++◌, length, codes, Option, None, Some, Result, Ok, Err}
 use Rattle.std.specs.List.{flat_map, fold, position_from}
 use Rattle.std.specs.Option.{option_map, option_or}
 use Rattle.std.specs.Str.{bytes_eq}
@@ -16,7 +16,6 @@ use Rattle.blif_model.specs.declared.file.FileCommand.{FileCommand}
 use Rattle.blif_model.specs.declared.file.FileCommand.TheVariants.{Begin, Place, Own}
 use Rattle.blif_model.specs.Commands.{command_of}
 use Rattle.blif_model.specs.Lines.{Line, lines}
-use Rattle.blif_model.specs.Meaning.{unless}
 use Rattle.blif_model.specs.Models.{Model}
 use Rattle.blif_model.specs.Names.{is_new}
 use Rattle.blif_model.specs.Rules.{command_fault, flags_of, is_bad_model}
@@ -158,6 +157,11 @@ abbrev pub first_file_fault : List Line → List Line → Option BlifFault
 first_file_fault before [] = None
 first_file_fault before (line ∷ rest) =
     option_or (file_line_fault (file_by before) line) (first_file_fault (before ++ line ∷ []) rest)
+
+-- a value, or a fault in its place
+abbrev pub unless : {A B : Type 0} → Option B → A → Result A B
+unless None value = Ok value
+unless (Some failed) value = Err failed
 
 -- the models that the lines of a text say, or the first fault of these
 abbrev pub models_of : List ℕ → Result (List (Part Model)) BlifFault

@@ -1,7 +1,7 @@
--- What is known of a text after some of its lines, and how each line adds to it: what the code is proved against. That
--- this is what the definitions say is the law of the reading.
-use Rattle.std.specs.Prelude.{◌≡◌, ℕ, nat_le, Bool, true, false, cond, List, []}
-use Rattle.std.specs.Prelude.{◌∷◌, ◌++◌, map, length, Option, None, Some, Result, Ok, Err}
+-- What is known of a model after some of its own lines, and how each line adds to it: what the code is proved against.
+-- That this is what the definitions say is a law on files of models (`file_law`).
+use Rattle.std.specs.Prelude.{ℕ, nat_le, Bool, true, false, cond, List, []}
+use Rattle.std.specs.Prelude.{◌∷◌, ◌++◌, map, length, Option, None, Some, Result, Err}
 use Rattle.std.specs.Option.{option_map, option_or}
 use Rattle.netlist.specs.declared.rows.Mark.{Mark}
 use Rattle.flattening.specs.declared.model.Item.{Item}
@@ -10,21 +10,17 @@ use Rattle.psl_base.specs.Tokens.{PlacedToken}
 use Rattle.blif_model.specs.declared.command.Command.{Command}
 use Rattle.blif_model.specs.declared.command.Command.TheVariants as commands
 use Rattle.blif_model.specs.declared.fault.BlifFault.{BlifFault}
-use Rattle.blif_model.specs.declared.fault.BlifFault.TheVariants.{MissingEnd}
 use Rattle.blif_model.specs.declared.flags.Flags.{Flags}
 use Rattle.blif_model.specs.declared.line.LineKind.{LineKind}
 use Rattle.blif_model.specs.declared.line.LineKind.TheVariants as kinds
 use Rattle.blif_model.specs.declared.line.ModelLine.{ModelLine}
 use Rattle.blif_model.specs.declared.text.ModelText.{ModelText}
-use Rattle.blif_model.specs.Commands.{command_of}
-use Rattle.blif_model.specs.Lines.{Line}
-use Rattle.blif_model.specs.Meaning.{unless}
 use Rattle.blif_model.specs.Models.{Mention, driven, used}
-use Rattle.blif_model.specs.Names.{Named, names_fault_in, nothing_named, numbers_in, undriven_in, with_mentions}
+use Rattle.blif_model.specs.Names.{Named, names_fault_in, nothing_named, numbers_in, with_mentions}
 use Rattle.blif_model.specs.Rules.{clocking_fault, head_rule_by, latch_fault, output_fault}
 use Rattle.blif_model.specs.Shapes.{Clocking, LatchParts, Row, is_one, latch_of, row_of}
 use Rattle.blif_model.specs.Standing.{first_clocking, is_ended, is_titled}
-use Rattle.blif_model.specs.Standing.{last_of, mentions_of, mentions_of_names, words_of}
+use Rattle.blif_model.specs.Standing.{last_of, mentions_of, mentions_of_names}
 
 -- the table whose rows may follow: the numbers of its names, how many inputs it has, its rows, their output, and where
 -- the name of its output stands
@@ -142,11 +138,6 @@ after_command known command = record known {
 abbrev pub known_by_command : Known → Command → List PlacedToken → Known
 known_by_command known command words = after_command (said_with known command words) command
 
-abbrev pub known_after_words : Known → List PlacedToken → Known
-known_after_words known [] = known
-known_after_words known (head ∷ words) =
-    known_by_command known (command_of head.text) (words_of (command_of head.text) head words)
-
 -- what the lines before a line have said of its form
 abbrev pub width_of_open : Option Opened → Option ℕ
 width_of_open None = None
@@ -193,23 +184,10 @@ abbrev pub command_fault_in : Known → Command → PlacedToken → List PlacedT
 command_fault_in known command head words =
     option_or (head_fault_in known command head words) (said_fault known command words)
 
-abbrev pub words_fault_in : Known → List PlacedToken → Option BlifFault
-words_fault_in known [] = None
-words_fault_in known (head ∷ words) =
-    command_fault_in known (command_of head.text) head (words_of (command_of head.text) head words)
-
-abbrev pub line_fault_in : Known → Line → Option BlifFault
-line_fault_in known line = option_or (words_fault_in known line.words) (option_map MissingEnd line.stray)
-
 -- a fault, or else what comes later
 abbrev pub raised : {A : Type 0} → Option BlifFault → Result A BlifFault → Result A BlifFault
 raised None later = later
 raised (Some fault) later = Err fault
-
--- what lines say, from what is known before them
-abbrev pub running : Known → List Line → Result Known BlifFault
-running known [] = unless (undriven_in known.named) known
-running known (line ∷ lines) = raised (line_fault_in known line) (running (known_after_words known line.words) lines)
 
 -- the names, and the model by their numbers
 abbrev pub text_of : Known → ModelText
@@ -217,7 +195,3 @@ text_of known = record {
   names = known.named.names;
   model = record { names = length known.named.names; items = closed known.lines known.table };
 }
-
--- lines say what is known in the end, and a text is that
-abbrev pub IsSaidOf : Result Known BlifFault → ModelText → Type 0
-IsSaidOf outcome text = (known : Known) × (outcome ≡ Ok known) × (text ≡ text_of known)

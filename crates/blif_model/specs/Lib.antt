@@ -6,7 +6,6 @@ pub mod FileExamples
 pub mod FileKnown
 pub mod Files
 pub mod Lines
-pub mod Meaning
 pub mod Models
 pub mod Names
 pub mod Numbered

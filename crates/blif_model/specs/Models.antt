@@ -1,5 +1,5 @@
 -- What the lines of a model say: the names that they mention, and its inputs, outputs, latches and tables in order.
-use Rattle.std.specs.Prelude.{ℕ, Bool, true, false, ◌&&◌, cond, List, [], ◌∷◌, ◌++◌}
+use Rattle.std.specs.Prelude.{ℕ, Bool, true, false, not, ◌&&◌, cond, List, [], ◌∷◌, ◌++◌}
 use Rattle.std.specs.List.{list_any, fold}
 use Rattle.std.specs.Str.{bytes_eq}
 use Rattle.psl_base.specs.Tokens.{PlacedToken}
@@ -31,6 +31,10 @@ is_mentioned mentions word = list_any (is_of word) mentions
 -- whether some of the mentions drive a word
 abbrev pub is_driven : List Mention → PlacedToken → Bool
 is_driven mentions word = list_any (λ mention. mention.drives && is_of word mention) mentions
+
+-- whether a mention is a use of a name that none of the mentions drives
+abbrev pub is_undriven : List Mention → Mention → Bool
+is_undriven mentions mention = not mention.drives && not (is_driven mentions mention.word)
 
 -- the names that are mentioned, in the order of their first mention
 abbrev pub with_name : List (List ℕ) → List ℕ → List (List ℕ)

@@ -1,6 +1,6 @@
 -- The names of a model, numbered from 0 in the order of their first mention, which of them are driven, and the word
 -- that mentions each first.
-use Rattle.std.specs.Prelude.{ℕ, nat_le, Bool, true, false, ◌&&◌, ◌||◌, cond, Option, None, Some, is_none}
+use Rattle.std.specs.Prelude.{ℕ, nat_le, Bool, false, ◌&&◌, ◌||◌, cond, Option, None, Some, is_none}
 use Rattle.std.specs.Prelude.{List, [], ◌∷◌, ◌++◌, length, slice_index_or, slice_set}
 use Rattle.std.specs.List.{fold, position_from}
 use Rattle.std.specs.Option.{option_map, option_or}
@@ -8,7 +8,7 @@ use Rattle.std.specs.Str.{bytes_eq}
 use Rattle.psl_base.specs.Tokens.{PlacedToken}
 use Rattle.psl_base.specs.declared.place.Place.{Place}
 use Rattle.blif_model.specs.declared.fault.BlifFault.{BlifFault}
-use Rattle.blif_model.specs.declared.fault.BlifFault.TheVariants.{DrivenTwice, TooLarge, Undriven}
+use Rattle.blif_model.specs.declared.fault.BlifFault.TheVariants.{DrivenTwice, TooLarge}
 use Rattle.blif_model.specs.Models.{Mention}
 use Rattle.blif_model.specs.Rules.{signal_limit}
 
@@ -82,13 +82,3 @@ abbrev pub numbers_in : Named → List Mention → List ℕ
 numbers_in named [] = []
 numbers_in named (mention ∷ mentions) =
     number_of (with_mention named mention).names mention.word ∷ numbers_in (with_mention named mention) mentions
-
--- Undriven: the first mention of the first name that nothing drives
-abbrev pub undriven_from : List Bool → List PlacedToken → Option BlifFault
-undriven_from [] words = None
-undriven_from (driven ∷ others) [] = None
-undriven_from (true ∷ others) (word ∷ words) = undriven_from others words
-undriven_from (false ∷ others) (word ∷ words) = Some (Undriven word.place)
-
-abbrev pub undriven_in : Named → Option BlifFault
-undriven_in named = undriven_from named.driven named.firsts

@@ -1,6 +1,6 @@
 -- A model with numbers in place of its names: each name is its place among the names in the order of their first
 -- mention.
-use Rattle.std.specs.Prelude.{◌≡◌, ℕ, List, [], ◌∷◌, ◌++◌, map, length, Ok}
+use Rattle.std.specs.Prelude.{ℕ, List, [], ◌∷◌, ◌++◌, map, length}
 use Rattle.psl_base.specs.Tokens.{PlacedToken}
 use Rattle.flattening.specs.declared.model.Item.{Item}
 use Rattle.flattening.specs.declared.model.Item.TheVariants.{Own}
@@ -8,7 +8,6 @@ use Rattle.blif_model.specs.declared.line.LineKind.{LineKind}
 use Rattle.blif_model.specs.declared.line.LineKind.TheVariants as kinds
 use Rattle.blif_model.specs.declared.line.ModelLine.{ModelLine}
 use Rattle.blif_model.specs.declared.text.ModelText.{ModelText}
-use Rattle.blif_model.specs.Meaning.{model_of}
 use Rattle.blif_model.specs.Models.{Model, Statement, IsInputs, IsOutputs, IsLatch, IsTable, names_of}
 use Rattle.blif_model.specs.Names.{number_of}
 
@@ -38,7 +37,3 @@ abbrev pub numbered : Model → ModelText
 numbered model =
     let names = names_of model.mentions in
     record { names = names; model = record { names = length names; items = items_of names model.statements } }
-
--- a text says a model, which this is by numbers
-abbrev pub Says : List ℕ → ModelText → Type 0
-Says whole text = (model : Model) × (model_of whole ≡ Ok model) × (text ≡ numbered model)

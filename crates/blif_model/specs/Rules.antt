@@ -8,14 +8,12 @@ use Rattle.psl_base.specs.declared.place.Place.{Place}
 use Rattle.blif_model.specs.declared.command.Command.{Command}
 use Rattle.blif_model.specs.declared.command.Command.TheVariants as commands
 use Rattle.blif_model.specs.declared.fault.BlifFault.{BlifFault}
-use Rattle.blif_model.specs.declared.fault.BlifFault.TheVariants.{UnknownCommand, BadModel, BadRow, MixedRows, BadLatch, LatchType, TwoClocks, DrivenTwice, MissingEnd, SecondModel, TooLarge}
+use Rattle.blif_model.specs.declared.fault.BlifFault.TheVariants.{UnknownCommand, BadModel, BadRow, MixedRows, BadLatch, LatchType, TwoClocks, DrivenTwice, SecondModel, TooLarge}
 use Rattle.blif_model.specs.declared.flags.Flags.{Flags}
 use Rattle.blif_model.specs.declared.names.TheConstants.{SIGNAL_LIMIT}
-use Rattle.blif_model.specs.Commands.{command_of}
-use Rattle.blif_model.specs.Lines.{Line}
 use Rattle.blif_model.specs.Models.{Gate, Mention, is_mentioned, is_driven, names_of}
 use Rattle.blif_model.specs.Shapes.{Clocking, LatchParts, Row, row_of, latch_of, is_level, is_one}
-use Rattle.blif_model.specs.Standing.{Standing, last_table, mentions_of, words_of}
+use Rattle.blif_model.specs.Standing.{Standing, last_table, mentions_of}
 
 -- how many distinct names of signals a model has at most
 abbrev pub signal_limit : ℕ
@@ -145,11 +143,3 @@ tail_fault standing command words = names_fault standing.model.mentions (mention
 abbrev pub command_fault : Standing → Command → PlacedToken → List PlacedToken → Option BlifFault
 command_fault standing command head words =
     option_or (option_map (λ fault. fault head.place) (head_rule standing command words)) (tail_fault standing command words)
-
-abbrev pub words_fault : Standing → List PlacedToken → Option BlifFault
-words_fault standing [] = None
-words_fault standing (head ∷ words) = command_fault standing (command_of head.text) head (words_of (command_of head.text) head words)
-
--- MissingEnd: a backslash behind which the text ends
-abbrev pub line_fault : Standing → Line → Option BlifFault
-line_fault standing line = option_or (words_fault standing line.words) (option_map MissingEnd line.stray)

@@ -1,11 +1,8 @@
 -- What the lines before a line have said.
 use Rattle.std.specs.Prelude.{Bool, true, false, List, [], ◌∷◌, ◌++◌, map, length, Option, None, Some}
-use Rattle.std.specs.List.{fold}
 use Rattle.psl_base.specs.Tokens.{PlacedToken}
 use Rattle.blif_model.specs.declared.command.Command.{Command}
 use Rattle.blif_model.specs.declared.command.Command.TheVariants as commands
-use Rattle.blif_model.specs.Commands.{command_of}
-use Rattle.blif_model.specs.Lines.{Line}
 use Rattle.blif_model.specs.Models.{Gate, Mention, Model, Statement, IsInputs}
 use Rattle.blif_model.specs.Models.{IsOutputs, IsLatch, IsTable, driven, used, nothing_said}
 use Rattle.blif_model.specs.Shapes.{Clocking, Row, LatchParts, row_of, latch_of, is_one}
@@ -144,16 +141,3 @@ standing_by_command standing command words = record {
 abbrev pub words_of : Command → PlacedToken → List PlacedToken → List PlacedToken
 words_of commands.Row head words = head ∷ words
 words_of command head words = words
-
-abbrev pub standing_after_words : Standing → List PlacedToken → Standing
-standing_after_words standing [] = standing
-standing_after_words standing (head ∷ words) =
-    standing_by_command standing (command_of head.text) (words_of (command_of head.text) head words)
-
--- what is said after a line
-abbrev pub standing_after : Standing → Line → Standing
-standing_after standing line = standing_after_words standing line.words
-
--- what some lines say, from the first one on
-abbrev pub standing_by : List Line → Standing
-standing_by lines = fold standing_after at_first lines

@@ -1,15 +1,12 @@
 ghost use Rattle.std.specs.Prelude.{◌≡◌, ℕ, List, ◌++◌, map, Ok, Err};
 ghost use Rattle.blif_model.specs.declared.fault.BlifFault.{BlifFault};
-ghost use Rattle.blif_model.specs.Known.{Known, nothing_known, running, text_of};
 ghost use Rattle.blif_model.specs.Lines.{lines};
-ghost use Rattle.blif_model.specs.Meaning.{model_of};
 ghost use Rattle.blif_model.specs.Models.{Mention, Model, names_of};
 ghost use Rattle.blif_model.specs.Names.{named_by, names_fault_in, place_of, rule_of, with_mentions};
-ghost use Rattle.blif_model.specs.Numbered.{Says};
 ghost use Rattle.blif_model.specs.Rules.{name_rule, names_fault};
 ghost use Rattle.blif_model.specs.Examples.{LinesAreJoined, BackslashIsPart, NamesInOrder, UnknownWord, ModelBehindInputs};
 ghost use Rattle.blif_model.specs.Examples.{RowWithoutTable, RowOfAnotherOutput, LatchOfOneWord, LatchOfALevel};
-ghost use Rattle.blif_model.specs.Examples.{LatchesOfTwoClocks, InputTwice, OutputOfNothing, BackslashAtTheEnd};
+ghost use Rattle.blif_model.specs.Examples.{LatchesOfTwoClocks, InputTwice, BackslashAtTheEnd};
 ghost use Rattle.blif_model.specs.Examples.{LineBehindTheEnd};
 ghost use Rattle.blif_model.specs.FileExamples.{FurtherWithoutName, NoTitle, PlacedBehindTheEnd, RowBehindPlacement, TwiceNamed, TwoModels};
 ghost use Rattle.blif_model.specs.FileKnown.{FileKnown, file_running, no_file_known, numbered_part, parts_known};
@@ -30,7 +27,6 @@ pub fn worked_examples()
     ensures level { LatchOfALevel }
     ensures clocks { LatchesOfTwoClocks }
     ensures twice { InputTwice }
-    ensures undriven { OutputOfNothing }
     ensures stray { BackslashAtTheEnd }
     ensures behind { LineBehindTheEnd }
 {}
@@ -44,14 +40,6 @@ pub fn naming_law()
         ≡ names_fault_in (named_by whole before) mentions }
     ensures more { (whole : List ℕ) (before mentions : List Mention) → named_by whole (before ++ mentions)
         ≡ with_mentions (named_by whole before) mentions }
-{}
-
-/// A law of the definitions: what is known when the lines of a text are over is what the text says.
-pub fn reading_law()
-    ensures says { (whole : List ℕ) (known : Known) → running (nothing_known whole) (lines whole) ≡ Ok known
-        → Says whole (text_of known) }
-    ensures refuses { (whole : List ℕ) (fault : BlifFault) → running (nothing_known whole) (lines whole) ≡ Err fault
-        → model_of whole ≡ Err fault }
 {}
 
 /// A law of the definitions: what is known when the lines of a text of several models are over is what the text says.

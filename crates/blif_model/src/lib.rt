@@ -1,5 +1,5 @@
-//! What a text in the Berkeley Logic Interchange Format says: its lines word by word, with their places, its first
-//! fault, and its model, in which names have become numbers.
+//! What a text in the Berkeley Logic Interchange Format says: its lines word by word, with their places, the first fault
+//! of these, and its models, in which names have become numbers.
 #![tactic(auto)]
 
 mod class;
@@ -15,7 +15,6 @@ mod line;
 mod names;
 mod pieces;
 mod reader;
-mod reading;
 mod shapes;
 mod signals;
 mod table;
@@ -28,11 +27,10 @@ pub use command::Command;
 pub use fault::BlifFault;
 pub use file::{FileModel, FileModels, FileText, OwnText, PlacementLine, Spans};
 pub use file_reading::read_models;
-pub use laws::{file_law, naming_law, reading_law, worked_examples, worked_files};
+pub use laws::{file_law, naming_law, worked_examples, worked_files};
 pub use line::{LineKind, ModelLine, TableRows};
 pub use names::NameTable;
 pub use pieces::Span;
 pub use psl_base::NoMemory;
-pub use reading::read_model;
 pub use shapes::text_of;
 pub use text::ModelText;

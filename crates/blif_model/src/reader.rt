@@ -1,25 +1,25 @@
-ghost use Rattle.std.specs.Prelude.{◌≡◌, ◌⊎◌, ◌+◌, ◌≤◌, ◌∷◌, ◌++◌, List, [], false, true, length, map, All, None, Some, Ok, IfOk, IfErr, IfSome, OnOk};
+ghost use Rattle.std.specs.Prelude.{◌≡◌, ◌⊎◌, ◌≤◌, List, false, true, length, map, All, None, Some, Ok, IfOk, IfErr, IfSome, OnOk};
 ghost use Rattle.std.specs.Option.{option_map};
 ghost use Rattle.psl_base.specs.Places.{file_limit};
 ghost use Rattle.psl_base.specs.Tokens.{PlacedToken};
-ghost use Rattle.blif_model.specs.Known.{after_command, command_fault_in, flags_in, known_after_words, known_by_command, nothing_known};
-ghost use Rattle.blif_model.specs.Known.{said_fault, said_with, text_of as text_of_known, with_closed, with_latch, with_latch_of, with_line, with_table, with_table_of};
-ghost use Rattle.blif_model.specs.Known.{latch_fault_of, words_fault_in};
+ghost use Rattle.blif_model.specs.Known.{after_command, command_fault_in, flags_in, known_by_command, nothing_known};
+ghost use Rattle.blif_model.specs.Known.{said_fault, said_with, text_of as text_of_known, with_closed, with_latch, with_line, with_table};
+ghost use Rattle.blif_model.specs.Known.{latch_fault_of};
 ghost use Rattle.blif_model.specs.Models.{mention_as};
-ghost use Rattle.blif_model.specs.Names.{names_fault_in, undriven_in};
+ghost use Rattle.blif_model.specs.Names.{names_fault_in};
 ghost use Rattle.blif_model.specs.Rules.{clocking_fault};
 ghost use Rattle.blif_model.specs.Scanning.{IsWithin, word_of};
 ghost use Rattle.blif_model.specs.Standing.{first_clocking};
 ghost use Rattle.blif_model.specs.Words.{clocking_in, IsClockingWithin, IsLatchWithin, latch_in, table_mentions};
 
 use crate::BlifFault;
-use crate::command::{Command, command_of};
+use crate::command::Command;
 use crate::file::OwnText;
 use crate::flags::Flags;
 use crate::head::head_fault;
 use crate::line::{LineKind, ModelLine};
 use crate::pieces::Span;
-use crate::shapes::{Clocking, LatchWords, latch_of, text_of};
+use crate::shapes::{Clocking, LatchWords, latch_of};
 use crate::signals::Signals;
 use crate::table::OpenTable;
 use crate::tail::{clocking_fault, mention_all, mention_one, mention_table};
@@ -30,7 +30,7 @@ use psl_base::{Items, NoMemory};
 use std::alloc::Global;
 use std::marker::Model;
 
-/// What is known of a text after some of its lines.
+/// What is known of a model after some of its own lines.
 #[derive(Drop)]
 pub struct Reader<'a> {
     signals: Signals<'a>,
@@ -66,7 +66,7 @@ impl<'a> Model for Reader<'a> {
 }
 
 impl<'a> Reader<'a> {
-    /// Nothing is known of a text.
+    /// Nothing is known of a model.
     pub fn new(alloc: Global, whole: &'a [u8]) -> Reader<'a>
         requires { length whole.now ≤ file_limit }
         ensures { result ≡ nothing_known whole.now }
@@ -80,24 +80,6 @@ impl<'a> Reader<'a> {
             titled: false,
             ended: false,
             marks: Vec::new(alloc),
-        }
-    }
-
-    /// A line with these words, or its first fault.
-    pub fn take(&mut self, alloc: Global, words: &[Span]) -> Result<(), BlifFault>
-        requires { All (IsWithin self.old.named.whole) words.now }
-        ensures known { OnOk result (self.new ≡ known_after_words self.old (map (word_of self.old.named.whole) words.now)) }
-        ensures faultless { OnOk result (words_fault_in self.old (map (word_of self.old.named.whole) words.now) ≡ None) }
-        ensures fault { IfErr result (λ fault. (fault ≡ BlifFault.NoMemory)
-            ⊎ (words_fault_in self.old (map (word_of self.old.named.whole) words.now) ≡ Some fault)) }
-    {
-        let [head, rest @ ..] = words else {
-            return Ok(());
-        };
-        let command = command_of(text_of(self.signals.whole(), *head));
-        match command {
-            Command::Row => self.command(alloc, command, *head, words),
-            _ => self.command(alloc, command, *head, rest),
         }
     }
 
@@ -308,19 +290,6 @@ impl<'a> Reader<'a> {
             self.clocking = Some(clocking);
         }
         Ok(())
-    }
-
-    /// What the text says, where these were all of its lines.
-    pub fn finish(self) -> Result<ModelText<'a>, BlifFault>
-        ensures text { IfOk result (λ text. text ≡ text_of_known self.entry) }
-        ensures faultless { OnOk result (undriven_in self.entry.named ≡ None) }
-        ensures fault { IfErr result (λ fault. (fault ≡ BlifFault.NoMemory) ⊎ (undriven_in self.entry.named ≡ Some fault)) }
-    {
-        if let Some(fault) = self.signals.undriven() {
-            return Err(fault);
-        }
-        let OwnText { text, .. } = self.end()?;
-        Ok(text)
     }
 
     /// What the lines say, where these were all lines of the model. Names that nothing drives are not looked for.

@@ -1,6 +1,6 @@
 ghost use Rattle.std.specs.Prelude.{◌≡◌, ◌⊎◌, ◌≤◌, ◌<◌, true, length, map, All, None, Some, IfOk, IfErr, OnOk};
 ghost use Rattle.psl_base.specs.Places.{file_limit};
-ghost use Rattle.blif_model.specs.Names.{is_new, mention_fault, nothing_named, number_of, undriven_from, undriven_in, with_mention};
+ghost use Rattle.blif_model.specs.Names.{is_new, mention_fault, nothing_named, number_of, with_mention};
 ghost use Rattle.blif_model.specs.Rules.{signal_limit};
 ghost use Rattle.blif_model.specs.Scanning.{IsWithin, word_of};
 ghost use Rattle.blif_model.specs.Words.{mention_in};
@@ -122,13 +122,6 @@ impl<'a> Signals<'a> {
         }
     }
 
-    /// The fault of the first name that nothing drives.
-    pub fn undriven(&self) -> Option<BlifFault>
-        ensures { result ≡ undriven_in self.now }
-    {
-        first_undriven(self.whole, &self.driven, &self.firsts)
-    }
-
     /// The names in order, which of them are driven, and the word that mentions each first.
     pub fn into_parts(self) -> (NameTable<'a>, Vec<bool>, Vec<Span>)
         ensures names { result.0 ≡ self.entry.names }
@@ -145,21 +138,6 @@ impl<'a> Signals<'a> {
         } = self;
         (names, driven, firsts)
     }
-}
-
-/// The fault of the first word that belongs to a name that nothing drives.
-fn first_undriven(whole: &[u8], driven: &[bool], firsts: &[Span]) -> Option<BlifFault>
-    requires limit { length whole.now ≤ file_limit }
-    requires paired { length driven.now ≡ length firsts.now }
-    requires within { All (IsWithin whole.now) firsts.now }
-    ensures { result ≡ undriven_from driven.now (map (word_of whole.now) firsts.now) }
-{
-    for number in 0..driven.len() {
-        if !driven[number] {
-            return Some(BlifFault::Undriven(place_in(whole, firsts[number])));
-        }
-    }
-    None
 }
 
 /// The place of a word.

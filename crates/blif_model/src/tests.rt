@@ -1,7 +1,5 @@
 // What no clause says: that texts are read with ample memory.
-use crate::{
-    BlifFault, FileText, LineKind, ModelLine, ModelText, NoMemory, read_model, read_models,
-};
+use crate::{BlifFault, FileText, LineKind, ModelLine, ModelText, NoMemory, read_models};
 use flattening::Item;
 use netlist::{Init, Mark};
 use psl_base::Place;
@@ -88,14 +86,17 @@ fn reads_a_model_in_the_order_of_its_lines(rt: HostRuntime) -> Result<(), Fail> 
 .latch b r
 .end
 ";
-    match read_model(rt.alloc(), source.as_bytes()) {
-        Ok(text) => {
-            let shown = shown(rt.alloc(), &text)?;
-            assert_eq!(rt;
-                shown.as_str(),
-                "a b n q one none r i01 123 t032.1x.x0- t4.+ t5+ o245 f16 "
-            );
-        }
+    match read_models(rt.alloc(), source.as_bytes()) {
+        Ok(text) => match text.models.as_slice() {
+            [model] => {
+                let shown = shown(rt.alloc(), &model.own.text)?;
+                assert_eq!(rt;
+                    shown.as_str(),
+                    "a b n q one none r i01 123 t032.1x.x0- t4.+ t5+ o245 f16 "
+                );
+            }
+            _ => assert!(rt; false),
+        },
         Err(_) => assert!(rt; false),
     }
     Ok(())
@@ -104,7 +105,7 @@ fn reads_a_model_in_the_order_of_its_lines(rt: HostRuntime) -> Result<(), Fail> 
 #[test]
 fn the_first_fault_is_named(rt: HostRuntime) -> Result<(), Fail> {
     let source = ".inputs a\n.names a c\n1 1\n0 0\n.latch x\n";
-    let read = read_model(rt.alloc(), source.as_bytes());
+    let read = read_models(rt.alloc(), source.as_bytes());
     assert!(rt;
         matches!(
             read,

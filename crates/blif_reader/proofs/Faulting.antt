@@ -11,8 +11,7 @@ use Rattle.blif_model.specs.declared.file.FileCommand.TheVariants.{Begin, Place,
 use Rattle.blif_model.specs.declared.fault.BlifFault.{BlifFault}
 use Rattle.blif_model.specs.declared.fault.BlifFault.TheVariants.{UnknownCommand, BadModel, BadRow, MixedRows, BadLatch, LatchType, TwoClocks, DrivenTwice, MissingEnd, SecondModel, TooLarge, TooLong, ReadFault, NoMemory}
 use Rattle.blif_model.specs.Lines.{Line, lines}
-use Rattle.blif_model.specs.Files.{FileStanding, begin_rule, file_by, file_command_of, file_fault_by, file_line_fault, file_words_fault, first_file_fault, is_repeated, models_of, parts_of, titles_of}
-use Rattle.blif_model.specs.Meaning.{unless}
+use Rattle.blif_model.specs.Files.{FileStanding, begin_rule, file_by, file_command_of, file_fault_by, file_line_fault, file_words_fault, first_file_fault, is_repeated, models_of, parts_of, titles_of, unless}
 use Rattle.blif_model.specs.Models.{Gate, Mention, is_driven, is_mentioned, names_of}
 use Rattle.blif_model.specs.Rules.{is_unknown, is_bad_model, is_bad_row, is_bad_latch, is_second, flags_of, signal_limit, name_rule, names_fault, first_output, differs, output_fault, row_fault_in, row_fault, differ, clocking_fault, latch_fault, head_rule, tail_fault, command_fault}
 use Rattle.blif_model.specs.Shapes.{Clocking, LatchParts, Row, row_of, latch_of, is_level, is_one}

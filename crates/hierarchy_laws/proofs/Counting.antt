@@ -9,8 +9,7 @@ use Rattle.std.specs.Str.{bytes_eq}
 use Rattle.flattening.specs.Members.{Among}
 use Rattle.flattening.proofs.Members.{Among-at}
 use Rattle.blif_model.specs.declared.fault.BlifFault.TheVariants.{DrivenTwice}
-use Rattle.blif_model.specs.Meaning.{is_undriven}
-use Rattle.blif_model.specs.Models.{Mention, is_driven, names_of}
+use Rattle.blif_model.specs.Models.{Mention, is_driven, is_undriven, names_of}
 use Rattle.blif_model.specs.Rules.{name_rule, names_fault}
 use Rattle.blif_model.proofs.Holding.{map_none, or_none}
 use Rattle.blif_linking.specs.Names.{driven_from}

@@ -17,8 +17,7 @@ use Rattle.flattening.proofs.Members.{Among-map, from_map}
 use Rattle.flattening.proofs.Visiting.{Among-placement}
 use Rattle.blif_model.specs.declared.line.ModelLine.{ModelLine}
 use Rattle.blif_model.specs.Files.{Part, Placing}
-use Rattle.blif_model.specs.Meaning.{is_undriven}
-use Rattle.blif_model.specs.Models.{Mention, Model, Statement, names_of as mentioned_names}
+use Rattle.blif_model.specs.Models.{Mention, Model, Statement, is_undriven, names_of as mentioned_names}
 use Rattle.blif_model.specs.Names.{number_of}
 use Rattle.blif_model.specs.Numbered.{line_of, words_in}
 use Rattle.blif_model.specs.Rules.{signal_limit}
