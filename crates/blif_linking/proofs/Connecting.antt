@@ -11,15 +11,16 @@ use Rattle.blif_model.specs.declared.file.FileModel.{FileModel}
 use Rattle.blif_model.specs.declared.file.FileText.{FileText}
 use Rattle.blif_model.specs.FileKnown.{OwnLines, numbered_part, part_in}
 use Rattle.blif_model.specs.Files.{Part, Placing, model_named}
-use Rattle.blif_model.specs.Models.{Model}
+use Rattle.blif_model.specs.Models.{Mention, Model}
 use Rattle.blif_model.specs.Names.{place_of}
 use Rattle.blif_model.proofs.Held.{PartsHold, parts-hold}
 use Rattle.blif_model.proofs.Saying.{said-held}
 use Rattle.blif_linking.specs.declared.interface.Interface.{Interface}
+use Rattle.blif_linking.specs.Actuals.{mention_offered, mentions_at, mentions_in, mentions_offered}
 use Rattle.blif_linking.specs.Bad.{IsReadAs, bad_after, bad_among, bad_by, bad_for, bad_placing, given_by, given_with, is_bad_in, lacks_one, offered}
 use Rattle.blif_linking.specs.Interfaces.{Role, is_one_of, role_of}
 use Rattle.blif_linking.specs.Links.{Link, connections_in, formal_of, link_of, title_in}
-use Rattle.blif_linking.specs.Names.{bad_from, bad_in, bad_word, first_bad, first_some, formals_of, is_bad, is_missing, number_placed, placed}
+use Rattle.blif_linking.specs.Names.{actual_at, bad_from, bad_in, bad_word, first_bad, first_some, formals_of, is_bad, is_missing, mention_by_role, mention_linked, mentions_by, mentions_placed, number_placed, placed}
 use Rattle.blif_linking.specs.Offers.{interface_in}
 use Rattle.blif_linking.proofs.Indexes.{drop-get}
 use Rattle.blif_linking.proofs.Offering.{Offers, offers}
@@ -137,6 +138,32 @@ placed-agree number interfaces parts placing same all =
     subst (λ (n : Option ℕ). Agree (option_and_then (slice_get interfaces) n) (placed parts placing))
     (sym (same-number number (model_named parts) same (title_in placing.words)))
     (by-number interfaces parts (number_placed parts placing) all)
+
+-- connections mention the same by what the models offer
+link-mentions : (interface : Interface) (model : Part Model) (word : PlacedToken) (link : Option Link) → Offers interface model
+    → mention_offered interface word link ≡ mention_linked model word link
+link-mentions interface model word None offer = refl
+link-mentions interface model word (Some link) offer = ap (mention_by_role (actual_at word link)) (offer.roles link.formal)
+
+words-mention : (interface : Interface) (model : Part Model) (words : List PlacedToken) → Offers interface model
+    → mentions_in interface words ≡ mentions_by (Some model) words
+words-mention interface model [] offer = refl
+words-mention interface model (word ∷ words) offer =
+    ap (λ (here : List Mention). here ++ mentions_in interface words) (link-mentions interface model word (link_of word.text) offer)
+    ∙ ap (λ (rest : List Mention). mention_linked model word (link_of word.text) ++ rest) (words-mention interface model words offer)
+
+agreed-mention : (interface : Option Interface) (model : Option (Part Model)) (words : List PlacedToken) → Agree interface model
+    → mentions_offered interface words ≡ mentions_by model words
+agreed-mention None None words agree = refl
+agreed-mention None (Some model) words agree = absurd agree
+agreed-mention (Some interface) None words agree = absurd agree
+agreed-mention (Some interface) (Some model) words agree = words-mention interface model words agree
+
+pub placed-mention : (number : List ℕ → Option ℕ) (interfaces : List Interface) (parts : List (Part Model)) (placing : Placing)
+    → Numbers number parts → AllOffer interfaces parts → mentions_at number interfaces placing ≡ mentions_placed parts placing
+placed-mention number interfaces parts placing same all =
+    agreed-mention (offered number interfaces (title_in placing.words)) (placed parts placing) (connections_in placing.words)
+    (placed-agree number interfaces parts placing same all)
 
 placing-same : (number : List ℕ → Option ℕ) (interfaces : List Interface) (parts : List (Part Model)) (placing : Placing) → Numbers number parts
     → AllOffer interfaces parts → bad_placing number interfaces placing ≡ bad_word parts placing

@@ -13,7 +13,7 @@ use Rattle.blif_model.specs.declared.file.FileText.{FileText}
 use Rattle.blif_model.specs.declared.line.ModelLine.{ModelLine}
 use Rattle.blif_model.specs.FileKnown.{OwnLines, numbered_part, part_in}
 use Rattle.blif_model.specs.Files.{Part, Placing}
-use Rattle.blif_model.specs.Models.{Mention, Model, Statement, IsInputs, IsOutputs, IsLatch, IsTable, driven, is_driven, is_undriven, names_of, used}
+use Rattle.blif_model.specs.Models.{Mention, Model, Statement, IsInputs, IsOutputs, IsLatch, IsTable, driven, is_driven, is_undriven, names_of}
 use Rattle.blif_model.specs.Names.{named_by, nothing_named, number_at, number_of, place_of}
 use Rattle.blif_model.specs.Numbered.{items_of, line_of, words_in}
 use Rattle.blif_model.proofs.Held.{PartsHold, parts-hold}
@@ -24,17 +24,16 @@ use Rattle.blif_model.proofs.Places.{place_of-within}
 use Rattle.blif_model.proofs.Saying.{said-held, text-placed, words-said}
 use Rattle.blif_model.proofs.Undriving.{drives-here, drives_in, first_mention, firsts-by, of_mention, of_word, texts, texts-by}
 use Rattle.blif_linking.specs.declared.interface.Interface.{Interface}
-use Rattle.blif_linking.specs.Bad.{IsReadAs, offered}
+use Rattle.blif_linking.specs.Actuals.{at_place, mentions_at}
+use Rattle.blif_linking.specs.Bad.{IsReadAs}
 use Rattle.blif_linking.specs.Driving.{found_in, lines_drive}
-use Rattle.blif_linking.specs.Interfaces.{Role, Input, Output, Clock, is_one_of, role_of}
-use Rattle.blif_linking.specs.Links.{Link, connections_in, link_of, title_in}
+use Rattle.blif_linking.specs.Interfaces.{is_one_of}
 use Rattle.blif_linking.specs.Names as names
-use Rattle.blif_linking.specs.Names.{Entry, Says, Places, actual_at, entries_from, entries_of, first_some, first_undriven, mention_by_role, mention_linked, mentions_by, mentions_entered, mentions_placed, mentions_said, placed, undriven_word}
+use Rattle.blif_linking.specs.Names.{Says, Places, entries_from, first_some, first_undriven, mentions_entered, mentions_placed, mentions_said, undriven_word}
 use Rattle.blif_linking.specs.Offers.{interface_in}
-use Rattle.blif_linking.specs.Undriven.{first_free, free_by, free_for, free_from, free_names, is_free, is_free_use, items_free, some_free, undriven_among, undriven_within, used_actual, used_as}
-use Rattle.blif_linking.proofs.Connecting.{Agree, AllOffer, Numbers, placed-agree, read-offers}
-use Rattle.blif_linking.proofs.Drivers.{Finds, all-found, at_place, own-flags, place-or}
-use Rattle.blif_linking.proofs.Offering.{Offers}
+use Rattle.blif_linking.specs.Undriven.{first_free, free_by, free_from, free_names, is_free, items_free, some_free, undriven_among, undriven_within}
+use Rattle.blif_linking.proofs.Connecting.{AllOffer, Numbers, placed-mention, read-offers}
+use Rattle.blif_linking.proofs.Drivers.{Finds, all-found, own-flags, place-or}
 use Rattle.blif_linking.proofs.Sets.{or-false}
 
 -- what stands in a model mentions what its lines mention and what is placed
@@ -172,29 +171,22 @@ said-drop names zero statements held = held
 said-drop names (suc k) [] held = tt
 said-drop names (suc k) (statement ∷ statements) held = said-drop names k statements held.1
 
-found-self : (word : Option PlacedToken) → cond (is_found word) word None ≡ word
-found-self None = refl
-found-self (Some word) = refl
-
 -- a chunk of lines, a placement and the rest
-one-step : (chunk behind word here there rest later : Option PlacedToken) → word ≡ option_or chunk behind → at_place here ≡ at_place there
-    → (behind ≡ word → at_place rest ≡ at_place later)
-    → at_place (option_or chunk (option_or here rest)) ≡ at_place (cond (is_found chunk) word (option_or there later))
-one-step (Some first) behind word here there rest later is same next = ap at_place (sym is)
-one-step None behind word here there rest later is same next =
-    place-or here rest
-    ∙ ap (λ (o : Option Place). option_or o (at_place rest)) same
-    ∙ ap (option_or (at_place there)) (next (sym is))
-    ∙ sym (place-or there later)
+one-step : (chunk behind word here rest : Option PlacedToken) (there later : Option Place) → word ≡ option_or chunk behind → at_place here ≡ there
+    → (behind ≡ word → at_place rest ≡ later)
+    → at_place (option_or chunk (option_or here rest)) ≡ cond (is_found chunk) (at_place word) (option_or there later)
+one-step (Some first) behind word here rest there later is same next = ap at_place (sym is)
+one-step None behind word here rest there later is same next =
+    place-or here rest ∙ ap (λ (o : Option Place). option_or o (at_place rest)) same ∙ ap (option_or there) (next (sym is))
 
-cond-or : (b : Bool) (word : PlacedToken) (other : Option PlacedToken) → option_or (cond b (Some word) None) other ≡ cond b (Some word) other
-cond-or true word other = refl
-cond-or false word other = refl
+place-found : (b : Bool) (mention : Mention) (rest : Option Mention)
+    → at_place (option_map (λ mention. mention.word) (cond b (Some mention) rest)) ≡ cond b (Some mention.word.place) (at_place (option_map (λ mention. mention.word) rest))
+place-found true mention rest = refl
+place-found false mention rest = refl
 
-at-word : (b : Bool) (mention : Mention) (word : PlacedToken) → mention.word.place ≡ word.place
-    → at_place (option_map (λ mention. mention.word) (cond b (Some mention) None)) ≡ at_place (cond b (Some word) None)
-at-word true mention word same = ap Some same
-at-word false mention word same = refl
+place-self : (word : Option PlacedToken) → at_place word ≡ cond (is_found word) (at_place word) None
+place-self None = refl
+place-self (Some word) = refl
 
 module _ (own : List (List ℕ)) (flags : List Bool) (found : List (List ℕ)) where
   abbrev met : List ℕ → Bool
@@ -232,54 +224,22 @@ module _ (own : List (List ℕ)) (flags : List Bool) (found : List (List ℕ)) w
   items-found statements held all = lines-free statements held ∙ sym (found-any met (all_mentions statements) all)
 
   -- connections
-  role-free : (word : PlacedToken) (link : Link) (role : Option Role)
-      → at_place (first_unmet met (mention_by_role (actual_at word link) role))
-      ≡ at_place (cond (is_free_use own flags found (used_as link.actual role)) (Some word) None)
-  role-free word link (Some Input) = at-word (not (met link.actual)) (used (actual_at word link)) word refl
-  role-free word link (Some Output) = refl
-  role-free word link (Some Clock) = refl
-  role-free word link None = refl
-
-  link-free : (interface : Interface) (model : Part Model) (word : PlacedToken) (link : Option Link) → Offers interface model
-      → at_place (first_unmet met (mention_linked model word link))
-      ≡ at_place (cond (is_free_use own flags found (used_actual interface link)) (Some word) None)
-  link-free interface model word None offer = refl
-  link-free interface model word (Some link) offer =
-      role-free word link (role_of model link.formal)
-      ∙ ap (λ (role : Option Role). at_place (cond (is_free_use own flags found (used_as link.actual role)) (Some word) None)) (sym (offer.roles link.formal))
-
-  all-free : (interface : Interface) (model : Part Model) (words : List PlacedToken) → Offers interface model
-      → at_place (first_unmet met (flat_map (λ (word : PlacedToken). mention_linked model word (link_of word.text)) words))
-      ≡ at_place (free_by own flags found interface words)
-  all-free interface model [] offer = refl
-  all-free interface model (word ∷ words) offer =
-      let link = link_of word.text in
-      let here = mention_linked model word link in
-      let rest = flat_map (λ (word : PlacedToken). mention_linked model word (link_of word.text)) words in
-      let b = is_free_use own flags found (used_actual interface link) in
-      ap at_place (unmet-append met here rest)
-      ∙ place-or (first_unmet met here) (first_unmet met rest)
-      ∙ ap (λ (o : Option Place). option_or o (at_place (first_unmet met rest))) (link-free interface model word link offer)
-      ∙ ap (option_or (at_place (cond b (Some word) None))) (all-free interface model words offer)
-      ∙ sym (place-or (cond b (Some word) None) (free_by own flags found interface words))
-      ∙ ap at_place (cond-or b word (free_by own flags found interface words))
-
-  placed-free : (interface : Option Interface) (model : Option (Part Model)) (words : List PlacedToken) → Agree interface model
-      → at_place (first_unmet met (mentions_by model words)) ≡ at_place (free_for own flags found interface words)
-  placed-free None None words agree = refl
-  placed-free None (Some model) words agree = absurd agree
-  placed-free (Some interface) None words agree = absurd agree
-  placed-free (Some interface) (Some model) words agree = all-free interface model words agree
+  mentions-free : (mentions : List Mention) → at_place (first_unmet met mentions) ≡ free_by own flags found mentions
+  mentions-free [] = refl
+  mentions-free (mention ∷ mentions) =
+      let b = not mention.drives && not (met mention.word.text) in
+      place-found b mention (find (unmet met) mentions) ∙ ap (cond b (Some mention.word.place)) (mentions-free mentions)
 
   -- a model
   module _ (number : List ℕ → Option ℕ) (interfaces : List Interface) (parts : List (Part Model)) (same : Numbers number parts) (all : AllOffer interfaces parts) (word : Option PlacedToken) where
     walk-free : (before : ℕ) (statements : List Statement) (placings : List Placing) → HoldSaid own statements → AreMet met (all_mentions statements)
         → first_unmet met (all_mentions statements) ≡ word
         → at_place (first_unmet met (flat_map (mentions_entered parts) (entries_from before statements placings)))
-        ≡ at_place (free_from own flags found free word number interfaces before (items_of own statements) placings)
+        ≡ free_from own flags found free (at_place word) number interfaces before (items_of own statements) placings
     walk-free before statements [] held are first =
         ap (λ (list : List Mention). at_place (first_unmet met list)) (flat-said parts statements)
-        ∙ ap at_place (first ∙ sym (found-self word) ∙ ap (λ b. cond b word None) (sym (items-found statements held are ∙ ap is_found first)))
+        ∙ ap at_place first ∙ place-self word
+        ∙ ap (λ b. cond b (at_place word) None) (sym (items-found statements held are ∙ ap is_found first))
     walk-free before statements (placing ∷ placings) held are first =
         let k = placing.before - before in
         let chunk = all_mentions (take k statements) in
@@ -287,22 +247,22 @@ module _ (own : List (List ℕ)) (flags : List Bool) (found : List (List ℕ)) w
         let here = mentions_placed parts placing in
         let rest = flat_map (mentions_entered parts) (entries_from placing.before (drop k statements) placings) in
         let split = subst (AreMet met) (split-at k statements) are in
-        let there = free_for own flags found (offered number interfaces (title_in placing.words)) (connections_in placing.words) in
+        let there = free_by own flags found (mentions_at number interfaces placing) in
         let behind : word ≡ option_or (first_unmet met chunk) (first_unmet met later) =
         sym first ∙ ap (first_unmet met) (split-at k statements) ∙ unmet-append met chunk later in
         let items = items-found (take k statements) (said-take own k statements held) (met-front met chunk later split) in
         let next = walk-free placing.before (drop k statements) placings (said-drop own k statements held) (met-back met chunk later split) in
+        let by = λ (some : Bool) (list : List (Item ModelLine)).
+        cond some (at_place word) (option_or there (free_from own flags found free (at_place word) number interfaces placing.before list placings)) in
         ap (λ (list : List Mention). at_place (first_unmet met list)) (flat-entries parts before statements placing placings)
         ∙ ap at_place (unmet-append met chunk (here ++ rest) ∙ ap (option_or (first_unmet met chunk)) (unmet-append met here rest))
-        ∙ one-step (first_unmet met chunk) (first_unmet met later) word (first_unmet met here) there (first_unmet met rest)
-        (free_from own flags found free word number interfaces placing.before (items_of own (drop k statements)) placings) behind
-        (placed-free (offered number interfaces (title_in placing.words)) (placed parts placing) (connections_in placing.words)
-        (placed-agree number interfaces parts placing same all)) next
-        ∙ ap (λ b. at_place (cond b word (option_or there (free_from own flags found free word number interfaces placing.before (items_of own (drop k statements)) placings)))) (sym items)
-        ∙ ap (λ (list : List (Item ModelLine)). at_place (cond (items_free free list) word (option_or there (free_from own flags found free word number interfaces placing.before (items_of own (drop k statements)) placings))))
+        ∙ one-step (first_unmet met chunk) (first_unmet met later) word (first_unmet met here) (first_unmet met rest) there
+        (free_from own flags found free (at_place word) number interfaces placing.before (items_of own (drop k statements)) placings) behind
+        (mentions-free here ∙ ap (free_by own flags found) (sym (placed-mention number interfaces parts placing same all))) next
+        ∙ ap (λ b. by b (items_of own (drop k statements))) (sym items)
+        ∙ ap (λ (list : List (Item ModelLine)). by (items_free free list) (items_of own (drop k statements)))
         (sym (take-map (λ (statement : Statement). Own (line_of own statement)) k statements))
-        ∙ ap (λ (list : List (Item ModelLine)). at_place (cond (items_free free (take k (items_of own statements))) word (option_or there (free_from own flags found free word number interfaces placing.before list placings))))
-        (sym (drop-map (λ (statement : Statement). Own (line_of own statement)) k statements))
+        ∙ ap (by (items_free free (take k (items_of own statements)))) (sym (drop-map (λ (statement : Statement). Own (line_of own statement)) k statements))
 
 -- the word that mentions the first free name
 first-word : (driven : List ℕ → Bool) (words : List PlacedToken) → first_free (map (λ name. not (driven name)) (texts words)) words ≡ find (of_word driven) words
@@ -324,7 +284,7 @@ or-true false = refl
 -- a name that is not driven in a model
 part-undriven : (whole : List ℕ) (number : List ℕ → Option ℕ) (interfaces : List Interface) (parts : List (Part Model)) (part : Part Model) → Numbers number parts → AllOffer interfaces parts
     → part.own.mentions ≡ all_mentions part.own.statements
-    → at_place (undriven_within number interfaces (numbered_part whole part)) ≡ at_place (undriven_word parts part)
+    → undriven_within number interfaces (numbered_part whole part) ≡ at_place (undriven_word parts part)
 part-undriven whole number interfaces parts part same all mentioned =
     let own = names_of part.own.mentions in
     let flags = (named_by whole part.own.mentions).driven in
@@ -353,21 +313,19 @@ part-undriven whole number interfaces parts part same all mentioned =
 
 among-undriven : (whole : List ℕ) (size most : ℕ) (number : List ℕ → Option ℕ) (interfaces : List Interface) (parts some : List (Part Model)) → Numbers number parts → AllOffer interfaces parts
     → PartsHold size some most
-    → at_place (undriven_among number interfaces (map (numbered_part whole) some)) ≡ at_place (first_some (undriven_word parts) some)
+    → undriven_among number interfaces (map (numbered_part whole) some) ≡ at_place (first_some (undriven_word parts) some)
 among-undriven whole size most number interfaces parts [] same all hold = refl
 among-undriven whole size most number interfaces parts (part ∷ some) same all hold =
-    let here = undriven_within number interfaces (numbered_part whole part) in
     let rest = undriven_among number interfaces (map (numbered_part whole) some) in
-    place-or here rest
-    ∙ ap (λ (o : Option Place). option_or o (at_place rest)) (part-undriven whole number interfaces parts part same all hold.0.own.mentions)
+    ap (λ (o : Option Place). option_or o rest) (part-undriven whole number interfaces parts part same all hold.0.own.mentions)
     ∙ ap (option_or (at_place (undriven_word parts part))) (among-undriven whole size most number interfaces parts some same all hold.1)
     ∙ sym (place-or (undriven_word parts part) (first_some (undriven_word parts) some))
 
 pub undriven-is : (whole : List ℕ) (text : FileText) (interfaces : List Interface) (parts : List (Part Model)) → interfaces ≡ map (interface_in whole) text.models
     → IsReadAs whole text parts
-    → at_place (undriven_among (place_of text.titles) interfaces (map (part_in whole) text.models)) ≡ at_place (first_undriven parts)
+    → undriven_among (place_of text.titles) interfaces (map (part_in whole) text.models) ≡ at_place (first_undriven parts)
 undriven-is whole text interfaces parts are read =
-    ap (λ (list : List (Part OwnLines)). at_place (undriven_among (place_of text.titles) interfaces list)) read.1.0
+    ap (λ (list : List (Part OwnLines)). undriven_among (place_of text.titles) interfaces list) read.1.0
     ∙ among-undriven whole (length whole) (length whole) (place_of text.titles) interfaces parts parts read.1.1
     (subst (λ list. AllOffer list parts) (sym are) (read-offers whole text parts read)) (parts-hold whole parts read.0)
 

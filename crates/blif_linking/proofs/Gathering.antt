@@ -1,9 +1,8 @@
 -- The names of a model by what the models offer are those of its text.
-use Rattle.std.proofs.Common.{◌≡◌, ℕ, ◌-◌, List, [], ◌∷◌, ◌++◌, length, map, take, drop, fold, Option, None, Some, refl, sym, ap, ◌∙◌, subst}
+use Rattle.std.proofs.Common.{◌≡◌, ℕ, ◌-◌, List, [], ◌∷◌, ◌++◌, length, map, take, drop, fold, Option, refl, sym, ap, ◌∙◌, subst}
 use Rattle.std.proofs.lemmas.List.{drop-map, take-map}
 use Rattle.std.proofs.lemmas.List.Sums.{fold-append}
 use Rattle.std.specs.List.{flat_map}
-use Rattle.psl_base.specs.Tokens.{PlacedToken}
 use Rattle.flattening.specs.declared.model.Item.{Item}
 use Rattle.flattening.specs.declared.model.Item.TheVariants.{Own}
 use Rattle.blif_model.specs.declared.file.FileText.{FileText}
@@ -18,17 +17,14 @@ use Rattle.blif_model.proofs.Knowing.{HoldSaid, words_of_mentions}
 use Rattle.blif_model.proofs.Mentioned.{all_mentions, mentions_in}
 use Rattle.blif_model.proofs.Saying.{said-held, texts-placed, words-said}
 use Rattle.blif_linking.specs.declared.interface.Interface.{Interface}
-use Rattle.blif_linking.specs.Bad.{IsReadAs, offered}
-use Rattle.blif_linking.specs.Driving.{found_with}
-use Rattle.blif_linking.specs.Interfaces.{Role, Input, Output, Clock, role_of}
+use Rattle.blif_linking.specs.Actuals.{mentions_at}
+use Rattle.blif_linking.specs.Bad.{IsReadAs}
 use Rattle.blif_linking.specs.Linked.{linked_texts}
-use Rattle.blif_linking.specs.Links.{Link, connections_in, link_of, title_in}
-use Rattle.blif_linking.specs.Names.{actual_at, entries_from, mention_by_role, mention_linked, mentions_by, mentions_entered, mentions_placed, names_in, placed}
-use Rattle.blif_linking.specs.Naming.{mentioned_actual, mentioned_as, named_by, named_for, named_from, named_in, named_within}
+use Rattle.blif_linking.specs.Names.{entries_from, mentions_entered, mentions_placed, names_in}
+use Rattle.blif_linking.specs.Naming.{named_by, named_from, named_in, named_within}
 use Rattle.blif_linking.specs.Offers.{interface_in}
 use Rattle.blif_linking.specs.Sets.{gathered, text_at}
-use Rattle.blif_linking.proofs.Connecting.{Agree, AllOffer, Numbers, placed-agree, read-offers}
-use Rattle.blif_linking.proofs.Offering.{Offers}
+use Rattle.blif_linking.proofs.Connecting.{AllOffer, Numbers, placed-mention, read-offers}
 use Rattle.blif_linking.proofs.Freeing.{flat-entries, flat-said, said-drop, said-take}
 
 -- names with those of mentions
@@ -53,36 +49,9 @@ lines-named own names (statement ∷ statements) held =
     ∙ sym (gather-same names (mentions_in statement)))
     ∙ sym (fold-append with_mentioned names (mentions_in statement) (all_mentions statements))
 
-role-named : (names : List (List ℕ)) (word : PlacedToken) (link : Link) (role : Option Role)
-    → found_with names (mentioned_as link.actual role) ≡ mentioned_in names (mention_by_role (actual_at word link) role)
-role-named names word link (Some Input) = refl
-role-named names word link (Some Output) = refl
-role-named names word link (Some Clock) = refl
-role-named names word link None = refl
-
-link-named : (interface : Interface) (model : Part Model) (names : List (List ℕ)) (word : PlacedToken) (link : Option Link) → Offers interface model
-    → found_with names (mentioned_actual interface link) ≡ mentioned_in names (mention_linked model word link)
-link-named interface model names word None offer = refl
-link-named interface model names word (Some link) offer =
-    ap (λ (role : Option Role). found_with names (mentioned_as link.actual role)) (offer.roles link.formal)
-    ∙ role-named names word link (role_of model link.formal)
-
-words-named : (interface : Interface) (model : Part Model) (names : List (List ℕ)) (words : List PlacedToken) → Offers interface model
-    → named_by interface names words ≡ mentioned_in names (flat_map (λ (word : PlacedToken). mention_linked model word (link_of word.text)) words)
-words-named interface model names [] offer = refl
-words-named interface model names (word ∷ words) offer =
-    let here = mention_linked model word (link_of word.text) in
-    let rest = flat_map (λ (word : PlacedToken). mention_linked model word (link_of word.text)) words in
-    ap (λ (list : List (List ℕ)). named_by interface list words) (link-named interface model names word (link_of word.text) offer)
-    ∙ words-named interface model (mentioned_in names here) words offer
-    ∙ sym (fold-append with_mentioned names here rest)
-
-placed-named : (interface : Option Interface) (model : Option (Part Model)) (names : List (List ℕ)) (words : List PlacedToken) → Agree interface model
-    → named_for interface names words ≡ mentioned_in names (mentions_by model words)
-placed-named None None names words agree = refl
-placed-named None (Some model) names words agree = absurd agree
-placed-named (Some interface) None names words agree = absurd agree
-placed-named (Some interface) (Some model) names words agree = words-named interface model names words agree
+mentions-named : (names : List (List ℕ)) (mentions : List Mention) → named_by names mentions ≡ mentioned_in names mentions
+mentions-named names [] = refl
+mentions-named names (mention ∷ mentions) = mentions-named (with_mentioned names mention) mentions
 
 module _ (own : List (List ℕ)) (number : List ℕ → Option ℕ) (interfaces : List Interface) (parts : List (Part Model)) (same : Numbers number parts) (all : AllOffer interfaces parts) where
   entries-named : (names : List (List ℕ)) (before : ℕ) (statements : List Statement) (placings : List Placing) → HoldSaid own statements
@@ -95,16 +64,15 @@ module _ (own : List (List ℕ)) (number : List ℕ → Option ℕ) (interfaces 
       let chunk = all_mentions (take k statements) in
       let here = mentions_placed parts placing in
       let rest = flat_map (mentions_entered parts) (entries_from placing.before (drop k statements) placings) in
-      let interface = offered number interfaces (title_in placing.words) in
-      let words = connections_in placing.words in
+      let there = mentions_at number interfaces placing in
       let by = λ (list : List (Item ModelLine)) (later : List (Item ModelLine)).
-      named_from own number interfaces (named_for interface (named_in own names list) words) placing.before later placings in
+      named_from own number interfaces (named_by (named_in own names list) there) placing.before later placings in
       ap (λ (list : List (Item ModelLine)). by list (drop k (items_of own statements))) (take-map (λ (statement : Statement). Own (line_of own statement)) k statements)
       ∙ ap (by (items_of own (take k statements))) (drop-map (λ (statement : Statement). Own (line_of own statement)) k statements)
-      ∙ ap (λ (list : List (List ℕ)). named_from own number interfaces (named_for interface list words) placing.before (items_of own (drop k statements)) placings)
-      (lines-named own names (take k statements) (said-take own k statements held))
       ∙ ap (λ (list : List (List ℕ)). named_from own number interfaces list placing.before (items_of own (drop k statements)) placings)
-      (placed-named interface (placed parts placing) (mentioned_in names chunk) words (placed-agree number interfaces parts placing same all))
+      (ap (λ (list : List (List ℕ)). named_by list there) (lines-named own names (take k statements) (said-take own k statements held))
+      ∙ ap (named_by (mentioned_in names chunk)) (placed-mention number interfaces parts placing same all)
+      ∙ mentions-named (mentioned_in names chunk) here)
       ∙ entries-named (mentioned_in (mentioned_in names chunk) here) placing.before (drop k statements) placings (said-drop own k statements held)
       ∙ sym (fold-append with_mentioned (mentioned_in names chunk) here rest)
       ∙ sym (fold-append with_mentioned names chunk (here ++ rest))

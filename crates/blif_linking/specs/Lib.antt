@@ -1,3 +1,4 @@
+pub mod Actuals
 pub mod Bad
 pub mod Connected
 pub mod Driving

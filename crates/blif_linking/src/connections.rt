@@ -1,5 +1,5 @@
 // Connections that do not fit the model that is placed.
-ghost use Rattle.std.specs.Prelude.{◌≡◌, not, [], List, map, All, IfOk, None, Some, option_and_then, slice_get};
+ghost use Rattle.std.specs.Prelude.{◌≡◌, not, [], List, map, All, IfOk, None, Some};
 ghost use Rattle.std.specs.Option.{option_map};
 ghost use Rattle.blif_model.specs.FileKnown.{IsModelWithin, IsPlacementWithin, part_in, placing_in};
 ghost use Rattle.blif_model.specs.Files.{Part};
@@ -12,6 +12,7 @@ ghost use Rattle.blif_linking.specs.Names.{first_bad, first_some};
 ghost use Rattle.blif_linking.specs.Offers.{interface_in};
 
 use crate::interface::Interface;
+use crate::library::Library;
 use crate::links::link_of;
 use crate::names::{insert, is_one_of};
 use blif_model::{FileModel, FileText, NameTable, NoMemory, PlacementLine, Span, text_of};
@@ -35,29 +36,25 @@ pub fn first_bad(
     ensures { (parts : List (Part Model)) → IsReadAs whole.now text.now parts
         → IfOk result (λ bad. option_map (word_of whole.now) bad ≡ first_bad parts) }
 {
-    bad_among(
-        alloc,
+    let library = Library {
         whole,
-        &text.titles,
+        titles: &text.titles,
         interfaces,
-        text.models.as_slice(),
-    )
+    };
+    bad_among(alloc, &library, text.models.as_slice())
 }
 
 fn bad_among(
     alloc: Global,
-    whole: &[u8],
-    titles: &NameTable,
-    interfaces: &[Interface],
+    library: &Library,
     models: &[FileModel],
 ) -> Result<Option<Span>, NoMemory>
-    requires { All (IsModelWithin whole.now) models.now }
-    ensures { IfOk result (λ bad. option_map (word_of whole.now) bad
-        ≡ bad_among (place_of titles.now) interfaces.now (map (part_in whole.now) models.now)) }
+    requires { All (IsModelWithin library.now.whole.now) models.now }
+    ensures { IfOk result (λ bad. option_map (word_of library.now.whole.now) bad
+        ≡ bad_among (place_of library.now.titles.now) library.now.interfaces.now (map (part_in library.now.whole.now) models.now)) }
 {
     for model in models {
-        let lines = model.placements.as_slice();
-        if let Some(word) = bad_in(alloc, whole, titles, interfaces, lines)? {
+        if let Some(word) = bad_in(alloc, library, model.placements.as_slice())? {
             return Ok(Some(word));
         }
     }
@@ -66,17 +63,15 @@ fn bad_among(
 
 fn bad_in(
     alloc: Global,
-    whole: &[u8],
-    titles: &NameTable,
-    interfaces: &[Interface],
+    library: &Library,
     lines: &[PlacementLine],
 ) -> Result<Option<Span>, NoMemory>
-    requires { All (IsPlacementWithin whole.now) lines.now }
-    ensures { IfOk result (λ bad. option_map (word_of whole.now) bad
-        ≡ first_some (bad_placing (place_of titles.now) interfaces.now) (map (placing_in whole.now) lines.now)) }
+    requires { All (IsPlacementWithin library.now.whole.now) lines.now }
+    ensures { IfOk result (λ bad. option_map (word_of library.now.whole.now) bad
+        ≡ first_some (bad_placing (place_of library.now.titles.now) library.now.interfaces.now) (map (placing_in library.now.whole.now) lines.now)) }
 {
     for line in lines {
-        if let Some(word) = bad_placing(alloc, whole, titles, interfaces, line)? {
+        if let Some(word) = bad_placing(alloc, library, line)? {
             return Ok(Some(word));
         }
     }
@@ -85,38 +80,19 @@ fn bad_in(
 
 fn bad_placing(
     alloc: Global,
-    whole: &[u8],
-    titles: &NameTable,
-    interfaces: &[Interface],
+    library: &Library,
     line: &PlacementLine,
 ) -> Result<Option<Span>, NoMemory>
-    requires { IsPlacementWithin whole.now line.now }
-    ensures { IfOk result (λ bad. option_map (word_of whole.now) bad
-        ≡ bad_placing (place_of titles.now) interfaces.now (placing_in whole.now line.now)) }
+    requires { IsPlacementWithin library.now.whole.now line.now }
+    ensures { IfOk result (λ bad. option_map (word_of library.now.whole.now) bad
+        ≡ bad_placing (place_of library.now.titles.now) library.now.interfaces.now (placing_in library.now.whole.now line.now)) }
 {
     let [title, connections @ ..] = line.words.as_slice() else {
         return Ok(None);
     };
-    match offered(whole, titles, interfaces, *title) {
-        Some(interface) => bad_for(alloc, whole, interface, *title, connections),
+    match library.offered(*title) {
+        Some(interface) => bad_for(alloc, library.whole, interface, *title, connections),
         None => Ok(None),
-    }
-}
-
-/// The interface of the model of a name.
-pub(crate) fn offered<'b, 'a>(
-    whole: &[u8],
-    titles: &NameTable,
-    interfaces: &'b [Interface<'a>],
-    title: Span,
-) -> Option<&'b Interface<'a>>
-    requires { IsWithin whole.now title }
-    ensures { option_map (λ interface. interface.now) result
-        ≡ option_and_then (slice_get interfaces.now) (place_of titles.now (word_of whole.now title).text) }
-{
-    match titles.find(text_of(whole, title)) {
-        Some(number) => interfaces.get(number),
-        None => None,
     }
 }
 

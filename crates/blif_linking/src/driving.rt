@@ -1,23 +1,22 @@
 // What connections drive.
-ghost use Rattle.std.specs.Prelude.{◌≡◌, [], List, map, All, IfNone, IfOk, OnOk, false, slice_index_or};
+ghost use Rattle.std.specs.Prelude.{◌≡◌, ℕ, [], List, map, All, IfNone, IfOk, OnOk, false, slice_index_or};
 ghost use Rattle.std.specs.Option.{option_map};
 ghost use Rattle.blif_model.specs.FileKnown.{IsModelWithin, IsPlacementWithin, part_in, placing_in};
 ghost use Rattle.blif_model.specs.Files.{Part};
 ghost use Rattle.blif_model.specs.Models.{Model};
 ghost use Rattle.blif_model.specs.Names.{place_of};
-ghost use Rattle.blif_model.specs.Scanning.{IsWithin, word_of};
-ghost use Rattle.blif_linking.specs.Bad.{IsReadAs, offered};
-ghost use Rattle.blif_linking.specs.Driving.{driven_actual, found_by, found_for, found_in, lines_drive, twice_among, twice_by, twice_for, twice_in, twice_within};
-ghost use Rattle.blif_linking.specs.Links.{connections_in, link_of, title_in};
+ghost use Rattle.blif_model.specs.Scanning.{word_of};
+ghost use Rattle.blif_linking.specs.Actuals.{actual_in, at_place};
+ghost use Rattle.blif_linking.specs.Bad.{IsReadAs};
+ghost use Rattle.blif_linking.specs.Driving.{found_by, found_in, lines_drive, twice_among, twice_by, twice_in};
 ghost use Rattle.blif_linking.specs.Names.{first_driven};
 ghost use Rattle.blif_linking.specs.Offers.{interface_in};
 
-use crate::connections::offered;
+use crate::actuals::{Actual, actuals_at};
 use crate::interface::Interface;
-use crate::links::link_of;
-use crate::names::{insert, is_one_of};
-use crate::role::Role;
-use blif_model::{FileModel, FileText, NameTable, NoMemory, OwnText, PlacementLine, Span, text_of};
+use crate::library::Library;
+use crate::names::insert;
+use blif_model::{FileModel, FileText, NameTable, NoMemory, OwnText, PlacementLine, Span};
 use std::alloc::Global;
 
 /// The first connection of an output whose actual a line of its model drives, or a connection before it. The interfaces
@@ -38,70 +37,47 @@ pub fn first_driven(
         → IfOk result (λ found. option_map (λ word. (word_of whole.now word).place) found
         ≡ option_map (λ word. word.place) (first_driven parts)) }
 {
-    twice_among(
-        alloc,
+    let library = Library {
         whole,
-        &text.titles,
+        titles: &text.titles,
         interfaces,
-        text.models.as_slice(),
-    )
+    };
+    twice_among(alloc, &library, text.models.as_slice())
 }
 
 fn twice_among(
     alloc: Global,
-    whole: &[u8],
-    titles: &NameTable,
-    interfaces: &[Interface],
+    library: &Library,
     models: &[FileModel],
 ) -> Result<Option<Span>, NoMemory>
-    requires { All (IsModelWithin whole.now) models.now }
-    ensures { IfOk result (λ found. option_map (word_of whole.now) found
-        ≡ twice_among (place_of titles.now) interfaces.now (map (part_in whole.now) models.now)) }
+    requires { All (IsModelWithin library.now.whole.now) models.now }
+    ensures { IfOk result (λ found. at_place (option_map (word_of library.now.whole.now) found)
+        ≡ twice_among (place_of library.now.titles.now) library.now.interfaces.now (map (part_in library.now.whole.now) models.now)) }
 {
     for model in models {
-        if let Some(word) = twice_within(alloc, whole, titles, interfaces, model)? {
+        let lines = model.placements.as_slice();
+        if let Some(word) = twice_in(alloc, library, &model.own, lines)? {
             return Ok(Some(word));
         }
     }
     Ok(None)
 }
 
-fn twice_within(
-    alloc: Global,
-    whole: &[u8],
-    titles: &NameTable,
-    interfaces: &[Interface],
-    model: &FileModel,
-) -> Result<Option<Span>, NoMemory>
-    requires { IsModelWithin whole.now model.now }
-    ensures { IfOk result (λ found. option_map (word_of whole.now) found
-        ≡ twice_within (place_of titles.now) interfaces.now (part_in whole.now model.now)) }
-{
-    twice_in(
-        alloc,
-        whole,
-        titles,
-        interfaces,
-        &model.own,
-        model.placements.as_slice(),
-    )
-}
-
 fn twice_in(
     alloc: Global,
-    whole: &[u8],
-    titles: &NameTable,
-    interfaces: &[Interface],
+    library: &Library,
     own: &OwnText,
     lines: &[PlacementLine],
 ) -> Result<Option<Span>, NoMemory>
-    requires { All (IsPlacementWithin whole.now) lines.now }
-    ensures { IfOk result (λ word. option_map (word_of whole.now) word
-        ≡ twice_in own.now.text.names own.now.driven (place_of titles.now) interfaces.now [] (map (placing_in whole.now) lines.now)) }
+    requires { All (IsPlacementWithin library.now.whole.now) lines.now }
+    ensures { IfOk result (λ word. at_place (option_map (word_of library.now.whole.now) word)
+        ≡ twice_in own.now.text.names own.now.driven (place_of library.now.titles.now) library.now.interfaces.now []
+        (map (placing_in library.now.whole.now) lines.now)) }
 {
     let mut found = NameTable::new(alloc);
     for line in lines {
-        if let Some(word) = twice_at(whole, titles, interfaces, own, &mut found, line)? {
+        let actuals = actuals_at(alloc, library, line)?;
+        if let Some(word) = twice_by(own, &mut found, &actuals)? {
             return Ok(Some(word));
         }
     }
@@ -109,51 +85,23 @@ fn twice_in(
 }
 
 // Where no connection is at fault, what they drive is found too.
-fn twice_at<'a>(
-    whole: &'a [u8],
-    titles: &NameTable,
-    interfaces: &[Interface],
-    own: &OwnText,
-    found: &mut NameTable<'a>,
-    line: &PlacementLine,
-) -> Result<Option<Span>, NoMemory>
-    requires { IsPlacementWithin whole.now line.now }
-    ensures word { IfOk result (λ word. option_map (word_of whole.now) word ≡ twice_for own.now.text.names own.now.driven
-        (offered (place_of titles.now) interfaces.now (title_in (placing_in whole.now line.now).words)) found.old
-        (connections_in (placing_in whole.now line.now).words)) }
-    ensures found { IfOk result (λ word. IfNone word (found.new
-        ≡ found_for (offered (place_of titles.now) interfaces.now (title_in (placing_in whole.now line.now).words)) found.old
-        (connections_in (placing_in whole.now line.now).words))) }
-{
-    let [title, connections @ ..] = line.words.as_slice() else {
-        return Ok(None);
-    };
-    match offered(whole, titles, interfaces, *title) {
-        Some(interface) => twice_by(whole, interface, own, found, connections),
-        None => Ok(None),
-    }
-}
-
 fn twice_by<'a>(
-    whole: &'a [u8],
-    interface: &Interface,
     own: &OwnText,
     found: &mut NameTable<'a>,
-    words: &[Span],
+    actuals: &[Actual<'a>],
 ) -> Result<Option<Span>, NoMemory>
-    requires { All (IsWithin whole.now) words.now }
-    ensures word { IfOk result (λ word. option_map (word_of whole.now) word
-        ≡ twice_by own.now.text.names own.now.driven interface.now found.old (map (word_of whole.now) words.now)) }
-    ensures found { IfOk result (λ word. IfNone word (found.new ≡ found_by interface.now found.old (map (word_of whole.now) words.now))) }
+    ensures word { (whole : List ℕ) → IfOk result (λ word. at_place (option_map (word_of whole) word)
+        ≡ twice_by own.now.text.names own.now.driven found.old (map (actual_in whole) actuals.now)) }
+    ensures found { (whole : List ℕ) → IfOk result (λ word. IfNone word (found.new ≡ found_by found.old (map (actual_in whole) actuals.now))) }
 {
-    for word in words {
-        if let Some(name) = driven_actual(interface, text_of(whole, *word)) {
-            if lines_drive(own, name) {
-                return Ok(Some(*word));
+    for actual in actuals {
+        if actual.drives {
+            if lines_drive(own, actual.name) {
+                return Ok(Some(actual.word));
             }
-            let fresh = insert(found, name)?;
+            let fresh = insert(found, actual.name)?;
             if !fresh {
-                return Ok(Some(*word));
+                return Ok(Some(actual.word));
             }
         }
     }
@@ -163,71 +111,30 @@ fn twice_by<'a>(
 /// The names that connections drive, each once.
 pub(crate) fn found_in<'a>(
     alloc: Global,
-    whole: &'a [u8],
-    titles: &NameTable,
-    interfaces: &[Interface],
+    library: &Library<'_, 'a>,
     lines: &[PlacementLine],
 ) -> Result<NameTable<'a>, NoMemory>
-    requires { All (IsPlacementWithin whole.now) lines.now }
-    ensures { IfOk result (λ found. found
-        ≡ found_in (place_of titles.now) interfaces.now [] (map (placing_in whole.now) lines.now)) }
+    requires { All (IsPlacementWithin library.now.whole.now) lines.now }
+    ensures { IfOk result (λ found. found ≡ found_in (place_of library.now.titles.now) library.now.interfaces.now []
+        (map (placing_in library.now.whole.now) lines.now)) }
 {
     let mut found = NameTable::new(alloc);
     for line in lines {
-        found_at(whole, titles, interfaces, &mut found, line)?;
+        let actuals = actuals_at(alloc, library, line)?;
+        found_by(&mut found, &actuals)?;
     }
     Ok(found)
 }
 
-fn found_at<'a>(
-    whole: &'a [u8],
-    titles: &NameTable,
-    interfaces: &[Interface],
-    found: &mut NameTable<'a>,
-    line: &PlacementLine,
-) -> Result<(), NoMemory>
-    requires { IsPlacementWithin whole.now line.now }
-    ensures { OnOk result (found.new
-        ≡ found_for (offered (place_of titles.now) interfaces.now (title_in (placing_in whole.now line.now).words)) found.old
-        (connections_in (placing_in whole.now line.now).words)) }
+fn found_by<'a>(found: &mut NameTable<'a>, actuals: &[Actual<'a>]) -> Result<(), NoMemory>
+    ensures { (whole : List ℕ) → OnOk result (found.new ≡ found_by found.old (map (actual_in whole) actuals.now)) }
 {
-    let [title, connections @ ..] = line.words.as_slice() else {
-        return Ok(());
-    };
-    match offered(whole, titles, interfaces, *title) {
-        Some(interface) => found_by(whole, interface, found, connections),
-        None => Ok(()),
-    }
-}
-
-fn found_by<'a>(
-    whole: &'a [u8],
-    interface: &Interface,
-    found: &mut NameTable<'a>,
-    words: &[Span],
-) -> Result<(), NoMemory>
-    requires { All (IsWithin whole.now) words.now }
-    ensures { OnOk result (found.new ≡ found_by interface.now found.old (map (word_of whole.now) words.now)) }
-{
-    for word in words {
-        if let Some(name) = driven_actual(interface, text_of(whole, *word)) {
-            insert(found, name)?;
+    for actual in actuals {
+        if actual.drives {
+            insert(found, actual.name)?;
         }
     }
     Ok(())
-}
-
-// The name that a connection drives.
-fn driven_actual<'a>(interface: &Interface, word: &'a [u8]) -> Option<&'a [u8]>
-    ensures { option_map (λ name. name.now) result ≡ driven_actual interface.now (link_of word.now) }
-{
-    match link_of(word) {
-        Some(link) => match interface.role_of(link.formal) {
-            Some(Role::Output) => Some(link.actual),
-            _ => None,
-        },
-        None => None,
-    }
 }
 
 /// Whether a line of a model drives a name.

@@ -2,10 +2,12 @@
 //! is wrong where models do not fit together.
 #![tactic(auto)]
 
+mod actuals;
 mod connections;
 mod driving;
 mod interface;
 mod laws;
+mod library;
 mod linking;
 mod links;
 mod names;

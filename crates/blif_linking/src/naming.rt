@@ -1,27 +1,22 @@
 // The names of models in the order of their first mention.
-ghost use Rattle.std.specs.Prelude.{◌≡◌, List, map, All, IfOk, OnOk};
-ghost use Rattle.std.specs.Option.{option_map};
-ghost use Rattle.blif_model.specs.FileKnown.{IsModelWithin, IsPlacementWithin, part_in, placing_in};
+ghost use Rattle.std.specs.Prelude.{◌≡◌, ℕ, List, map, All, IfOk, OnOk};
+ghost use Rattle.blif_model.specs.FileKnown.{IsModelWithin, part_in};
 ghost use Rattle.blif_model.specs.Files.{Part};
 ghost use Rattle.blif_model.specs.Models.{Model};
 ghost use Rattle.blif_model.specs.Names.{place_of};
-ghost use Rattle.blif_model.specs.Scanning.{IsWithin, word_of};
-ghost use Rattle.blif_linking.specs.Bad.{IsReadAs, offered};
+ghost use Rattle.blif_linking.specs.Actuals.{actual_in};
+ghost use Rattle.blif_linking.specs.Bad.{IsReadAs};
 ghost use Rattle.blif_linking.specs.Linked.{linked_texts};
-ghost use Rattle.blif_linking.specs.Links.{connections_in, link_of, title_in};
-ghost use Rattle.blif_linking.specs.Naming.{mentioned_actual, named_by, named_for, named_in, named_within};
+ghost use Rattle.blif_linking.specs.Naming.{named_by, named_in, named_within};
 ghost use Rattle.blif_linking.specs.Offers.{interface_in};
 
-use crate::connections::offered;
+use crate::actuals::{Actual, actuals_at};
 use crate::interface::Interface;
-use crate::links::link_of;
+use crate::library::Library;
 use crate::names::{insert, insert_all};
 use crate::order::{first_items, rest_items};
-use crate::role::Role;
 use crate::undriven::mentioned_at;
-use blif_model::{
-    FileModel, FileText, ModelLine, NameTable, NoMemory, PlacementLine, Span, text_of,
-};
+use blif_model::{FileModel, FileText, ModelLine, NameTable, NoMemory};
 use flattening::Item;
 use psl_base::Items;
 use std::alloc::Global;
@@ -43,43 +38,38 @@ pub(crate) fn names_of<'a>(
     ensures { (parts : List (Part Model)) → IsReadAs whole.now text.now parts
         → IfOk result (λ texts. texts ≡ linked_texts parts) }
 {
-    named_among(
-        alloc,
+    let library = Library {
         whole,
-        &text.titles,
+        titles: &text.titles,
         interfaces,
-        text.models.as_slice(),
-    )
+    };
+    named_among(alloc, &library, text.models.as_slice())
 }
 
 fn named_among<'a>(
     alloc: Global,
-    whole: &'a [u8],
-    titles: &NameTable,
-    interfaces: &[Interface],
+    library: &Library<'_, 'a>,
     models: &[FileModel<'a>],
 ) -> Result<Items<NameTable<'a>>, NoMemory>
-    requires { All (IsModelWithin whole.now) models.now }
+    requires { All (IsModelWithin library.now.whole.now) models.now }
     ensures { IfOk result (λ texts. texts
-        ≡ map (named_within (place_of titles.now) interfaces.now) (map (part_in whole.now) models.now)) }
+        ≡ map (named_within (place_of library.now.titles.now) library.now.interfaces.now) (map (part_in library.now.whole.now) models.now)) }
 {
     let mut texts = Items::new(alloc);
     for model in models {
-        texts.push(named_within(alloc, whole, titles, interfaces, model)?)?;
+        texts.push(named_within(alloc, library, model)?)?;
     }
     Ok(texts)
 }
 
 fn named_within<'a>(
     alloc: Global,
-    whole: &'a [u8],
-    titles: &NameTable,
-    interfaces: &[Interface],
+    library: &Library<'_, 'a>,
     model: &FileModel<'a>,
 ) -> Result<NameTable<'a>, NoMemory>
-    requires { IsModelWithin whole.now model.now }
+    requires { IsModelWithin library.now.whole.now model.now }
     ensures { IfOk result (λ names. names
-        ≡ named_within (place_of titles.now) interfaces.now (part_in whole.now model.now)) }
+        ≡ named_within (place_of library.now.titles.now) library.now.interfaces.now (part_in library.now.whole.now model.now)) }
 {
     let own = &model.own.text.names;
     let mut names = NameTable::new(alloc);
@@ -88,7 +78,8 @@ fn named_within<'a>(
     for line in model.placements.as_slice() {
         let count = line.before.saturating_sub(before);
         named_in(&mut names, own, first_items(items, count))?;
-        named_at(whole, titles, interfaces, &mut names, line)?;
+        let actuals = actuals_at(alloc, library, line)?;
+        named_by(&mut names, &actuals)?;
         items = rest_items(items, count);
         before = line.before;
     }
@@ -111,54 +102,11 @@ fn named_in<'a>(
 }
 
 // With the names that connections mention.
-fn named_at<'a>(
-    whole: &'a [u8],
-    titles: &NameTable,
-    interfaces: &[Interface],
-    names: &mut NameTable<'a>,
-    line: &PlacementLine,
-) -> Result<(), NoMemory>
-    requires { IsPlacementWithin whole.now line.now }
-    ensures { OnOk result (names.new
-        ≡ named_for (offered (place_of titles.now) interfaces.now (title_in (placing_in whole.now line.now).words)) names.old
-        (connections_in (placing_in whole.now line.now).words)) }
+fn named_by<'a>(names: &mut NameTable<'a>, actuals: &[Actual<'a>]) -> Result<(), NoMemory>
+    ensures { (whole : List ℕ) → OnOk result (names.new ≡ named_by names.old (map (actual_in whole) actuals.now)) }
 {
-    let [title, connections @ ..] = line.words.as_slice() else {
-        return Ok(());
-    };
-    match offered(whole, titles, interfaces, *title) {
-        Some(interface) => named_by(whole, interface, names, connections),
-        None => Ok(()),
-    }
-}
-
-fn named_by<'a>(
-    whole: &'a [u8],
-    interface: &Interface,
-    names: &mut NameTable<'a>,
-    words: &[Span],
-) -> Result<(), NoMemory>
-    requires { All (IsWithin whole.now) words.now }
-    ensures { OnOk result (names.new ≡ named_by interface.now names.old (map (word_of whole.now) words.now)) }
-{
-    for word in words {
-        if let Some(name) = mentioned_actual(interface, text_of(whole, *word)) {
-            insert(names, name)?;
-        }
+    for actual in actuals {
+        insert(names, actual.name)?;
     }
     Ok(())
-}
-
-// The name that a connection mentions.
-fn mentioned_actual<'a>(interface: &Interface, word: &'a [u8]) -> Option<&'a [u8]>
-    ensures { option_map (λ name. name.now) result ≡ mentioned_actual interface.now (link_of word.now) }
-{
-    match link_of(word) {
-        Some(link) => match interface.role_of(link.formal) {
-            Some(Role::Input) => Some(link.actual),
-            Some(Role::Output) => Some(link.actual),
-            _ => None,
-        },
-        None => None,
-    }
 }

@@ -13,8 +13,8 @@ ghost use Rattle.blif_linking.specs.Links.{link_of};
 ghost use Rattle.blif_linking.specs.Numbering.{AreSmall, joined_by, joined_for, joined_one, number_in, numbered_among, numbered_within, placement_in, renumbered, woven};
 ghost use Rattle.blif_linking.specs.Offers.{interface_in};
 
-use crate::connections::offered;
 use crate::interface::Interface;
+use crate::library::Library;
 use crate::links::link_of;
 use crate::role::Role;
 use blif_model::{
@@ -47,22 +47,25 @@ pub(crate) fn link_models(
         → IfOk result (λ models. models ≡ linked parts) }
 {
     let FileText { titles, models } = text;
-    numbered_among(alloc, whole, &titles, interfaces, texts, models)
+    let library = Library {
+        whole,
+        titles: &titles,
+        interfaces,
+    };
+    numbered_among(alloc, &library, texts, models)
 }
 
 fn numbered_among(
     alloc: Global,
-    whole: &[u8],
-    titles: &NameTable,
-    interfaces: &[Interface],
+    library: &Library,
     texts: &Items<NameTable>,
     models: FileModels,
 ) -> Result<Items<Model<ModelLine>>, NoMemory>
-    requires within { All (IsModelWithin whole.now) models }
-    requires titles { AreSmall titles.now }
+    requires within { All (IsModelWithin library.now.whole.now) models }
+    requires titles { AreSmall library.now.titles.now }
     requires few { All (λ names. length names < 2 ^ 32) texts.now }
-    ensures { IfOk result (λ linked. linked
-        ≡ numbered_among (place_of titles.now) interfaces.now texts.now texts.now (map (part_in whole.now) models.entry)) }
+    ensures { IfOk result (λ linked. linked ≡ numbered_among (place_of library.now.titles.now) library.now.interfaces.now
+        texts.now texts.now (map (part_in library.now.whole.now) models.entry)) }
 {
     let mut linked = Items::new(alloc);
     let mut number = 0usize;
@@ -72,7 +75,7 @@ fn numbered_among(
             return Ok(linked);
         }
         let names = texts.at(number);
-        linked.push(numbered_within(alloc, whole, titles, interfaces, texts, names, model)?)?;
+        linked.push(numbered_within(alloc, library, texts, names, model)?)?;
         number += 1;
     }
     Ok(linked)
@@ -80,19 +83,17 @@ fn numbered_among(
 
 fn numbered_within(
     alloc: Global,
-    whole: &[u8],
-    titles: &NameTable,
-    interfaces: &[Interface],
+    library: &Library,
     texts: &Items<NameTable>,
     names: &NameTable,
     model: FileModel,
 ) -> Result<Model<ModelLine>, NoMemory>
-    requires within { IsModelWithin whole.now model }
-    requires titles { AreSmall titles.now }
+    requires within { IsModelWithin library.now.whole.now model }
+    requires titles { AreSmall library.now.titles.now }
     requires few { All (λ names. length names < 2 ^ 32) texts.now }
     requires names { length names.now < 2 ^ 32 }
-    ensures { IfOk result (λ linked. linked
-        ≡ numbered_within (place_of titles.now) interfaces.now texts.now names.now (part_in whole.now model.entry)) }
+    ensures { IfOk result (λ linked. linked ≡ numbered_within (place_of library.now.titles.now) library.now.interfaces.now
+        texts.now names.now (part_in library.now.whole.now model.entry)) }
 {
     let FileModel {
         own,
@@ -105,7 +106,7 @@ fn numbered_within(
         model,
     } = text;
     let lines = placements.as_slice();
-    let placed = placements_in(alloc, whole, titles, interfaces, texts, names, lines)?;
+    let placed = placements_in(alloc, library, texts, names, lines)?;
     let numbers = numbers_in(alloc, names, &own_names)?;
     let items = woven(alloc, &numbers, model.items, lines, placed)?;
     Ok(Model {
@@ -140,23 +141,22 @@ fn number_in(names: &NameTable, name: &[u8]) -> u32
 // The placements that lines say.
 fn placements_in(
     alloc: Global,
-    whole: &[u8],
-    titles: &NameTable,
-    interfaces: &[Interface],
+    library: &Library,
     texts: &Items<NameTable>,
     names: &NameTable,
     lines: &[PlacementLine],
 ) -> Result<Items<Item<ModelLine>>, NoMemory>
-    requires within { All (IsPlacementWithin whole.now) lines.now }
-    requires titles { AreSmall titles.now }
+    requires within { All (IsPlacementWithin library.now.whole.now) lines.now }
+    requires titles { AreSmall library.now.titles.now }
     requires few { All (λ names. length names < 2 ^ 32) texts.now }
     requires names { length names.now < 2 ^ 32 }
     ensures { IfOk result (λ placed. placed
-        ≡ map (placement_in (place_of titles.now) interfaces.now texts.now names.now) (map (placing_in whole.now) lines.now)) }
+        ≡ map (placement_in (place_of library.now.titles.now) library.now.interfaces.now texts.now names.now)
+        (map (placing_in library.now.whole.now) lines.now)) }
 {
     let mut placed = Items::new(alloc);
     for line in lines {
-        placed.push(placement_in(alloc, whole, titles, interfaces, texts, names, line)?)?;
+        placed.push(placement_in(alloc, library, texts, names, line)?)?;
     }
     Ok(placed)
 }
@@ -164,27 +164,25 @@ fn placements_in(
 // The placement that a `.subckt` is.
 fn placement_in(
     alloc: Global,
-    whole: &[u8],
-    titles: &NameTable,
-    interfaces: &[Interface],
+    library: &Library,
     texts: &Items<NameTable>,
     names: &NameTable,
     line: &PlacementLine,
 ) -> Result<Item<ModelLine>, NoMemory>
-    requires within { IsPlacementWithin whole.now line.now }
-    requires titles { AreSmall titles.now }
+    requires within { IsPlacementWithin library.now.whole.now line.now }
+    requires titles { AreSmall library.now.titles.now }
     requires few { All (λ names. length names < 2 ^ 32) texts.now }
     requires names { length names.now < 2 ^ 32 }
-    ensures { IfOk result (λ placed. placed
-        ≡ placement_in (place_of titles.now) interfaces.now texts.now names.now (placing_in whole.now line.now)) }
+    ensures { IfOk result (λ placed. placed ≡ placement_in (place_of library.now.titles.now) library.now.interfaces.now
+        texts.now names.now (placing_in library.now.whole.now line.now)) }
 {
     let [title, connections @ ..] = line.words.as_slice() else {
         return Ok(nothing_placed(alloc));
     };
-    let Some(number) = titles.find(text_of(whole, *title)) else {
+    let Some(number) = library.titles.find(text_of(library.whole, *title)) else {
         return Ok(nothing_placed(alloc));
     };
-    let joined = joined_for(alloc, whole, interfaces, texts, number, names, connections)?;
+    let joined = joined_for(alloc, library, texts, number, names, connections)?;
     Ok(Item::Place(Placement {
         model: number as u32,
         connections: joined,
@@ -204,23 +202,22 @@ fn nothing_placed(alloc: Global) -> Item<ModelLine>
 // The connections of the model of a number.
 fn joined_for(
     alloc: Global,
-    whole: &[u8],
-    interfaces: &[Interface],
+    library: &Library,
     texts: &Items<NameTable>,
     number: usize,
     names: &NameTable,
     words: &[Span],
 ) -> Result<Items<Connection>, NoMemory>
-    requires within { All (IsWithin whole.now) words.now }
+    requires within { All (IsWithin library.now.whole.now) words.now }
     requires few { All (λ names. length names < 2 ^ 32) texts.now }
     requires names { length names.now < 2 ^ 32 }
-    ensures { IfOk result (λ joined. joined ≡ joined_for (slice_get interfaces.now number)
-        (slice_index_or texts.now number []) names.now (map (word_of whole.now) words.now)) }
+    ensures { IfOk result (λ joined. joined ≡ joined_for (slice_get library.now.interfaces.now number)
+        (slice_index_or texts.now number []) names.now (map (word_of library.now.whole.now) words.now)) }
 {
-    match interfaces.get(number) {
+    match library.interfaces.get(number) {
         Some(interface) => joined_by(
             alloc,
-            whole,
+            library.whole,
             interface,
             texts.as_slice().get(number),
             names,

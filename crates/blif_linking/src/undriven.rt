@@ -1,27 +1,24 @@
 // Uses of names that nothing drives.
 ghost use Rattle.std.specs.Prelude.{◌≡◌, ℕ, List, map, All, IfOk};
 ghost use Rattle.std.specs.Option.{option_map};
-ghost use Rattle.blif_model.specs.FileKnown.{IsModelWithin, IsPlacementWithin, part_in, placing_in};
+ghost use Rattle.blif_model.specs.FileKnown.{IsModelWithin, part_in, placing_in};
 ghost use Rattle.blif_model.specs.Files.{Part};
 ghost use Rattle.blif_model.specs.Models.{Model};
 ghost use Rattle.blif_model.specs.Names.{place_of};
-ghost use Rattle.blif_model.specs.Scanning.{IsWithin, word_of};
-ghost use Rattle.blif_linking.specs.Bad.{IsReadAs, offered};
-ghost use Rattle.blif_linking.specs.Links.{connections_in, link_of, title_in};
+ghost use Rattle.blif_model.specs.Scanning.{word_of};
+ghost use Rattle.blif_linking.specs.Actuals.{actual_in, at_place};
+ghost use Rattle.blif_linking.specs.Bad.{IsReadAs};
 ghost use Rattle.blif_linking.specs.Names.{first_undriven};
 ghost use Rattle.blif_linking.specs.Offers.{interface_in};
-ghost use Rattle.blif_linking.specs.Undriven.{first_free, free_by, free_for, free_from, free_names, is_free, items_free, mentioned_at, some_free, undriven_among, undriven_within, used_actual};
+ghost use Rattle.blif_linking.specs.Undriven.{first_free, free_by, free_from, free_names, is_free, items_free, mentioned_at, some_free, undriven_among, undriven_within};
 
-use crate::connections::offered;
+use crate::actuals::{Actual, actuals_at};
 use crate::driving::{flag_at, found_in, lines_drive};
 use crate::interface::Interface;
-use crate::links::link_of;
+use crate::library::Library;
 use crate::names::is_one_of;
 use crate::order::{first_items, rest_items};
-use crate::role::Role;
-use blif_model::{
-    FileModel, FileText, ModelLine, NameTable, NoMemory, OwnText, PlacementLine, Span, text_of,
-};
+use blif_model::{FileModel, FileText, ModelLine, NameTable, NoMemory, OwnText, Span};
 use flattening::Item;
 use std::alloc::Global;
 
@@ -43,28 +40,25 @@ pub fn first_undriven(
         → IfOk result (λ found. option_map (λ word. (word_of whole.now word).place) found
         ≡ option_map (λ word. word.place) (first_undriven parts)) }
 {
-    undriven_among(
-        alloc,
+    let library = Library {
         whole,
-        &text.titles,
+        titles: &text.titles,
         interfaces,
-        text.models.as_slice(),
-    )
+    };
+    undriven_among(alloc, &library, text.models.as_slice())
 }
 
 fn undriven_among(
     alloc: Global,
-    whole: &[u8],
-    titles: &NameTable,
-    interfaces: &[Interface],
+    library: &Library,
     models: &[FileModel],
 ) -> Result<Option<Span>, NoMemory>
-    requires { All (IsModelWithin whole.now) models.now }
-    ensures { IfOk result (λ found. option_map (word_of whole.now) found
-        ≡ undriven_among (place_of titles.now) interfaces.now (map (part_in whole.now) models.now)) }
+    requires { All (IsModelWithin library.now.whole.now) models.now }
+    ensures { IfOk result (λ found. at_place (option_map (word_of library.now.whole.now) found)
+        ≡ undriven_among (place_of library.now.titles.now) library.now.interfaces.now (map (part_in library.now.whole.now) models.now)) }
 {
     for model in models {
-        if let Some(word) = undriven_within(alloc, whole, titles, interfaces, model)? {
+        if let Some(word) = undriven_within(alloc, library, model)? {
             return Ok(Some(word));
         }
     }
@@ -73,24 +67,16 @@ fn undriven_among(
 
 fn undriven_within(
     alloc: Global,
-    whole: &[u8],
-    titles: &NameTable,
-    interfaces: &[Interface],
+    library: &Library,
     model: &FileModel,
 ) -> Result<Option<Span>, NoMemory>
-    requires { IsModelWithin whole.now model.now }
-    ensures { IfOk result (λ found. option_map (word_of whole.now) found
-        ≡ undriven_within (place_of titles.now) interfaces.now (part_in whole.now model.now)) }
+    requires { IsModelWithin library.now.whole.now model.now }
+    ensures { IfOk result (λ found. at_place (option_map (word_of library.now.whole.now) found)
+        ≡ undriven_within (place_of library.now.titles.now) library.now.interfaces.now (part_in library.now.whole.now model.now)) }
 {
-    let found = found_in(
-        alloc,
-        whole,
-        titles,
-        interfaces,
-        model.placements.as_slice(),
-    )?;
+    let found = found_in(alloc, library, model.placements.as_slice())?;
     let free = free_names(alloc, &model.own, &found)?;
-    Ok(free_from(whole, titles, interfaces, model, &found, &free))
+    free_from(alloc, library, model, &found, &free)
 }
 
 // Of each name, whether neither a line drives it nor one of the connections that were found.
@@ -115,18 +101,18 @@ fn is_free(own: &OwnText, found: &NameTable, name: &[u8]) -> bool
 // The first use in the order of a model's lines and placements. Where a line has it, it is the first mention of the
 // first name that is free.
 fn free_from(
-    whole: &[u8],
-    titles: &NameTable,
-    interfaces: &[Interface],
+    alloc: Global,
+    library: &Library,
     model: &FileModel,
     found: &NameTable,
     free: &[bool],
-) -> Option<Span>
-    requires { IsModelWithin whole.now model.now }
-    ensures { option_map (word_of whole.now) result
+) -> Result<Option<Span>, NoMemory>
+    requires { IsModelWithin library.now.whole.now model.now }
+    ensures { IfOk result (λ word. at_place (option_map (word_of library.now.whole.now) word)
         ≡ free_from model.now.own.text.names model.now.own.driven found.now free.now
-        (first_free free.now (map (word_of whole.now) model.now.own.firsts)) (place_of titles.now) interfaces.now 0
-        model.now.own.text.model.items (map (placing_in whole.now) model.now.placements) }
+        (at_place (first_free free.now (map (word_of library.now.whole.now) model.now.own.firsts)))
+        (place_of library.now.titles.now) library.now.interfaces.now 0
+        model.now.own.text.model.items (map (placing_in library.now.whole.now) model.now.placements)) }
 {
     let word = first_free(free, model.own.firsts.as_slice());
     let mut items = model.own.text.model.items.as_slice();
@@ -134,19 +120,20 @@ fn free_from(
     for line in model.placements.as_slice() {
         let count = line.before.saturating_sub(before);
         if items_free(free, first_items(items, count)) {
-            return word;
+            return Ok(word);
         }
-        let used = free_at(whole, titles, interfaces, &model.own, found, line);
+        let actuals = actuals_at(alloc, library, line)?;
+        let used = free_by(&model.own, found, &actuals);
         if used.is_some() {
-            return used;
+            return Ok(used);
         }
         items = rest_items(items, count);
         before = line.before;
     }
     if items_free(free, items) {
-        return word;
+        return Ok(word);
     }
-    None
+    Ok(None)
 }
 
 // The first word that belongs to a name that is free.
@@ -196,58 +183,14 @@ fn some_free(free: &[bool], numbers: &[u32]) -> bool
 }
 
 // The first connection that uses a name that is free.
-fn free_at(
-    whole: &[u8],
-    titles: &NameTable,
-    interfaces: &[Interface],
-    own: &OwnText,
-    found: &NameTable,
-    line: &PlacementLine,
-) -> Option<Span>
-    requires { IsPlacementWithin whole.now line.now }
-    ensures { option_map (word_of whole.now) result ≡ free_for own.now.text.names own.now.driven found.now
-        (offered (place_of titles.now) interfaces.now (title_in (placing_in whole.now line.now).words))
-        (connections_in (placing_in whole.now line.now).words) }
+fn free_by(own: &OwnText, found: &NameTable, actuals: &[Actual]) -> Option<Span>
+    ensures { (whole : List ℕ) → at_place (option_map (word_of whole) result)
+        ≡ free_by own.now.text.names own.now.driven found.now (map (actual_in whole) actuals.now) }
 {
-    let [title, connections @ ..] = line.words.as_slice() else {
-        return None;
-    };
-    match offered(whole, titles, interfaces, *title) {
-        Some(interface) => free_by(whole, interface, own, found, connections),
-        None => None,
-    }
-}
-
-fn free_by(
-    whole: &[u8],
-    interface: &Interface,
-    own: &OwnText,
-    found: &NameTable,
-    words: &[Span],
-) -> Option<Span>
-    requires { All (IsWithin whole.now) words.now }
-    ensures { option_map (word_of whole.now) result
-        ≡ free_by own.now.text.names own.now.driven found.now interface.now (map (word_of whole.now) words.now) }
-{
-    for word in words {
-        if let Some(name) = used_actual(interface, text_of(whole, *word)) {
-            if is_free(own, found, name) {
-                return Some(*word);
-            }
+    for actual in actuals {
+        if !actual.drives && is_free(own, found, actual.name) {
+            return Some(actual.word);
         }
     }
     None
-}
-
-// The name that a connection uses.
-fn used_actual<'a>(interface: &Interface, word: &'a [u8]) -> Option<&'a [u8]>
-    ensures { option_map (λ name. name.now) result ≡ used_actual interface.now (link_of word.now) }
-{
-    match link_of(word) {
-        Some(link) => match interface.role_of(link.formal) {
-            Some(Role::Input) => Some(link.actual),
-            _ => None,
-        },
-        None => None,
-    }
 }

@@ -7,5 +7,5 @@ use Rattle.blif_linking.proofs.connections.bad_in.Given as goal
 
 abbrev pub invariant-loop-line : goal.invariant-loop-line
 invariant-loop-line l =
-    first_some (bad_placing (place_of l.titles) l.interfaces) (map (placing_in l.whole) l.lines)
-    ≡ first_some (bad_placing (place_of l.titles) l.interfaces) (map (placing_in l.whole) (drop l.line-index l.lines))
+    first_some (bad_placing (place_of l.library.titles.now) l.library.interfaces.now) (map (placing_in l.library.whole.now) l.lines)
+    ≡ first_some (bad_placing (place_of l.library.titles.now) l.library.interfaces.now) (map (placing_in l.library.whole.now) (drop l.line-index l.lines))

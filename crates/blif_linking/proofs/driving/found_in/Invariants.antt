@@ -6,5 +6,5 @@ use Rattle.blif_linking.proofs.driving.found_in.Given as goal
 
 abbrev pub invariant-loop-line : goal.invariant-loop-line
 invariant-loop-line l =
-    found_in (place_of l.titles) l.interfaces [] (map (placing_in l.whole) l.lines)
-    ≡ found_in (place_of l.titles) l.interfaces l.found (map (placing_in l.whole) (drop l.line-index l.lines))
+    found_in (place_of l.library.titles.now) l.library.interfaces.now [] (map (placing_in l.library.whole.now) l.lines)
+    ≡ found_in (place_of l.library.titles.now) l.library.interfaces.now l.found (map (placing_in l.library.whole.now) (drop l.line-index l.lines))

@@ -6,5 +6,5 @@ use Rattle.blif_linking.proofs.driving.twice_among.Given as goal
 
 abbrev pub invariant-loop-model : goal.invariant-loop-model
 invariant-loop-model l =
-    twice_among (place_of l.titles) l.interfaces (map (part_in l.whole) l.models)
-    ≡ twice_among (place_of l.titles) l.interfaces (map (part_in l.whole) (drop l.model-index l.models))
+    twice_among (place_of l.library.titles.now) l.library.interfaces.now (map (part_in l.library.whole.now) l.models)
+    ≡ twice_among (place_of l.library.titles.now) l.library.interfaces.now (map (part_in l.library.whole.now) (drop l.model-index l.models))

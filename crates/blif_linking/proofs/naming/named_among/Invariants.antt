@@ -6,4 +6,4 @@ use Rattle.blif_linking.proofs.naming.named_among.Given as goal
 
 abbrev pub invariant-loop-model : goal.invariant-loop-model
 invariant-loop-model l =
-    l.texts ≡ map (named_within (place_of l.titles) l.interfaces) (map (part_in l.whole) (take l.model-index l.models))
+    l.texts ≡ map (named_within (place_of l.library.titles.now) l.library.interfaces.now) (map (part_in l.library.whole.now) (take l.model-index l.models))

@@ -9,9 +9,9 @@ use Rattle.blif_linking.proofs.numbering.numbered_among.Given as goal
 abbrev pub invariant-loop-model : goal.invariant-loop-model
 invariant-loop-model l = record {
   linked :
-      numbered_among (place_of l.titles) l.interfaces l.texts l.texts (map (part_in l.whole) l.fn.models)
-      ≡ l.linked ++ numbered_among (place_of l.titles) l.interfaces l.texts (drop l.number l.texts) (map (part_in l.whole) (into_iter_items l.rest));
-  within : All (IsModelWithin l.whole) (into_iter_items l.rest);
+      numbered_among (place_of l.library.titles.now) l.library.interfaces.now l.texts l.texts (map (part_in l.library.whole.now) l.fn.models)
+      ≡ l.linked ++ numbered_among (place_of l.library.titles.now) l.library.interfaces.now l.texts (drop l.number l.texts) (map (part_in l.library.whole.now) (into_iter_items l.rest));
+  within : All (IsModelWithin l.library.whole.now) (into_iter_items l.rest);
 }
 
 abbrev pub decreases-loop-model : goal.decreases-loop-model

@@ -1,9 +1,9 @@
-use Rattle.std.proofs.Common.{◌≡◌, drop, map}
-use Rattle.blif_model.specs.Scanning.{word_of}
+use Rattle.std.proofs.Common.{◌≡◌, ℕ, List, drop, map}
+use Rattle.blif_linking.specs.Actuals.{actual_in}
 use Rattle.blif_linking.specs.Undriven.{free_by}
 use Rattle.blif_linking.proofs.undriven.free_by.Given as goal
 
-abbrev pub invariant-loop-word : goal.invariant-loop-word
-invariant-loop-word l =
-    free_by l.own.text.names l.own.driven l.found l.interface (map (word_of l.whole) l.words)
-    ≡ free_by l.own.text.names l.own.driven l.found l.interface (map (word_of l.whole) (drop l.word-index l.words))
+abbrev pub invariant-loop-actual : goal.invariant-loop-actual
+invariant-loop-actual l =
+    (whole : List ℕ) → free_by l.own.text.names l.own.driven l.found (map (actual_in whole) l.actuals)
+    ≡ free_by l.own.text.names l.own.driven l.found (map (actual_in whole) (drop l.actual-index l.actuals))
