@@ -1,7 +1,4 @@
-mod FlawLaws
-mod KindLaws
-mod MeaningLaws
-mod Nodes
+mod Cleared
 mod RangedBooleans
 mod RangedExpressions
 mod RangedLookUp
@@ -10,3 +7,4 @@ mod RangedProperties
 mod RangedSequences
 pub mod RangedStatements
 pub mod TreeLaws
+mod Unboxed
