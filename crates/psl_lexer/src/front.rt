@@ -5,8 +5,8 @@ ghost use Rattle.psl_lexer.specs.Fronts.{IsFront, IsWithin};
 
 use crate::TokenKind;
 use crate::bytes::begins_name;
+use crate::kind::MARKS;
 use crate::numbers::number_front;
-use crate::spellings::MARKS;
 use crate::texts::{escaped_front, slash_front, text_front};
 use crate::words::word_front;
 use psl_base::{is_digit, is_white};

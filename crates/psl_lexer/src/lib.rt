@@ -8,7 +8,6 @@ mod kind;
 mod laws;
 mod lexing;
 mod numbers;
-mod spellings;
 #[cfg(test)]
 mod tests;
 mod texts;

@@ -5,7 +5,7 @@ ghost use Rattle.psl_lexer.specs.Reading as spec;
 use crate::TokenKind;
 use crate::bytes::{continues_name, name_len};
 use crate::front::Front;
-use crate::spellings::{OVERLAPPING_WORDS, STRONG_WORDS, WORDS};
+use crate::kind::{OVERLAPPING_WORDS, STRONG_WORDS, WORDS};
 
 /// What these bytes are, if a row spells them.
 fn kind_in(rows: &[(&[u8], TokenKind)], bytes: &[u8]) -> Option<TokenKind>
