@@ -5,7 +5,7 @@ use Rattle.psl_lexer.specs.declared.kind.TokenKind.{TokenKind}
 use Rattle.psl_lexer.specs.declared.kind.TokenKind.TheVariants as kinds
 use Rattle.psl_grammar.specs.Firsts.{has, is_empty, empty_of, firsts, first_of, post_first}
 use Rattle.psl_grammar.specs.Parts.{Symbol, Text, Vunit, Statement, Directive, Declaration, Prop, Imp, ImpRight, Suf, Bnd, Occ, Trm, Clk, Or, And, Cmp, Una, Pri, Atom, Path, Counted, Sere, Fus, Alt, Conj, Wtail, Ctail, Side, Start, Bor, Band, Bcmp, Buna, Post, Clk0, Count, Part, Quoted, Sym, ◌~◌, ◌//◌, Many, Maybe}
-use Rattle.psl_grammar.specs.Productions.{production, until}
+use Rattle.psl_grammar.specs.Productions.{production, until, aborts, comparisons, implications, sequence_ands, suffixes}
 
 -- each kind of the one list stands in the other
 abbrev pub within : List TokenKind → List TokenKind → Bool
@@ -29,7 +29,7 @@ abbrev pub una_on : List TokenKind
 una_on = kinds.Not ∷ atom_on
 
 abbrev pub cmp_on : List TokenKind
-cmp_on = kinds.EqualEqual ∷ kinds.NotEqual ∷ una_on
+cmp_on = firsts comparisons ++ una_on
 
 abbrev pub and_on : List TokenKind
 and_on = kinds.AndAnd ∷ cmp_on
@@ -41,19 +41,19 @@ abbrev pub clk_on : List TokenKind
 clk_on = post_first ++ or_on
 
 abbrev pub trm_on : List TokenKind
-trm_on = kinds.Abort ∷ kinds.AsyncAbort ∷ kinds.SyncAbort ∷ clk_on
+trm_on = firsts aborts ++ clk_on
 
 abbrev pub bnd_on : List TokenKind
 bnd_on = firsts until ++ trm_on
 
 abbrev pub suf_on : List TokenKind
-suf_on = kinds.Implies ∷ kinds.ImpliesNext ∷ bnd_on
+suf_on = firsts suffixes ++ bnd_on
 
 abbrev pub imp_on : List TokenKind
-imp_on = kinds.Arrow ∷ kinds.Iff ∷ suf_on
+imp_on = firsts implications ++ suf_on
 
 abbrev pub bcmp_on : List TokenKind
-bcmp_on = kinds.EqualEqual ∷ kinds.NotEqual ∷ atom_on
+bcmp_on = firsts comparisons ++ atom_on
 
 abbrev pub band_on : List TokenKind
 band_on = kinds.AndAnd ∷ bcmp_on
@@ -65,7 +65,7 @@ abbrev pub side_on : List TokenKind
 side_on = post_first ++ atom_on
 
 abbrev pub ctail_on : List TokenKind
-ctail_on = kinds.Within ∷ kinds.Ampersand ∷ kinds.AndAnd ∷ side_on
+ctail_on = kinds.Within ∷ firsts sequence_ands ++ side_on
 
 abbrev pub conj_on : List TokenKind
 conj_on = ctail_on ++ bor_on

@@ -6,6 +6,22 @@ use Rattle.psl_grammar.specs.Parts.{Symbol, Text, Vunit, Statement, Directive, D
 abbrev pub invariance : Part
 invariance = Quoted kinds.Always // Quoted kinds.Never
 
+-- -> and <->
+abbrev pub implications : Part
+implications = Quoted kinds.Arrow // Quoted kinds.Iff
+
+-- |-> and |=>
+abbrev pub suffixes : Part
+suffixes = Quoted kinds.Implies // Quoted kinds.ImpliesNext
+
+-- == and !=
+abbrev pub comparisons : Part
+comparisons = Quoted kinds.EqualEqual // Quoted kinds.NotEqual
+
+-- & and && of sequences
+abbrev pub sequence_ands : Part
+sequence_ands = Quoted kinds.Ampersand // Quoted kinds.AndAnd
+
 -- the words that begin with `until` or `before`
 abbrev pub until : Part
 until =
@@ -54,16 +70,16 @@ production Declaration =
     // Quoted kinds.Property ~ Quoted kinds.Name ~ Quoted kinds.Equals ~ Sym Prop ~ Quoted kinds.Semicolon
     // Quoted kinds.Default ~ Quoted kinds.Clock ~ Quoted kinds.Equals ~ Sym Prop ~ Quoted kinds.Semicolon
 production Prop = invariance ~ Sym Prop // Sym Imp
-production Imp = Sym Suf ~ Maybe ((Quoted kinds.Arrow // Quoted kinds.Iff) ~ Sym ImpRight)
+production Imp = Sym Suf ~ Maybe (implications ~ Sym ImpRight)
 production ImpRight = invariance ~ Sym Prop // Sym Imp
-production Suf = Sym Bnd ~ Maybe ((Quoted kinds.Implies // Quoted kinds.ImpliesNext) ~ Sym Suf)
+production Suf = Sym Bnd ~ Maybe (suffixes ~ Sym Suf)
 production Bnd = Sym Occ ~ Maybe (until ~ Sym Bnd)
 production Occ = (Quoted kinds.Next // Quoted kinds.NextStrong // Quoted kinds.EventuallyStrong) ~ Sym Occ // Sym Trm
 production Trm = Sym Clk ~ Many (aborts ~ Sym Or)
 production Clk = Sym Or ~ Maybe (Sym Post ~ Many (Sym Post) ~ Maybe (Quoted kinds.Not))
 production Or = Sym And ~ Many (Quoted kinds.OrOr ~ Sym And)
 production And = Sym Cmp ~ Many (Quoted kinds.AndAnd ~ Sym Cmp)
-production Cmp = Sym Una ~ Maybe ((Quoted kinds.EqualEqual // Quoted kinds.NotEqual) ~ Sym Una)
+production Cmp = Sym Una ~ Maybe (comparisons ~ Sym Una)
 production Una = Quoted kinds.Not ~ Sym Una // Sym Pri ~ Maybe (Quoted kinds.Not)
 production Pri = Sym Atom // Quoted kinds.BraceOpen ~ Sym Sere ~ Quoted kinds.BraceClose // Sym Counted
 production Atom =
@@ -82,7 +98,7 @@ production Conj =
     Sym Bor ~ Maybe (Sym Post ~ Many (Sym Post) ~ Sym Wtail ~ Sym Ctail)
     // Sym Start ~ Many (Sym Post) ~ Sym Wtail ~ Sym Ctail
 production Wtail = Many (Quoted kinds.Within ~ Sym Side)
-production Ctail = Many ((Quoted kinds.Ampersand // Quoted kinds.AndAnd) ~ Sym Side ~ Sym Wtail)
+production Ctail = Many (sequence_ands ~ Sym Side ~ Sym Wtail)
 production Side = Sym Bor ~ Sym Post ~ Many (Sym Post) // Sym Start ~ Many (Sym Post)
 production Start =
     Quoted kinds.BraceOpen ~ Sym Sere ~ Quoted kinds.BraceClose
@@ -90,7 +106,7 @@ production Start =
     // Quoted kinds.PlusRepeat
 production Bor = Sym Band ~ Many (Quoted kinds.OrOr ~ Sym Band)
 production Band = Sym Bcmp ~ Many (Quoted kinds.AndAnd ~ Sym Bcmp)
-production Bcmp = Sym Buna ~ Maybe ((Quoted kinds.EqualEqual // Quoted kinds.NotEqual) ~ Sym Buna)
+production Bcmp = Sym Buna ~ Maybe (comparisons ~ Sym Buna)
 production Buna = Quoted kinds.Not ~ Sym Buna // Sym Atom
 production Post =
     Quoted kinds.StarOpen ~ Maybe (Sym Count) ~ Quoted kinds.BracketClose

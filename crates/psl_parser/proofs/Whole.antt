@@ -8,10 +8,10 @@ use Rattle.psl_grammar.specs.Parts.{Text, Sym}
 use Rattle.psl_grammar.specs.Reading.{State, Reads, Stops, Syntax, Limit, StopsWhole}
 use Rattle.psl_grammar.specs.Surface.{tree_node}
 use Rattle.psl_grammar.specs.Trees.{Token, Tree}
-use Rattle.psl_limits.specs.declared.Limit.{Limit as Kind}
-use Rattle.psl_limits.specs.declared.Limit.TheVariants as limits
-use Rattle.psl_limits.specs.declared.Passed.{Passed}
-use Rattle.psl_limits.specs.Limits.{IsFirstPassed, NonePasses, PassesAt}
+use Rattle.psl_parser.specs.declared.limit.Limit.{Limit as Kind}
+use Rattle.psl_parser.specs.declared.limit.Limit.TheVariants as limits
+use Rattle.psl_parser.specs.declared.limit.Passed.{Passed}
+use Rattle.psl_parser.specs.Limits.{IsFirstPassed, NonePasses, PassesAt}
 use Rattle.psl_parser.specs.declared.fault.ParseFault.{ParseFault}
 use Rattle.psl_parser.specs.declared.fault.ParseFault.TheVariants as faults
 use Rattle.psl_parser.specs.Laws.{OneFault, NotBoth, OneParsed}

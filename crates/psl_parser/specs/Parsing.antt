@@ -6,10 +6,10 @@ use Rattle.psl_grammar.specs.Derivation.{IsSyntaxFault, IsTree}
 use Rattle.psl_grammar.specs.Parts.{Text}
 use Rattle.psl_grammar.specs.Surface.{tree_node}
 use Rattle.psl_lexer.specs.declared.token.Token.{Token}
-use Rattle.psl_limits.specs.declared.Limit.{Limit}
-use Rattle.psl_limits.specs.declared.Limit.TheVariants as limits
-use Rattle.psl_limits.specs.declared.Passed.{Passed}
-use Rattle.psl_limits.specs.Limits.{IsFirstPassed, NonePasses}
+use Rattle.psl_parser.specs.declared.limit.Limit.{Limit}
+use Rattle.psl_parser.specs.declared.limit.Limit.TheVariants as limits
+use Rattle.psl_parser.specs.declared.limit.Passed.{Passed}
+use Rattle.psl_parser.specs.Limits.{IsFirstPassed, NonePasses}
 use Rattle.psl_parser.specs.declared.fault.ParseFault.{ParseFault}
 use Rattle.psl_parser.specs.declared.fault.ParseFault.TheVariants as faults
 

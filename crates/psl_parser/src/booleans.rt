@@ -4,6 +4,7 @@ ghost use Rattle.psl_parser.specs.Steps.{state, Parsed};
 
 use crate::fault::Fault;
 use crate::make::{Piece, infix, prefix};
+use crate::operators::COMPARISONS;
 use crate::parser::Parser;
 use psl_lexer::TokenKind;
 use std::alloc::Global;
@@ -46,10 +47,10 @@ impl Parser<'_> {
         ensures parsed { Parsed grammar.Bcmp (state self.old) result (state self.new) }
     {
         let left = self.bool_unary(alloc)?;
-        if !self.at_any(&[TokenKind::EqualEqual, TokenKind::NotEqual]) {
+        if !self.at_any(&COMPARISONS) {
             return Ok(left);
         }
-        let operator = self.take_any(&[TokenKind::EqualEqual, TokenKind::NotEqual])?;
+        let operator = self.take_any(&COMPARISONS)?;
         let right = self.bool_unary(alloc)?;
         infix(alloc, left, operator, right)
     }

@@ -7,6 +7,7 @@ ghost use Rattle.psl_parser.specs.Steps.{state, Parsed, Parses};
 
 use crate::fault::Fault;
 use crate::make::{self, Piece, infix, prefix};
+use crate::operators::COMPARISONS;
 use crate::parser::Parser;
 use psl_lexer::TokenKind;
 use std::alloc::Global;
@@ -49,10 +50,10 @@ impl Parser<'_> {
         ensures parsed { Parsed grammar.Cmp (state self.old) result (state self.new) }
     {
         let left = self.unary(alloc)?;
-        if !self.at_any(&[TokenKind::EqualEqual, TokenKind::NotEqual]) {
+        if !self.at_any(&COMPARISONS) {
             return Ok(left);
         }
-        let operator = self.take_any(&[TokenKind::EqualEqual, TokenKind::NotEqual])?;
+        let operator = self.take_any(&COMPARISONS)?;
         let right = self.unary(alloc)?;
         infix(alloc, left, operator, right)
     }

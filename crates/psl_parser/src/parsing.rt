@@ -4,10 +4,11 @@ ghost use Rattle.psl_parser.specs.Parsing as parsing;
 
 use crate::ParseFault;
 use crate::fault::Fault;
+use crate::limit::{Limit, Passed};
 use crate::parser::Parser;
+use crate::scan::first_passed;
 use psl_grammar::UnitTree;
 use psl_lexer::Tokens;
-use psl_limits::{Limit, Passed, first_passed};
 use std::alloc::Global;
 
 /// How many of so many tokens are left behind the one that passes a limit; all, where none does.

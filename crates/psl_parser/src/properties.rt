@@ -4,28 +4,10 @@ ghost use Rattle.psl_parser.specs.Steps.{state, Parsed};
 
 use crate::fault::Fault;
 use crate::make::{Piece, infix, prefix};
+use crate::operators::{ABORTS, IMPLICATIONS, SUFFIXES, UNTIL};
 use crate::parser::Parser;
 use psl_lexer::TokenKind;
 use std::alloc::Global;
-
-/// The words that begin with `until` or `before`.
-const UNTIL: [TokenKind; 8] = [
-    TokenKind::Until,
-    TokenKind::UntilStrong,
-    TokenKind::UntilOverlap,
-    TokenKind::UntilStrongOverlap,
-    TokenKind::Before,
-    TokenKind::BeforeStrong,
-    TokenKind::BeforeOverlap,
-    TokenKind::BeforeStrongOverlap,
-];
-
-/// The words that abort.
-const ABORTS: [TokenKind; 3] = [
-    TokenKind::Abort,
-    TokenKind::AsyncAbort,
-    TokenKind::SyncAbort,
-];
 
 impl Parser<'_> {
     /// `prop ::= ( "always" | "never" ) prop | imp`
@@ -50,10 +32,10 @@ impl Parser<'_> {
         ensures parsed { Parsed grammar.Imp (state self.old) result (state self.new) }
     {
         let left = self.suffix_implication(alloc)?;
-        if !self.at_any(&[TokenKind::Arrow, TokenKind::Iff]) {
+        if !self.at_any(&IMPLICATIONS) {
             return Ok(left);
         }
-        let operator = self.take_any(&[TokenKind::Arrow, TokenKind::Iff])?;
+        let operator = self.take_any(&IMPLICATIONS)?;
         let right = self.property(alloc)?;
         infix(alloc, left, operator, right)
     }
@@ -65,10 +47,10 @@ impl Parser<'_> {
         ensures parsed { Parsed grammar.Suf (state self.old) result (state self.new) }
     {
         let left = self.bounded(alloc)?;
-        if !self.at_any(&[TokenKind::Implies, TokenKind::ImpliesNext]) {
+        if !self.at_any(&SUFFIXES) {
             return Ok(left);
         }
-        let operator = self.take_any(&[TokenKind::Implies, TokenKind::ImpliesNext])?;
+        let operator = self.take_any(&SUFFIXES)?;
         let right = self.suffix_implication(alloc)?;
         infix(alloc, left, operator, right)
     }

@@ -6,6 +6,7 @@ ghost use Rattle.psl_parser.specs.Steps.{state, Parsed, Parses};
 
 use crate::fault::Fault;
 use crate::make::{self, Piece, infix};
+use crate::operators::SEQUENCE_ANDS;
 use crate::parser::Parser;
 use psl_lexer::TokenKind;
 use std::alloc::Global;
@@ -108,8 +109,8 @@ impl Parser<'_> {
             (state self.old) result (state self.new) }
     {
         let mut left = operand;
-        while self.at_any(&[TokenKind::Ampersand, TokenKind::AndAnd]) {
-            let operator = self.take_any(&[TokenKind::Ampersand, TokenKind::AndAnd])?;
+        while self.at_any(&SEQUENCE_ANDS) {
+            let operator = self.take_any(&SEQUENCE_ANDS)?;
             let side = self.side(alloc)?;
             let right = self.within_tail(alloc, side)?;
             left = infix(alloc, left, operator, right)?;

@@ -1,6 +1,6 @@
 use Rattle.std.proofs.Common.{◌≤◌, length, ◌+◌, ◌*◌}
 use Rattle.psl_grammar.specs.Parts.{Quoted, Sym, ◌~◌, ◌//◌, Or, And, Cmp, Fus, Alt, Conj, Band, Bcmp, Side, Wtail}
-use Rattle.psl_grammar.specs.Productions.{aborts}
+use Rattle.psl_grammar.specs.Productions.{aborts, sequence_ands}
 use Rattle.psl_grammar.specs.Surface.{node_of}
 use Rattle.psl_grammar.specs.Trees.{tails, wide_tails}
 use Rattle.psl_lexer.specs.declared.kind.TokenKind.TheVariants as kinds
@@ -212,7 +212,7 @@ decreases-within_tail-loop-alloc l = length l.self.rest.now
 abbrev pub invariant-and_tail-loop-alloc : goal.invariant-and_tail-loop-alloc
 invariant-and_tail-loop-alloc l = record {
   fewer : length l.self.rest.now ≤ length l.initial.self.rest.now;
-  rounds : Waiting wide_tails ((Quoted kinds.Ampersand // Quoted kinds.AndAnd) ~ Sym Side ~ Sym Wtail) (state l.initial.self) (state l.self) (node_of l.initial.left.tree.value) (node_of l.left.tree.value);
+  rounds : Waiting wide_tails (sequence_ands ~ Sym Side ~ Sym Wtail) (state l.initial.self) (state l.self) (node_of l.initial.left.tree.value) (node_of l.left.tree.value);
 }
 
 abbrev pub decreases-and_tail-loop-alloc : goal.decreases-and_tail-loop-alloc

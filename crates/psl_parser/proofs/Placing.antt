@@ -6,15 +6,15 @@ use Rattle.std.proofs.lemmas.Grind.{common_steps}
 use Rattle.std.specs.List.{slice_get}
 use Rattle.psl_lexer.specs.declared.kind.TokenKind.TheVariants as kinds
 use Rattle.psl_lexer.specs.declared.token.Token.{Token}
-use Rattle.psl_limits.specs.declared.Limit.{Limit}
-use Rattle.psl_limits.specs.declared.Limit.TheVariants as limits
-use Rattle.psl_limits.specs.declared.state.Counts.{Counts}
-use Rattle.psl_limits.specs.declared.state.State as code
-use Rattle.psl_limits.specs.declared.state.State.TheVariants as states
-use Rattle.psl_limits.specs.Statements.{is, level, own, behind_own, behind, behind_all, state_of}
-use Rattle.psl_limits.specs.Statements as text
-use Rattle.psl_limits.specs.Limits.{Passes, PassesAt, NonePasses, IsFirstPassed}
-use Rattle.psl_limits.specs.Counted.{counts_of, counted, PassesNone, PassesNoneAt, IsNamedAt, StepsBehind, StepsFrom}
+use Rattle.psl_parser.specs.declared.limit.Limit.{Limit}
+use Rattle.psl_parser.specs.declared.limit.Limit.TheVariants as limits
+use Rattle.psl_parser.specs.declared.state.Counts.{Counts}
+use Rattle.psl_parser.specs.declared.state.State as code
+use Rattle.psl_parser.specs.declared.state.State.TheVariants as states
+use Rattle.psl_parser.specs.Statements.{is, level, own, behind_own, behind, behind_all, state_of}
+use Rattle.psl_parser.specs.Statements as text
+use Rattle.psl_parser.specs.Limits.{Passes, PassesAt, NonePasses, IsFirstPassed}
+use Rattle.psl_parser.specs.Counted.{counts_of, counted, PassesNone, PassesNoneAt, IsNamedAt, StepsBehind, StepsFrom}
 
 -- one more token
 pub behind-more : (from : text.State) (before : List Token) (token : Token) → behind_all from (before ++ token ∷ []) ≡ behind (behind_all from before) token

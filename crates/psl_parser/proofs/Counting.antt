@@ -3,11 +3,11 @@ use Rattle.std.proofs.Common.{◌≡◌, sym, ◌∙◌, ap, subst, ℕ, ◌+◌
 use Rattle.std.specs.List.{count_by}
 use Rattle.std.proofs.lemmas.Grind.{common_steps}
 use Rattle.psl_lexer.specs.declared.token.Token.{Token}
-use Rattle.psl_limits.specs.declared.Limit.TheVariants as limits
-use Rattle.psl_limits.specs.declared.state.Counts.{Counts}
-use Rattle.psl_limits.specs.Statements.{opens, closes}
-use Rattle.psl_limits.specs.Limits.{Passes, level_limit, length_limit}
-use Rattle.psl_limits.specs.Counted.{counts_of, PassesNone, IsNamed}
+use Rattle.psl_parser.specs.declared.limit.Limit.TheVariants as limits
+use Rattle.psl_parser.specs.declared.state.Counts.{Counts}
+use Rattle.psl_parser.specs.Statements.{opens, closes}
+use Rattle.psl_parser.specs.Limits.{Passes, level_limit, length_limit}
+use Rattle.psl_parser.specs.Counted.{counts_of, PassesNone, IsNamed}
 
 -- one more element counts where it passes the test
 count-more : {X : Type 0} (p : X → Bool) (xs : List X) (x : X) → count_by p (xs ++ x ∷ []) ≡ (if p x then count_by p xs + 1 else count_by p xs)

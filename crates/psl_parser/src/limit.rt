@@ -1,17 +1,4 @@
-//! The limits of a statement of the Property Specification Language: how deep its brackets may be nested, and how many
-//! tokens it may have.
-#![tactic(auto)]
-
-mod laws;
-mod scan;
-mod state;
-#[cfg(test)]
-mod tests;
-
-pub use laws::{one_answer, statements};
-pub use scan::first_passed;
-
-/// A limit of a statement.
+/// A limit of a statement: how deep its brackets may be nested, or how many tokens it may have.
 #[derive(Clone, Copy, Debug, PartialEq, Eq)]
 pub enum Limit {
     /// No more than 64 brackets are open at once. `(` and `{` open one, `)` and `}` close one.

@@ -1,6 +1,6 @@
 use Rattle.std.proofs.Common.{refl, sym, ◌∙◌, []}
-use Rattle.psl_limits.proofs.Placing.{begins}
-use Rattle.psl_limits.proofs.state.State.step.Goals as goal
+use Rattle.psl_parser.proofs.Placing.{begins}
+use Rattle.psl_parser.proofs.state.State.step.Goals as goal
 
 pub returns-in-Outside-3-clause-step : goal.returns-in-Outside-3-clause-step
 returns-in-Outside-3-clause-step c = λ from e.

@@ -1,4 +1,4 @@
-ghost use Rattle.psl_limits.specs.Laws.{StatementsGoOn, StatementsEnd, HeadsGoOn, HeadsEnd, UnitsEnd, OneFirst, NoneOrFirst};
+ghost use Rattle.psl_parser.specs.LimitLaws.{StatementsGoOn, StatementsEnd, HeadsGoOn, HeadsEnd, UnitsEnd, OneFirst, NoneOrFirst};
 
 /// Where the statements of a text stand, as laws, which run nothing: from its first token to the first `;` at level 0,
 /// and not in the head of a verification unit.
@@ -13,8 +13,8 @@ pub fn statements()
 
 /// A law, which runs nothing: a text has at most one first token that passes a limit, and it is named with one limit;
 /// and where it has one, it is not so that no token passes a limit.
-#[tactic(auto, using(crate::proofs::Proved::one_first))]
-pub fn one_answer()
+#[tactic(auto, using(crate::proofs::LimitsProved::one_first))]
+pub fn one_limit()
     ensures one_first { OneFirst }
     ensures not_both { NoneOrFirst }
 {}

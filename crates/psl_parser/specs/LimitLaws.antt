@@ -3,9 +3,9 @@ use Rattle.std.specs.Prelude.{◌≡◌, ◌≢◌, true, false, List, [], ◌�
 use Rattle.std.specs.List.{list_any}
 use Rattle.psl_lexer.specs.declared.kind.TokenKind.TheVariants as kinds
 use Rattle.psl_lexer.specs.declared.token.Token.{Token}
-use Rattle.psl_limits.specs.declared.Passed.{Passed}
-use Rattle.psl_limits.specs.Statements.{is, level, Outside, InHead, Inside, state_of}
-use Rattle.psl_limits.specs.Limits.{NonePasses, IsFirstPassed}
+use Rattle.psl_parser.specs.declared.limit.Passed.{Passed}
+use Rattle.psl_parser.specs.Statements.{is, level, Outside, InHead, Inside, state_of}
+use Rattle.psl_parser.specs.Limits.{NonePasses, IsFirstPassed}
 
 -- a statement may begin with the token
 pub record MayBegin (first : Token) : Type 0 where

@@ -1,9 +1,9 @@
 ghost use Rattle.std.specs.Prelude.{◌≡◌, ◌+◌, ◌-◌, if◌then◌else◌, List, IfOk};
 ghost use Rattle.psl_lexer.specs.declared.token.Token.{Token as TokenOf};
-ghost use Rattle.psl_limits.specs.Statements as text;
-ghost use Rattle.psl_limits.specs.Counted.{counts_of, counted, AreSmall, IsSmall, StepsBehind, StepsFrom};
+ghost use Rattle.psl_parser.specs.Statements as text;
+ghost use Rattle.psl_parser.specs.Counted.{counts_of, counted, AreSmall, IsSmall, StepsBehind, StepsFrom};
 
-use crate::Limit;
+use crate::limit::Limit;
 use psl_lexer::{Token, TokenKind};
 
 /// How many brackets may be open at once in a statement.

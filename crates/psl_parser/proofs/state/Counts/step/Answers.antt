@@ -1,9 +1,9 @@
 use Rattle.std.proofs.Common.{ap, sym, ◌∙◌, ◌-◌, inl, inr, arith}
-use Rattle.psl_limits.proofs.Counting.{more, named-nesting, named-length, passes-none}
-use Rattle.psl_limits.proofs.Placing.{ends, goes}
-use Rattle.psl_limits.specs.declared.state.Counts.{Counts}
-use Rattle.psl_limits.proofs.state.Counts.step.Goals as goal
-use Rattle.psl_limits.proofs.state.Counts.step.Goals.{else-opens-via-then-opens+else-level-gt-LEVEL_LIMIT, else-opens-via-else-opens, else-eq-via-then-eq+else-level-eq0, else-eq-via-else-eq}
+use Rattle.psl_parser.proofs.Counting.{more, named-nesting, named-length, passes-none}
+use Rattle.psl_parser.proofs.Placing.{ends, goes}
+use Rattle.psl_parser.specs.declared.state.Counts.{Counts}
+use Rattle.psl_parser.proofs.state.Counts.step.Goals as goal
+use Rattle.psl_parser.proofs.state.Counts.step.Goals.{else-opens-via-then-opens+else-level-gt-LEVEL_LIMIT, else-opens-via-else-opens, else-eq-via-then-eq+else-level-eq0, else-eq-via-else-eq}
 
 pub returns-then-level-gt-LEVEL_LIMIT-clause-step : goal.returns-then-level-gt-LEVEL_LIMIT-clause-step
 returns-then-level-gt-LEVEL_LIMIT-clause-step c = λ before e.

@@ -1,8 +1,8 @@
 use Rattle.std.proofs.Common.{sym, ◌∙◌, ap, take, arith}
-use Rattle.psl_limits.specs.Statements.{state_of}
-use Rattle.psl_limits.specs.Counted.{counted}
-use Rattle.psl_limits.proofs.Placing.{state-more, none-more}
-use Rattle.psl_limits.proofs.scan.first_passed.Goals as goal
+use Rattle.psl_parser.specs.Statements.{state_of}
+use Rattle.psl_parser.specs.Counted.{counted}
+use Rattle.psl_parser.proofs.Placing.{state-more, none-more}
+use Rattle.psl_parser.proofs.scan.first_passed.Goals as goal
 
 pub loop-index-preserved : goal.loop-index-preserved
 loop-index-preserved c =

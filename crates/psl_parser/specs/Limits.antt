@@ -1,10 +1,10 @@
 -- Which tokens of a text pass a limit of their statement, and which of them is the first.
 use Rattle.std.specs.Prelude.{◌≡◌, ℕ, ◌<◌, List, [], ◌∷◌, ◌++◌, length, take, IsTrue, Some, slice_get}
 use Rattle.psl_lexer.specs.declared.token.Token.{Token}
-use Rattle.psl_limits.specs.declared.Limit.{Limit}
-use Rattle.psl_limits.specs.declared.Limit.TheVariants as limits
-use Rattle.psl_limits.specs.declared.Passed.{Passed}
-use Rattle.psl_limits.specs.Statements.{opens, level, own, state_of}
+use Rattle.psl_parser.specs.declared.limit.Limit.{Limit}
+use Rattle.psl_parser.specs.declared.limit.Limit.TheVariants as limits
+use Rattle.psl_parser.specs.declared.limit.Passed.{Passed}
+use Rattle.psl_parser.specs.Statements.{opens, level, own, state_of}
 
 -- how many brackets may be open at once in a statement
 abbrev pub level_limit : ℕ

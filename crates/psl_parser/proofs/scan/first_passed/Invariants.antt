@@ -1,8 +1,8 @@
 use Rattle.std.proofs.Common.{◌≡◌, take}
-use Rattle.psl_limits.specs.Statements.{state_of}
-use Rattle.psl_limits.specs.Limits.{NonePasses}
-use Rattle.psl_limits.specs.Counted.{counted, IsSmall}
-use Rattle.psl_limits.proofs.scan.first_passed.Given as goal
+use Rattle.psl_parser.specs.Statements.{state_of}
+use Rattle.psl_parser.specs.Limits.{NonePasses}
+use Rattle.psl_parser.specs.Counted.{counted, IsSmall}
+use Rattle.psl_parser.proofs.scan.first_passed.Given as goal
 
 abbrev pub invariant-loop-index : goal.invariant-loop-index
 invariant-loop-index l = record {

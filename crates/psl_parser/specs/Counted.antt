@@ -1,13 +1,13 @@
 -- What the scan knows of the place of the next token, and what it finds of that token.
 use Rattle.std.specs.Prelude.{◌≡◌, ◌≤◌, List, length, count_by, Result, MatchResult, Some}
 use Rattle.psl_lexer.specs.declared.token.Token.{Token}
-use Rattle.psl_limits.specs.declared.Limit.{Limit}
-use Rattle.psl_limits.specs.declared.Limit.TheVariants as limits
-use Rattle.psl_limits.specs.declared.state.Counts.{Counts}
-use Rattle.psl_limits.specs.declared.state.State as code
-use Rattle.psl_limits.specs.declared.state.State.TheVariants as states
-use Rattle.psl_limits.specs.Statements as text
-use Rattle.psl_limits.specs.Limits.{Passes, length_limit}
+use Rattle.psl_parser.specs.declared.limit.Limit.{Limit}
+use Rattle.psl_parser.specs.declared.limit.Limit.TheVariants as limits
+use Rattle.psl_parser.specs.declared.state.Counts.{Counts}
+use Rattle.psl_parser.specs.declared.state.State as code
+use Rattle.psl_parser.specs.declared.state.State.TheVariants as states
+use Rattle.psl_parser.specs.Statements as text
+use Rattle.psl_parser.specs.Limits.{Passes, length_limit}
 
 -- tokens of a statement, in numbers
 abbrev pub counts_of : List Token → Counts

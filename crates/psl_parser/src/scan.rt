@@ -1,7 +1,7 @@
 ghost use Rattle.std.specs.Prelude.{length, MatchOption};
-ghost use Rattle.psl_limits.specs.Limits.{NonePasses, IsFirstPassed};
+ghost use Rattle.psl_parser.specs.Limits.{NonePasses, IsFirstPassed};
 
-use crate::Passed;
+use crate::limit::Passed;
 use crate::state::State;
 use psl_lexer::Token;
 

@@ -4,9 +4,9 @@ use Rattle.std.proofs.lemmas.List.{append-nil}
 use Rattle.std.specs.List.{list_any}
 use Rattle.psl_lexer.specs.declared.kind.TokenKind.TheVariants as kinds
 use Rattle.psl_lexer.specs.declared.token.Token.{Token}
-use Rattle.psl_limits.specs.Statements.{State, Outside, InHead, Inside, is, level, behind_own, behind, behind_all}
-use Rattle.psl_limits.specs.Laws.{NoneEnds, StatementsGoOn, StatementsEnd, HeadsGoOn, HeadsEnd, UnitsEnd}
-use Rattle.psl_limits.proofs.Placing.{behind-more, both-true, one-false, behind-outside}
+use Rattle.psl_parser.specs.Statements.{State, Outside, InHead, Inside, is, level, behind_own, behind, behind_all}
+use Rattle.psl_parser.specs.LimitLaws.{NoneEnds, StatementsGoOn, StatementsEnd, HeadsGoOn, HeadsEnd, UnitsEnd}
+use Rattle.psl_parser.proofs.Placing.{behind-more, both-true, one-false, behind-outside}
 
 behind-append : (from : State) (front back : List Token) → behind_all from (front ++ back) ≡ behind_all (behind_all from front) back
 behind-append from [] back = refl

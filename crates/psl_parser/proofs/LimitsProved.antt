@@ -1,11 +1,11 @@
 -- The laws.
 use Rattle.std.proofs.Common.{◌≡◌, refl, sym, ◌∙◌, ap, subst, ℕ, ◌<◌, List, arith}
 use Rattle.psl_lexer.specs.declared.token.Token.{Token}
-use Rattle.psl_limits.specs.declared.Limit.{Limit}
-use Rattle.psl_limits.specs.declared.Limit.TheVariants as limits
-use Rattle.psl_limits.specs.declared.Passed.{Passed}
-use Rattle.psl_limits.specs.Limits.{PassesAt, IsFirstPassed}
-use Rattle.psl_limits.specs.Laws.{OneFirst, NoneOrFirst}
+use Rattle.psl_parser.specs.declared.limit.Limit.{Limit}
+use Rattle.psl_parser.specs.declared.limit.Limit.TheVariants as limits
+use Rattle.psl_parser.specs.declared.limit.Passed.{Passed}
+use Rattle.psl_parser.specs.Limits.{PassesAt, IsFirstPassed}
+use Rattle.psl_parser.specs.LimitLaws.{OneFirst, NoneOrFirst}
 
 same-token : (tokens : List Token) (first second : Passed) → IsFirstPassed tokens first → IsFirstPassed tokens second → first.token ≡ second.token
 same-token tokens first second h g =

@@ -1,4 +1,0 @@
-mod Counting
-mod Placing
-mod Proved
-mod Standing

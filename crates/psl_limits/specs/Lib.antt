@@ -1,4 +1,0 @@
-pub mod Statements
-pub mod Limits
-pub mod Counted
-pub mod Laws
