@@ -60,7 +60,7 @@ abbrev pub prefix_flaws : Truth → PrefixOperator → ExpressionKind → Place 
 prefix_flaws true prefixes.Not kind place = wants_boolean kind place
 prefix_flaws _ _ kind place = []
 
--- the operands of `&&` and `||` in a sere are Boolean
+-- the operands of a connective in a sere are Boolean
 abbrev pub logical_flaws : Truth → ExpressionKind → Place → ExpressionKind → Place → List Flaw
 logical_flaws true left left_place right right_place = wants_boolean left left_place ++ wants_boolean right right_place
 logical_flaws false left left_place right right_place = []
@@ -71,26 +71,12 @@ element_flaws left left_place right right_place = wants_sequence left left_place
 
 -- an operator between operands that is no comparison
 abbrev pub infix_flaws : Truth → InfixOperator → ExpressionKind → Place → ExpressionKind → Place → List Flaw
-infix_flaws in_sere operators.Conjunction left left_place right right_place = logical_flaws in_sere left left_place right right_place
-infix_flaws in_sere operators.Disjunction left left_place right right_place = logical_flaws in_sere left left_place right right_place
-infix_flaws in_sere operators.Implication left left_place right right_place = []
-infix_flaws in_sere operators.Equivalence left left_place right right_place = []
-infix_flaws in_sere operators.Equal left left_place right right_place = []
-infix_flaws in_sere operators.Unequal left left_place right right_place = []
-infix_flaws in_sere operators.Concatenation left left_place right right_place = element_flaws left left_place right right_place
-infix_flaws in_sere operators.Fusion left left_place right right_place = element_flaws left left_place right right_place
-infix_flaws in_sere operators.Alternative left left_place right right_place = element_flaws left left_place right right_place
-infix_flaws in_sere operators.SameLength left left_place right right_place = element_flaws left left_place right right_place
-infix_flaws in_sere operators.AnyLength left left_place right right_place = element_flaws left left_place right right_place
-infix_flaws in_sere operators.Within left left_place right right_place = element_flaws left left_place right right_place
-infix_flaws in_sere operators.Suffix left left_place right right_place = wants_sequence left left_place
-infix_flaws in_sere operators.SuffixNext left left_place right right_place = wants_sequence left left_place
-infix_flaws in_sere operators.Abort left left_place right right_place = wants_boolean right right_place
-infix_flaws in_sere operators.SyncAbort left left_place right right_place = wants_boolean right right_place
-infix_flaws in_sere operators.Until left left_place right right_place = []
-infix_flaws in_sere operators.UntilOverlap left left_place right right_place = []
-infix_flaws in_sere operators.Before left left_place right right_place = []
-infix_flaws in_sere operators.BeforeOverlap left left_place right right_place = []
+infix_flaws in_sere (operators.Connective connective) left left_place right right_place = logical_flaws in_sere left left_place right right_place
+infix_flaws in_sere (operators.Comparison comparison) left left_place right right_place = []
+infix_flaws in_sere (operators.Sequence operator) left left_place right right_place = element_flaws left left_place right right_place
+infix_flaws in_sere (operators.Suffix operator) left left_place right right_place = wants_sequence left left_place
+infix_flaws in_sere (operators.Abort operator) left left_place right right_place = wants_boolean right right_place
+infix_flaws in_sere (operators.Until operator) left left_place right right_place = []
 
 -- a path stands for a declared sequence or property
 abbrev pub is_declared : List code_statement.Statement → List Token → Truth
@@ -153,10 +139,8 @@ side_flaws (Bits bits) (Value value place) left_place = value_flaws bits value p
 side_flaws (Value value place) (Bits bits) left_place = value_flaws bits value place
 side_flaws _ _ left_place = flaw_where true causes.Kind left_place
 
--- `==` and `!=` are comparisons
 abbrev pub is_comparison : InfixOperator → Truth
-is_comparison operators.Equal = true
-is_comparison operators.Unequal = true
+is_comparison (operators.Comparison comparison) = true
 is_comparison _ = false
 
 -- what a repetition asks of its operand: `[->` and `[=` a Boolean, the others a sequence

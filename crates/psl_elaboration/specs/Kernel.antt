@@ -10,17 +10,25 @@ use Rattle.psl_grammar.specs.declared.tree.Count as code_count
 use Rattle.psl_grammar.specs.declared.tree.Count.TheVariants as counts
 use Rattle.psl_grammar.specs.declared.tree.Expression as code_expression
 use Rattle.psl_grammar.specs.declared.tree.Expression.TheVariants as expressions
-use Rattle.psl_tree.specs.Trees.{Boolean, Sequence, Formula, Const, Test, Not, And, Or, Empty, One, Concat, Fuse, Either, Both, Star, Clocked, Now, NowStrong, Weak, Strong, Suffix, Abort, SyncAbort}
+use Rattle.psl_tree.specs.Trees.{Boolean, Sequence, Formula, Const, Test, Not, Empty, One, Star, Clocked, Now, NowStrong, Weak, Strong}
 use Rattle.psl_tree.specs.declared.atom.Edge as atom_edge
 use Rattle.psl_tree.specs.declared.name.Name.{Name}
-use Rattle.psl_meaning.specs.Sugar.{disjunction, implication, eventually, always}
-use Rattle.psl_sugar.specs.Booleans.{boolean_implication, boolean_iff, number, equality, inequality, some_bit}
-use Rattle.psl_sugar.specs.Properties.{iff, never, never_sequence, eventually_sequence, until, until_overlapping, before, before_overlapping, next, next_times, next_event, next_event_times, next_range, next_event_range, suffix_next}
-use Rattle.psl_sugar.specs.Sequences.{any_letter, any_letters, plus, repeated, goto, goto_repeated, occurrences, both_of_any_length, within}
+use Rattle.psl_meaning.specs.Sugar.{eventually, always}
+use Rattle.psl_sugar.specs.Booleans.{number, some_bit}
+use Rattle.psl_sugar.specs.Comparisons.{comparison_row}
+use Rattle.psl_sugar.specs.Connectives.{boolean_row, formula_row}
+use Rattle.psl_sugar.specs.Properties.{never, never_sequence, eventually_sequence, until_row, suffix_row, abort_row, next, next_times, next_event, next_event_times, next_range, next_event_range}
+use Rattle.psl_sugar.specs.Sequences.{any_letter, any_letters, plus, repeated, goto, goto_repeated, occurrences, sequence_row}
+use Rattle.psl_sugar.specs.declared.abort.AbortOperator.{AbortOperator}
 use Rattle.psl_sugar.specs.declared.boolean.Vector.{Vector}
+use Rattle.psl_sugar.specs.declared.comparison.Comparison.{Comparison}
+use Rattle.psl_sugar.specs.declared.connectives.Connective.{Connective}
 use Rattle.psl_sugar.specs.declared.count.Count as sugar_count
 use Rattle.psl_sugar.specs.declared.count.Count.TheVariants as sugar_counts
 use Rattle.psl_sugar.specs.declared.operator.Strength.{Strength}
+use Rattle.psl_sugar.specs.declared.sequence_operators.SequenceOperator.{SequenceOperator}
+use Rattle.psl_sugar.specs.declared.suffix.SuffixOperator.{SuffixOperator}
+use Rattle.psl_sugar.specs.declared.until.UntilOperator.{UntilOperator}
 use Rattle.psl_elaboration.specs.declared.found.Reference.{Reference}
 use Rattle.psl_elaboration.specs.declared.found.Reference.TheVariants as references
 use Rattle.psl_elaboration.specs.declared.operator.InfixOperator.{InfixOperator}
@@ -80,48 +88,26 @@ prefix_meaning prefixes.Next strength part = OfProperty (next strength (formula_
 prefix_meaning prefixes.Eventually strength (OfSequence sequence) = OfProperty (eventually_sequence sequence)
 prefix_meaning prefixes.Eventually strength part = OfProperty (eventually (formula_in part))
 
--- `&&`: the Boolean operator on Booleans, else the kernel's And
-abbrev pub conjunction_meaning : Meaning → Meaning → Meaning
-conjunction_meaning (OfBoolean left) (OfBoolean right) = OfBoolean (And left right)
-conjunction_meaning left right = OfProperty (And (formula_in left) (formula_in right))
+-- a connective: on Booleans if both operands are, else on properties
+abbrev pub connected : Connective → Meaning → Meaning → Meaning
+connected connective (OfBoolean left) (OfBoolean right) = OfBoolean (boolean_row connective left right)
+connected connective left right = OfProperty (formula_row connective (formula_in left) (formula_in right))
 
--- `||`
-abbrev pub disjunction_meaning : Meaning → Meaning → Meaning
-disjunction_meaning (OfBoolean left) (OfBoolean right) = OfBoolean (Or left right)
-disjunction_meaning left right = OfProperty (disjunction (formula_in left) (formula_in right))
+-- an operator of sequences
+abbrev pub sequenced : SequenceOperator → Meaning → Meaning → Meaning
+sequenced operator left right = OfSequence (sequence_row operator (sequence_in left) (sequence_in right))
 
--- `->`
-abbrev pub implication_meaning : Meaning → Meaning → Meaning
-implication_meaning (OfBoolean left) (OfBoolean right) = OfBoolean (boolean_implication left right)
-implication_meaning left right = OfProperty (implication (formula_in left) (formula_in right))
+-- a suffix implication
+abbrev pub suffixed : SuffixOperator → Meaning → Meaning → Meaning
+suffixed operator left right = OfProperty (suffix_row operator (sequence_in left) (formula_in right))
 
--- `<->`
-abbrev pub equivalence_meaning : Meaning → Meaning → Meaning
-equivalence_meaning (OfBoolean left) (OfBoolean right) = OfBoolean (boolean_iff left right)
-equivalence_meaning left right = OfProperty (iff (formula_in left) (formula_in right))
+-- an abort
+abbrev pub aborted : AbortOperator → Meaning → Meaning → Meaning
+aborted operator left right = OfProperty (abort_row operator (formula_in left) (boolean_in right))
 
--- an operator between its operands that is no comparison
-abbrev pub infix_meaning : InfixOperator → Strength → Meaning → Meaning → Meaning
-infix_meaning operators.Conjunction strength left right = conjunction_meaning left right
-infix_meaning operators.Disjunction strength left right = disjunction_meaning left right
-infix_meaning operators.Implication strength left right = implication_meaning left right
-infix_meaning operators.Equivalence strength left right = equivalence_meaning left right
-infix_meaning operators.Equal strength left right = OfBoolean (Const false)
-infix_meaning operators.Unequal strength left right = OfBoolean (Const false)
-infix_meaning operators.Concatenation strength left right = OfSequence (Concat (sequence_in left) (sequence_in right))
-infix_meaning operators.Fusion strength left right = OfSequence (Fuse (sequence_in left) (sequence_in right))
-infix_meaning operators.Alternative strength left right = OfSequence (Either (sequence_in left) (sequence_in right))
-infix_meaning operators.SameLength strength left right = OfSequence (Both (sequence_in left) (sequence_in right))
-infix_meaning operators.AnyLength strength left right = OfSequence (both_of_any_length (sequence_in left) (sequence_in right))
-infix_meaning operators.Within strength left right = OfSequence (within (sequence_in left) (sequence_in right))
-infix_meaning operators.Suffix strength left right = OfProperty (Suffix (sequence_in left) (formula_in right))
-infix_meaning operators.SuffixNext strength left right = OfProperty (suffix_next (sequence_in left) (formula_in right))
-infix_meaning operators.Abort strength left right = OfProperty (Abort (formula_in left) (boolean_in right))
-infix_meaning operators.SyncAbort strength left right = OfProperty (SyncAbort (formula_in left) (boolean_in right))
-infix_meaning operators.Until strength left right = OfProperty (until strength (formula_in left) (formula_in right))
-infix_meaning operators.UntilOverlap strength left right = OfProperty (until_overlapping strength (formula_in left) (formula_in right))
-infix_meaning operators.Before strength left right = OfProperty (before strength (formula_in left) (formula_in right))
-infix_meaning operators.BeforeOverlap strength left right = OfProperty (before_overlapping strength (formula_in left) (formula_in right))
+-- an operator of properties that is strong or weak
+abbrev pub lasting : UntilOperator → Strength → Meaning → Meaning → Meaning
+lasting operator strength left right = OfProperty (until_row operator strength (formula_in left) (formula_in right))
 
 -- bits of a signal that stand side by side, as a vector
 abbrev pub vector : ℕ → ℕ → ℕ → Vector
@@ -133,26 +119,28 @@ bits_meaning references.Nothing = Const false
 bits_meaning references.Several = Const false
 bits_meaning (references.Bits signal lowest width) = some_bit (vector signal lowest width)
 
--- a comparison of bits with a value: `==`, and `!=`
-abbrev pub compared_bits : Truth → Reference → ℕ → Boolean
-compared_bits is_equal references.Nothing value = Const false
-compared_bits is_equal references.Several value = Const false
-compared_bits true (references.Bits signal lowest width) value = equality (vector signal lowest width) value
-compared_bits false (references.Bits signal lowest width) value = inequality (vector signal lowest width) value
+-- a comparison of bits with a value
+abbrev pub compared_bits : Comparison → Reference → ℕ → Boolean
+compared_bits comparison references.Nothing value = Const false
+compared_bits comparison references.Several value = Const false
+compared_bits comparison (references.Bits signal lowest width) value = comparison_row comparison (vector signal lowest width) value
 
 -- a comparison: a signal on one side, a value on the other
-abbrev pub compared : List Name → Truth → code_expression.Expression → code_expression.Expression → Boolean
-compared names is_equal (expressions.Signal path index) (expressions.Literal token) =
-    compared_bits is_equal (reference names path index) (literal_value token)
-compared names is_equal (expressions.Literal token) (expressions.Signal path index) =
-    compared_bits is_equal (reference names path index) (literal_value token)
-compared names is_equal _ _ = Const false
+abbrev pub compared : List Name → Comparison → code_expression.Expression → code_expression.Expression → Boolean
+compared names comparison (expressions.Signal path index) (expressions.Literal token) =
+    compared_bits comparison (reference names path index) (literal_value token)
+compared names comparison (expressions.Literal token) (expressions.Signal path index) =
+    compared_bits comparison (reference names path index) (literal_value token)
+compared names comparison _ _ = Const false
 
 -- an operator between its operands: a comparison reads their trees, any other what they stand for
 abbrev pub operated : List Name → InfixOperator → Strength → code_expression.Expression → code_expression.Expression → Meaning → Meaning → Meaning
-operated names operators.Equal strength x y left right = OfBoolean (compared names true x y)
-operated names operators.Unequal strength x y left right = OfBoolean (compared names false x y)
-operated names operator strength x y left right = infix_meaning operator strength left right
+operated names (operators.Connective connective) strength x y left right = connected connective left right
+operated names (operators.Comparison comparison) strength x y left right = OfBoolean (compared names comparison x y)
+operated names (operators.Sequence operator) strength x y left right = sequenced operator left right
+operated names (operators.Suffix operator) strength x y left right = suffixed operator left right
+operated names (operators.Abort operator) strength x y left right = aborted operator left right
+operated names (operators.Until operator) strength x y left right = lasting operator strength left right
 
 -- a rise or a fall of a bit
 abbrev pub edge_meaning : atom_edge.Edge → Reference → Boolean

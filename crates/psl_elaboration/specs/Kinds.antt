@@ -9,6 +9,8 @@ use Rattle.psl_grammar.specs.declared.tree.Expression as code_expression
 use Rattle.psl_grammar.specs.declared.tree.Expression.TheVariants as expressions
 use Rattle.psl_grammar.specs.declared.tree.Statement as code_statement
 use Rattle.psl_grammar.specs.declared.tree.Statement.TheVariants as statements
+use Rattle.psl_sugar.specs.declared.connectives.Connective.TheVariants as connectives
+use Rattle.psl_sugar.specs.declared.sequence_operators.SequenceOperator.TheVariants as sequences
 use Rattle.psl_elaboration.specs.declared.kind.ExpressionKind.{ExpressionKind}
 use Rattle.psl_elaboration.specs.declared.kind.ExpressionKind.TheVariants.{Boolean, Sequence, Property}
 use Rattle.psl_elaboration.specs.declared.operator.DeclarationWord.{DeclarationWord}
@@ -60,7 +62,7 @@ place_of (expressions.NextEvent' word _ condition count _ x) = word.place
 
 -- an operator of sequences alone, whose operands are repeated, clocked or in braces
 abbrev pub is_within : InfixOperator → Truth
-is_within operators.Within = true
+is_within (operators.Sequence sequences.Within) = true
 is_within _ = false
 
 -- What may stand behind an operator of sequences alone: something in braces, repeated, clocked, or a `within`. In a
@@ -75,7 +77,7 @@ is_part _ = false
 
 -- the operator of sequences alone that `&&` is before a part of a sere
 abbrev pub before_part : InfixOperator → InfixOperator
-before_part operators.Conjunction = operators.SameLength
+before_part (operators.Connective connectives.Conjunction) = operators.Sequence sequences.SameLength
 before_part operator = operator
 
 -- the operator that a token is, in a sere or outside of one, before its right operand
@@ -101,26 +103,12 @@ logical_kind in_sere _ _ = combined in_sere
 
 -- an operator between operands
 abbrev pub infix_kind : Truth → InfixOperator → ExpressionKind → ExpressionKind → ExpressionKind
-infix_kind in_sere operators.Conjunction left right = logical_kind in_sere left right
-infix_kind in_sere operators.Disjunction left right = logical_kind in_sere left right
-infix_kind in_sere operators.Implication left right = logical_kind in_sere left right
-infix_kind in_sere operators.Equivalence left right = logical_kind in_sere left right
-infix_kind in_sere operators.Equal left right = Boolean
-infix_kind in_sere operators.Unequal left right = Boolean
-infix_kind in_sere operators.Concatenation left right = Sequence
-infix_kind in_sere operators.Fusion left right = Sequence
-infix_kind in_sere operators.Alternative left right = Sequence
-infix_kind in_sere operators.SameLength left right = Sequence
-infix_kind in_sere operators.AnyLength left right = Sequence
-infix_kind in_sere operators.Within left right = Sequence
-infix_kind in_sere operators.Suffix left right = Property
-infix_kind in_sere operators.SuffixNext left right = Property
-infix_kind in_sere operators.Abort left right = Property
-infix_kind in_sere operators.SyncAbort left right = Property
-infix_kind in_sere operators.Until left right = Property
-infix_kind in_sere operators.UntilOverlap left right = Property
-infix_kind in_sere operators.Before left right = Property
-infix_kind in_sere operators.BeforeOverlap left right = Property
+infix_kind in_sere (operators.Connective connective) left right = logical_kind in_sere left right
+infix_kind in_sere (operators.Comparison comparison) left right = Boolean
+infix_kind in_sere (operators.Sequence operator) left right = Sequence
+infix_kind in_sere (operators.Suffix operator) left right = Property
+infix_kind in_sere (operators.Abort operator) left right = Property
+infix_kind in_sere (operators.Until operator) left right = Property
 
 -- `e @ c` in a sere and outside of one
 abbrev pub clocked_kind : Truth → ExpressionKind → ExpressionKind
@@ -133,10 +121,14 @@ abbrev pub grouped_kind : ExpressionKind → ExpressionKind
 grouped_kind Boolean = Boolean
 grouped_kind _ = Property
 
--- a path: a declared name without an index, or else a signal; with an index it counts as a signal
+-- a path by what it is declared as: a declared name without an index, or else a signal; with an index it counts as a signal
+abbrev pub kind_as : Option ExpressionKind → Option Token → ExpressionKind
+kind_as declared None = unwrap_or declared Boolean
+kind_as declared (Some index) = Boolean
+
+-- a path
 abbrev pub signal_kind : List code_statement.Statement → List Token → Option Token → ExpressionKind
-signal_kind scope path None = unwrap_or (declared_as scope (path_text path)) Boolean
-signal_kind scope path (Some index) = Boolean
+signal_kind scope path index = kind_as (declared_as scope (path_text path)) index
 
 -- the kind of an expression, after the statements before it in its list, in a sere or outside of one
 abbrev pub kind_of : List code_statement.Statement → Truth → code_expression.Expression → ExpressionKind

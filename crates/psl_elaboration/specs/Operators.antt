@@ -7,6 +7,12 @@ use Rattle.psl_tree.specs.declared.atom.Edge as atom_edge
 use Rattle.psl_tree.specs.declared.atom.Edge.TheVariants as edges
 use Rattle.psl_tree.specs.declared.directive.Kind as directive_kind
 use Rattle.psl_tree.specs.declared.directive.Kind.TheVariants as directives
+use Rattle.psl_sugar.specs.declared.abort.AbortOperator.TheVariants as aborts
+use Rattle.psl_sugar.specs.declared.comparison.Comparison.TheVariants as comparisons
+use Rattle.psl_sugar.specs.declared.connectives.Connective.TheVariants as connectives
+use Rattle.psl_sugar.specs.declared.sequence_operators.SequenceOperator.TheVariants as sequences
+use Rattle.psl_sugar.specs.declared.suffix.SuffixOperator.TheVariants as suffixes
+use Rattle.psl_sugar.specs.declared.until.UntilOperator.TheVariants as untils
 use Rattle.psl_sugar.specs.declared.operator.Quantifier.{Quantifier}
 use Rattle.psl_sugar.specs.declared.operator.Quantifier.TheVariants as quantifiers
 use Rattle.psl_sugar.specs.declared.operator.Strength.{Strength}
@@ -35,34 +41,34 @@ prefix_operator kind = unwrap_or (prefix_row kind) prefix_operators.Next
 
 -- an operator between its operands; `&&` of sequences is told apart where the operands are at hand
 abbrev pub infix_row : TokenKind → Option InfixOperator
-infix_row kinds.AndAnd = Some infix_operators.Conjunction
-infix_row kinds.OrOr = Some infix_operators.Disjunction
-infix_row kinds.Arrow = Some infix_operators.Implication
-infix_row kinds.Iff = Some infix_operators.Equivalence
-infix_row kinds.EqualEqual = Some infix_operators.Equal
-infix_row kinds.NotEqual = Some infix_operators.Unequal
-infix_row kinds.Semicolon = Some infix_operators.Concatenation
-infix_row kinds.Colon = Some infix_operators.Fusion
-infix_row kinds.Bar = Some infix_operators.Alternative
-infix_row kinds.Ampersand = Some infix_operators.AnyLength
-infix_row kinds.Within = Some infix_operators.Within
-infix_row kinds.Implies = Some infix_operators.Suffix
-infix_row kinds.ImpliesNext = Some infix_operators.SuffixNext
-infix_row kinds.Abort = Some infix_operators.Abort
-infix_row kinds.AsyncAbort = Some infix_operators.Abort
-infix_row kinds.SyncAbort = Some infix_operators.SyncAbort
-infix_row kinds.Until = Some infix_operators.Until
-infix_row kinds.UntilStrong = Some infix_operators.Until
-infix_row kinds.UntilOverlap = Some infix_operators.UntilOverlap
-infix_row kinds.UntilStrongOverlap = Some infix_operators.UntilOverlap
-infix_row kinds.Before = Some infix_operators.Before
-infix_row kinds.BeforeStrong = Some infix_operators.Before
-infix_row kinds.BeforeOverlap = Some infix_operators.BeforeOverlap
-infix_row kinds.BeforeStrongOverlap = Some infix_operators.BeforeOverlap
+infix_row kinds.AndAnd = Some (infix_operators.Connective connectives.Conjunction)
+infix_row kinds.OrOr = Some (infix_operators.Connective connectives.Disjunction)
+infix_row kinds.Arrow = Some (infix_operators.Connective connectives.Implication)
+infix_row kinds.Iff = Some (infix_operators.Connective connectives.Equivalence)
+infix_row kinds.EqualEqual = Some (infix_operators.Comparison comparisons.Equal)
+infix_row kinds.NotEqual = Some (infix_operators.Comparison comparisons.Unequal)
+infix_row kinds.Semicolon = Some (infix_operators.Sequence sequences.Concatenation)
+infix_row kinds.Colon = Some (infix_operators.Sequence sequences.Fusion)
+infix_row kinds.Bar = Some (infix_operators.Sequence sequences.Alternative)
+infix_row kinds.Ampersand = Some (infix_operators.Sequence sequences.AnyLength)
+infix_row kinds.Within = Some (infix_operators.Sequence sequences.Within)
+infix_row kinds.Implies = Some (infix_operators.Suffix suffixes.Overlapping)
+infix_row kinds.ImpliesNext = Some (infix_operators.Suffix suffixes.Next)
+infix_row kinds.Abort = Some (infix_operators.Abort aborts.Asynchronous)
+infix_row kinds.AsyncAbort = Some (infix_operators.Abort aborts.Asynchronous)
+infix_row kinds.SyncAbort = Some (infix_operators.Abort aborts.Synchronous)
+infix_row kinds.Until = Some (infix_operators.Until untils.Until)
+infix_row kinds.UntilStrong = Some (infix_operators.Until untils.Until)
+infix_row kinds.UntilOverlap = Some (infix_operators.Until untils.UntilOverlap)
+infix_row kinds.UntilStrongOverlap = Some (infix_operators.Until untils.UntilOverlap)
+infix_row kinds.Before = Some (infix_operators.Until untils.Before)
+infix_row kinds.BeforeStrong = Some (infix_operators.Until untils.Before)
+infix_row kinds.BeforeOverlap = Some (infix_operators.Until untils.BeforeOverlap)
+infix_row kinds.BeforeStrongOverlap = Some (infix_operators.Until untils.BeforeOverlap)
 infix_row _ = None
 
 abbrev pub infix_operator : TokenKind → InfixOperator
-infix_operator kind = unwrap_or (infix_row kind) infix_operators.Conjunction
+infix_operator kind = unwrap_or (infix_row kind) (infix_operators.Connective connectives.Conjunction)
 
 -- what opens a repetition
 abbrev pub repetition_row : TokenKind → Option RepetitionOperator

@@ -1,3 +1,7 @@
+use psl_sugar::{
+    AbortOperator, Comparison, Connective, SequenceOperator, SuffixOperator, UntilOperator,
+};
+
 /// An operator before its operand.
 #[derive(Clone, Copy, Debug, PartialEq, Eq)]
 pub enum PrefixOperator {
@@ -13,49 +17,21 @@ pub enum PrefixOperator {
     Eventually,
 }
 
-/// An operator between its operands.
+/// An operator between its operands: which operands it takes and what it gives, and which of those that do so.
 #[derive(Clone, Copy, Debug, PartialEq, Eq)]
 pub enum InfixOperator {
-    /// `&&` of Booleans and of properties.
-    Conjunction,
-    /// `||`
-    Disjunction,
-    /// `->`
-    Implication,
-    /// `<->`
-    Equivalence,
-    /// `==`
-    Equal,
-    /// `!=`
-    Unequal,
-    /// `;`
-    Concatenation,
-    /// `:`
-    Fusion,
-    /// `|`
-    Alternative,
-    /// `&&` of sequences.
-    SameLength,
-    /// `&`
-    AnyLength,
-    /// `within`
-    Within,
-    /// `|->`
-    Suffix,
-    /// `|=>`
-    SuffixNext,
-    /// `abort`, `async_abort`
-    Abort,
-    /// `sync_abort`
-    SyncAbort,
-    /// `until`, `until!`
-    Until,
-    /// `until_`, `until!_`
-    UntilOverlap,
-    /// `before`, `before!`
-    Before,
-    /// `before_`, `before!_`
-    BeforeOverlap,
+    /// Of Booleans and of properties; `&&` among them, unless it stands between sequences.
+    Connective(Connective),
+    /// Of a signal with a number.
+    Comparison(Comparison),
+    /// Of sequences.
+    Sequence(SequenceOperator),
+    /// Of a sequence and a property.
+    Suffix(SuffixOperator),
+    /// Of a property and a Boolean.
+    Abort(AbortOperator),
+    /// Of properties, strong or weak.
+    Until(UntilOperator),
 }
 
 /// What opens a repetition.

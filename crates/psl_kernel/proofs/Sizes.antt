@@ -1,7 +1,7 @@
--- The sizes of rows: each is at least as large as its parts are.
+-- The sizes of next forms: each is at least as large as its parts are.
 use Rattle.std.proofs.Common.{ℕ, ◌+◌, ◌-◌, ◌≤◌, Option, None, Some, arith}
-use Rattle.psl_tree.specs.Trees.{Boolean, Sequence, Formula, Not, And, Now}
-use Rattle.psl_tree.specs.Counts.{boolean_size, sequence_size, formula_size}
+use Rattle.psl_tree.specs.Trees.{Boolean, Formula, Not, And, Now}
+use Rattle.psl_tree.specs.Counts.{boolean_size, formula_size}
 use Rattle.psl_sugar.specs.Properties.{next_times, next_event, next_event_times, next_range, next_event_range}
 use Rattle.psl_sugar.specs.declared.operator.Strength.{Strength}
 use Rattle.psl_sugar.specs.declared.operator.Strength.TheVariants as strengths
@@ -10,11 +10,6 @@ use Rattle.psl_sugar.proofs.Sizes.{next_steps_size, until_size, next_event_holds
 use Rattle.psl_lexer.specs.declared.kind.TokenKind.{TokenKind}
 use Rattle.psl_grammar.specs.declared.tree.Count as code_count
 use Rattle.psl_grammar.specs.declared.tree.Count.TheVariants as counts
-use Rattle.psl_elaboration.specs.declared.operator.InfixOperator.{InfixOperator}
-use Rattle.psl_elaboration.specs.declared.operator.InfixOperator.TheVariants as operators
-use Rattle.psl_kernel.specs.Rows.{formula_row, until_row, suffix_row, abort_row}
-use Rattle.psl_kernel.specs.declared.connective.Connective.{Connective}
-use Rattle.psl_kernel.specs.declared.connective.Connective.TheVariants as connectives
 use Rattle.psl_elaboration.specs.Kernel.{next_meaning, event_meaning}
 use Rattle.psl_elaboration.specs.Operators.{strength_of, quantifier_of}
 use Rattle.psl_elaboration.specs.Texts.{number_of}
@@ -49,24 +44,3 @@ pub event_size : (word : TokenKind) (test : Boolean) (count : Option code_count.
 event_size word test None part = one_event_size (strength_of word) test part
 event_size word test (Some (counts.Times times)) part = events_size (strength_of word) test (number_of times) part
 event_size word test (Some (counts.Between low high)) part = event_range_size (quantifier_of word) (strength_of word) test (number_of low) (number_of high) part
-
-pub formula_row_size : (connective : Connective) (left right : Formula) → formula_size left + formula_size right ≤ formula_size (formula_row connective left right)
-formula_row_size connectives.Conjunction left right = omega arith
-formula_row_size connectives.Disjunction left right = omega arith
-formula_row_size connectives.Implication left right = omega arith
-formula_row_size connectives.Equivalence left right = omega arith
-
-pub until_row_size : (operator : InfixOperator) (strength : Strength) (left right : Formula) →
-    formula_size left + formula_size right ≤ formula_size (until_row operator strength left right)
-until_row_size operators.UntilOverlap strength left right = omega (arith, until_size strength left (And left right))
-until_row_size operators.Before strength left right = omega (arith, until_size strength (Not right) (And left (Not right)))
-until_row_size operators.BeforeOverlap strength left right = omega (arith, until_size strength (Not right) left)
-until_row_size _ strength left right = omega (arith, until_size strength left right)
-
-pub suffix_row_size : (operator : InfixOperator) (left : Sequence) (right : Formula) → sequence_size left + formula_size right ≤ formula_size (suffix_row operator left right)
-suffix_row_size operators.SuffixNext left right = omega arith
-suffix_row_size _ left right = omega arith
-
-pub abort_row_size : (operator : InfixOperator) (left : Formula) (right : Boolean) → formula_size left + boolean_size right ≤ formula_size (abort_row operator left right)
-abort_row_size operators.SyncAbort left right = omega arith
-abort_row_size _ left right = omega arith

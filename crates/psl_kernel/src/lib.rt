@@ -3,7 +3,6 @@
 #![tactic(auto)]
 
 mod booleans;
-mod connective;
 mod expressions;
 mod formulas;
 mod meaning;

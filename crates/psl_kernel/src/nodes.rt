@@ -12,16 +12,20 @@ use crate::Meaning;
 use crate::expressions::{Elaborator, Part};
 use crate::formulas::Operation;
 use crate::occurrences::{next_event, next_form};
-use crate::operators::{clocked_in, grouped, infix, prefixed};
+use crate::operators::{
+    aborted, clocked_in, connect, grouped, lasting, prefixed, sequenced, suffixed,
+};
 use crate::repetitions::{alone, optional_count, repeated};
 use crate::scope::declared_meaning;
-use crate::signals::{compared, literal, path_bits, path_edge};
+use crate::signals::{compared, literal, path_edge, text_bits};
 use psl_base::boxed;
 use psl_elaboration::InfixOperator;
 use psl_grammar::{Count, Expression, Path};
-use psl_kinds::operator_before;
 use psl_lexer::Token;
-use psl_names::{NameIndex, edge_of, path_text, prefix_operator, repetition_operator, strength_of};
+use psl_names::{
+    NameIndex, edge_of, operator_before, path_text, prefix_operator, repetition_operator,
+    strength_of,
+};
 use std::alloc::Global;
 
 /// An operator between its operands, as it was written.
@@ -30,17 +34,6 @@ pub(crate) struct Operands<'e> {
     pub left: &'e Expression,
     pub token: &'e Token,
     pub right: &'e Expression,
-}
-
-// Whether an operator is a comparison, and if so, whether it asks for equality.
-fn comparison(operator: InfixOperator) -> Option<bool>
-    ensures { result ≡ rows.comparison operator }
-{
-    match operator {
-        InfixOperator::Equal => Some(true),
-        InfixOperator::Unequal => Some(false),
-        _ => None,
-    }
 }
 
 /// An operator before its operand.
@@ -207,17 +200,22 @@ impl<'s, 'd, 'n> Elaborator<'s, 'd, 'n> {
     ) -> Meaning
         ensures { rows.MeaningsRow (kernel.operated self.now.names.now operation.operator operation.strength operands.entry.left.now operands.entry.right.now) left right result }
     {
-        match comparison(operation.operator) {
-            Some(is_equal) => {
-                Meaning::Boolean(compared(
-                    self.alloc,
-                    self.names,
-                    is_equal,
-                    operands.left,
-                    operands.right,
-                ))
+        let alloc = self.alloc;
+        match operation.operator {
+            InfixOperator::Connective(connective) => connect(alloc, connective, left, right),
+            InfixOperator::Comparison(comparison) => Meaning::Boolean(compared(
+                alloc,
+                self.names,
+                comparison,
+                operands.left,
+                operands.right,
+            )),
+            InfixOperator::Sequence(operator) => sequenced(alloc, operator, left, right),
+            InfixOperator::Suffix(operator) => suffixed(alloc, operator, left, right),
+            InfixOperator::Abort(operator) => aborted(alloc, operator, left, right),
+            InfixOperator::Until(operator) => {
+                lasting(alloc, operator, operation.strength, left, right)
             }
-            None => infix(self.alloc, operation, left, right),
         }
     }
 
@@ -226,15 +224,16 @@ impl<'s, 'd, 'n> Elaborator<'s, 'd, 'n> {
     pub(crate) fn signal(&self, path: &Path, index: &Option<Token>) -> Part
         ensures { IsSignalPart self.now.scope.now self.now.names.now path.now index.now result }
     {
+        let text = path_text(self.alloc, path.as_slice())?;
+        let text = text.as_slice();
         if index.is_none() {
-            let text = path_text(self.alloc, path.as_slice())?;
-            if let Some(meaning) = declared_meaning(self.alloc, self.scope, text.as_slice())? {
+            if let Some(meaning) = declared_meaning(self.alloc, self.scope, text)? {
                 return boxed(self.alloc, meaning);
             }
         }
         boxed(
             self.alloc,
-            Meaning::Boolean(path_bits(self.alloc, self.names, path, index)),
+            Meaning::Boolean(text_bits(self.alloc, self.names, text, index)),
         )
     }
 }

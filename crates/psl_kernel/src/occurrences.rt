@@ -3,7 +3,7 @@ ghost use Rattle.std.specs.Prelude.{◌≡◌};
 ghost use Rattle.psl_elaboration.specs.Kernel as kernel;
 ghost use Rattle.psl_elaboration.specs.Operators as operators;
 ghost use Rattle.psl_elaboration.specs.Texts as texts;
-ghost use Rattle.psl_kernel.specs.Rows.{FormulaRow, FormulaTestRow};
+ghost use Rattle.psl_sugar.specs.Rows.{FormulaRow, FormulaTestRow};
 
 use psl_grammar::Count;
 use psl_lexer::{Token, TokenKind};

@@ -1,18 +1,17 @@
 // Operators on anything.
 ghost use Rattle.psl_elaboration.specs.Kernel as kernel;
 ghost use Rattle.psl_elaboration.specs.declared.operator.PrefixOperator.TheVariants as prefixes;
-ghost use Rattle.psl_kernel.specs.Rows.{ClockRow, MeaningRow, MeaningsRow, ReadFormula, connected, eventual_in, sequenced, suffixed, aborted, lasting};
+ghost use Rattle.psl_kernel.specs.Rows.{ClockRow, MeaningRow, MeaningsRow, ReadFormula, eventual_in};
 
 use crate::Meaning;
-use crate::booleans::{connected_booleans, negated_boolean};
-use crate::connective::Connective;
-use crate::formulas::{
-    Operation, aborted_formula, clocked_formula, connected_formulas, prefixed_formula,
-    suffix_formula, until_formulas,
+use crate::booleans::negated_boolean;
+use crate::formulas::{clocked_formula, prefixed_formula};
+use crate::sequences::clocked_sequence;
+use psl_elaboration::PrefixOperator;
+use psl_sugar::{
+    AbortOperator, Connective, MeasuredBool, MeasuredFl, MeasuredSere, SequenceOperator, Strength,
+    SuffixOperator, SugarFault, UntilOperator,
 };
-use crate::sequences::{clocked_sequence, in_sequence};
-use psl_elaboration::{InfixOperator, PrefixOperator};
-use psl_sugar::{MeasuredBool, MeasuredFl, Strength, SugarFault};
 use std::alloc::Global;
 
 // As a property of which `never` or `eventually!` speaks: a sequence is strong there.
@@ -55,80 +54,77 @@ pub(crate) fn prefixed(
     Meaning::Property(prefixed_formula(alloc, operator, strength, part))
 }
 
-// An operator of Booleans and of properties.
-fn connect(alloc: Global, connective: Connective, left: Meaning, right: Meaning) -> Meaning
-    ensures { MeaningsRow (connected connective) left right result }
+/// A connective: of Booleans if both operands are, else of properties.
+pub(crate) fn connect(
+    alloc: Global,
+    connective: Connective,
+    left: Meaning,
+    right: Meaning,
+) -> Meaning
+    ensures { MeaningsRow (kernel.connected connective) left right result }
 {
     match (left, right) {
         (Meaning::Boolean(left), Meaning::Boolean(right)) => {
-            Meaning::Boolean(connected_booleans(alloc, connective, left, right))
+            Meaning::Boolean(MeasuredBool::connected(alloc, connective, left, right))
         }
         (left, right) => {
             let (left, right) = (left.into_formula(), right.into_formula());
-            Meaning::Property(connected_formulas(alloc, connective, left, right))
+            Meaning::Property(MeasuredFl::connected(alloc, connective, left, right))
         }
     }
 }
 
-// An operator of sequences.
-fn sequenced(alloc: Global, operator: InfixOperator, left: Meaning, right: Meaning) -> Meaning
-    ensures { MeaningsRow (sequenced operator) left right result }
+/// An operator of sequences.
+pub(crate) fn sequenced(
+    alloc: Global,
+    operator: SequenceOperator,
+    left: Meaning,
+    right: Meaning,
+) -> Meaning
+    ensures { MeaningsRow (kernel.sequenced operator) left right result }
 {
     let (left, right) = (left.into_sequence(), right.into_sequence());
-    Meaning::Sequence(in_sequence(alloc, operator, left, right))
+    Meaning::Sequence(MeasuredSere::joined(alloc, operator, left, right))
 }
 
-// A suffix implication.
-fn suffixed(alloc: Global, operator: InfixOperator, left: Meaning, right: Meaning) -> Meaning
-    ensures { MeaningsRow (suffixed operator) left right result }
+/// A suffix implication.
+pub(crate) fn suffixed(
+    alloc: Global,
+    operator: SuffixOperator,
+    left: Meaning,
+    right: Meaning,
+) -> Meaning
+    ensures { MeaningsRow (kernel.suffixed operator) left right result }
 {
     let (left, right) = (left.into_sequence(), right.into_formula());
-    Meaning::Property(suffix_formula(alloc, operator, left, right))
+    Meaning::Property(MeasuredFl::suffixed(alloc, operator, left, right))
 }
 
-// An abort.
-fn aborted(alloc: Global, operator: InfixOperator, left: Meaning, right: Meaning) -> Meaning
-    ensures { MeaningsRow (aborted operator) left right result }
+/// An abort.
+pub(crate) fn aborted(
+    alloc: Global,
+    operator: AbortOperator,
+    left: Meaning,
+    right: Meaning,
+) -> Meaning
+    ensures { MeaningsRow (kernel.aborted operator) left right result }
 {
     let (left, right) = (left.into_formula(), right.into_boolean());
-    Meaning::Property(aborted_formula(alloc, operator, left, right))
+    Meaning::Property(MeasuredFl::aborted(alloc, operator, left, right))
 }
 
-// An operator of properties that is strong or weak.
-fn lasting(alloc: Global, operation: Operation, left: Meaning, right: Meaning) -> Meaning
-    ensures { MeaningsRow (lasting operation.operator operation.strength) left right result }
+/// An operator of properties that is strong or weak.
+pub(crate) fn lasting(
+    alloc: Global,
+    operator: UntilOperator,
+    strength: Strength,
+    left: Meaning,
+    right: Meaning,
+) -> Meaning
+    ensures { MeaningsRow (kernel.lasting operator strength) left right result }
 {
     let (left, right) = (left.into_formula(), right.into_formula());
-    Meaning::Property(until_formulas(alloc, operation, left, right))
-}
-
-/// An operator between its operands that is no comparison.
-pub(crate) fn infix(alloc: Global, operation: Operation, left: Meaning, right: Meaning) -> Meaning
-    ensures { MeaningsRow (kernel.infix_meaning operation.operator operation.strength) left right result }
-{
-    let operator = operation.operator;
-    match operator {
-        InfixOperator::Conjunction => connect(alloc, Connective::Conjunction, left, right),
-        InfixOperator::Disjunction => connect(alloc, Connective::Disjunction, left, right),
-        InfixOperator::Implication => connect(alloc, Connective::Implication, left, right),
-        InfixOperator::Equivalence => connect(alloc, Connective::Equivalence, left, right),
-        InfixOperator::Equal => Meaning::Boolean(Ok(MeasuredBool::constant(false))),
-        InfixOperator::Unequal => Meaning::Boolean(Ok(MeasuredBool::constant(false))),
-        InfixOperator::Concatenation => sequenced(alloc, operator, left, right),
-        InfixOperator::Fusion => sequenced(alloc, operator, left, right),
-        InfixOperator::Alternative => sequenced(alloc, operator, left, right),
-        InfixOperator::SameLength => sequenced(alloc, operator, left, right),
-        InfixOperator::AnyLength => sequenced(alloc, operator, left, right),
-        InfixOperator::Within => sequenced(alloc, operator, left, right),
-        InfixOperator::Suffix => suffixed(alloc, operator, left, right),
-        InfixOperator::SuffixNext => suffixed(alloc, operator, left, right),
-        InfixOperator::Abort => aborted(alloc, operator, left, right),
-        InfixOperator::SyncAbort => aborted(alloc, operator, left, right),
-        InfixOperator::Until => lasting(alloc, operation, left, right),
-        InfixOperator::UntilOverlap => lasting(alloc, operation, left, right),
-        InfixOperator::Before => lasting(alloc, operation, left, right),
-        InfixOperator::BeforeOverlap => lasting(alloc, operation, left, right),
-    }
+    Meaning::Property(MeasuredFl::lasting(alloc, operator, strength, left, right))
 }
 
 /// What stands in round brackets.

@@ -3,7 +3,8 @@ ghost use Rattle.std.specs.Prelude.{◌≡◌};
 ghost use Rattle.psl_sugar.specs.Budget.{GivesSequence};
 ghost use Rattle.psl_sugar.specs.Sequences.{plus, any_letter};
 ghost use Rattle.psl_elaboration.specs.Kernel as kernel;
-ghost use Rattle.psl_kernel.specs.Rows.{LetterRow, ReadSequence, SequenceRow, star_row, goto_row, occurrences_row};
+ghost use Rattle.psl_sugar.specs.Rows.{LetterRow, SequenceRow};
+ghost use Rattle.psl_kernel.specs.Rows.{ReadSequence, star_row, goto_row, occurrences_row};
 
 use crate::Meaning;
 use psl_elaboration::RepetitionOperator;

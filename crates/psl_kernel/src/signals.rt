@@ -2,7 +2,7 @@
 ghost use Rattle.std.specs.Prelude.{◌≡◌, ◌+◌, ◌<◌, ◌≤◌, ◌^◌, IfOk, IfErr};
 ghost use Rattle.psl_sugar.specs.Budget.{GivesBoolean};
 ghost use Rattle.psl_elaboration.specs.Kernel as kernel;
-ghost use Rattle.psl_elaboration.specs.LookUp.{reference as spec_reference};
+ghost use Rattle.psl_elaboration.specs.LookUp as spec;
 ghost use Rattle.psl_elaboration.specs.Texts.{literal_value as spec_value};
 ghost use Rattle.psl_elaboration.specs.declared.found.Reference.TheVariants as references;
 ghost use Rattle.psl_kernel.specs.Placed.{IsPlaced};
@@ -11,22 +11,22 @@ use psl_base::NoMemory;
 use psl_elaboration::Reference;
 use psl_grammar::{Expression, Path};
 use psl_lexer::{Token, TokenKind};
-use psl_names::{NameIndex, literal_value, reference};
-use psl_sugar::{MeasuredBool, SugarFault, Vector};
+use psl_names::{NameIndex, index_number, literal_value, path_text, reference, refers_to};
+use psl_sugar::{Comparison, MeasuredBool, SugarFault, Vector};
 use psl_tree::{Atom, Edge, MOST_CONSTRUCTORS};
 use std::alloc::Global;
 
-// What a path stands for as a signal, perhaps with an index.
+// What a text stands for as a signal, perhaps with an index.
 fn referred(
     alloc: Global,
     names: &NameIndex,
-    path: &Path,
+    text: &[u8],
     index: &Option<Token>,
 ) -> Result<Reference, NoMemory>
-    ensures is { IfOk result (λ found. found ≡ spec_reference names.now path.now index.now) }
+    ensures is { IfOk result (λ found. found ≡ spec.refers_to names.now text.now (spec.index_number index.now)) }
     ensures placed { IfOk result IsPlaced }
 {
-    let found = reference(alloc, names, path.as_slice(), index)?;
+    let found = refers_to(alloc, names, text, index_number(index))?;
     Ok(found)
 }
 
@@ -66,12 +66,12 @@ fn some_bit(alloc: Global, found: Reference) -> Result<MeasuredBool, SugarFault>
 // A comparison of bits with a value.
 fn compared_bits(
     alloc: Global,
-    is_equal: bool,
+    comparison: Comparison,
     found: Reference,
     value: u64,
 ) -> Result<MeasuredBool, SugarFault>
     requires { IsPlaced found }
-    ensures { GivesBoolean result (kernel.compared_bits is_equal found value) }
+    ensures { GivesBoolean result (kernel.compared_bits comparison found value) }
 {
     let Reference::Bits {
         signal,
@@ -82,48 +82,45 @@ fn compared_bits(
         return Ok(MeasuredBool::constant(false));
     };
     let vector = vector(signal, lowest, width)?;
-    if is_equal {
-        MeasuredBool::equality(alloc, vector, value)
-    } else {
-        MeasuredBool::inequality(alloc, vector, value)
-    }
+    MeasuredBool::compared(alloc, comparison, vector, value)
 }
 
 // A comparison of a path with a number or a constant.
 fn compared_path(
     alloc: Global,
     names: &NameIndex,
-    is_equal: bool,
+    comparison: Comparison,
     path: &Path,
     index: &Option<Token>,
     token: &Token,
 ) -> Result<MeasuredBool, SugarFault>
-    ensures { GivesBoolean result (kernel.compared_bits is_equal (spec_reference names.now path.now index.now) (spec_value token.now)) }
+    ensures { GivesBoolean result (kernel.compared_bits comparison (spec.reference names.now path.now index.now) (spec_value token.now)) }
 {
-    let found = referred(alloc, names, path, index)?;
-    compared_bits(alloc, is_equal, found, literal_value(token))
+    let text = path_text(alloc, path.as_slice())?;
+    let found = referred(alloc, names, text.as_slice(), index)?;
+    compared_bits(alloc, comparison, found, literal_value(token))
 }
 
-/// A comparison: `==`, or `!=`.
+/// A comparison.
 pub(crate) fn compared(
     alloc: Global,
     names: &NameIndex,
-    is_equal: bool,
+    comparison: Comparison,
     x: &Expression,
     y: &Expression,
 ) -> Result<MeasuredBool, SugarFault>
-    ensures { GivesBoolean result (kernel.compared names.now is_equal x.now y.now) }
+    ensures { GivesBoolean result (kernel.compared names.now comparison x.now y.now) }
 {
     match x {
         Expression::Signal(path, index) => match y {
             Expression::Literal(token) => {
-                compared_path(alloc, names, is_equal, path, index, token)
+                compared_path(alloc, names, comparison, path, index, token)
             }
             _ => Ok(MeasuredBool::constant(false)),
         },
         Expression::Literal(token) => match y {
             Expression::Signal(path, index) => {
-                compared_path(alloc, names, is_equal, path, index, token)
+                compared_path(alloc, names, comparison, path, index, token)
             }
             _ => Ok(MeasuredBool::constant(false)),
         },
@@ -131,16 +128,16 @@ pub(crate) fn compared(
     }
 }
 
-/// A path as a Boolean.
-pub(crate) fn path_bits(
+/// The text of a path, perhaps with an index, as a Boolean.
+pub(crate) fn text_bits(
     alloc: Global,
     names: &NameIndex,
-    path: &Path,
+    text: &[u8],
     index: &Option<Token>,
 ) -> Result<MeasuredBool, SugarFault>
-    ensures { GivesBoolean result (kernel.bits_meaning (spec_reference names.now path.now index.now)) }
+    ensures { GivesBoolean result (kernel.bits_meaning (spec.refers_to names.now text.now (spec.index_number index.now))) }
 {
-    let found = referred(alloc, names, path, index)?;
+    let found = referred(alloc, names, text, index)?;
     some_bit(alloc, found)
 }
 
@@ -166,7 +163,7 @@ pub(crate) fn path_edge(
     path: &Path,
     index: &Option<Token>,
 ) -> Result<MeasuredBool, SugarFault>
-    ensures { GivesBoolean result (kernel.edge_meaning edge (spec_reference names.now path.now index.now)) }
+    ensures { GivesBoolean result (kernel.edge_meaning edge (spec.reference names.now path.now index.now)) }
 {
     let found = reference(alloc, names, path.as_slice(), index)?;
     Ok(edge_of_bit(edge, found))

@@ -10,15 +10,17 @@ use Rattle.psl_elaboration.specs.declared.operator.InfixOperator.{InfixOperator}
 use Rattle.psl_elaboration.specs.Flaws.{expression_flaws, is_comparison, side_flaws, side_of, infix_flaws}
 use Rattle.psl_elaboration.specs.Kinds.{kind_of, place_of}
 
--- its kind, the place of its first token and its first fault, after the statements before it, in a sere or outside of one
+-- its kind, the place of its first token, what it is as a side of a comparison, and its first fault, after the
+-- statements before it, in a sere or outside of one
 pub record IsChecked (scope : List code_statement.Statement) (names : List Name) (in_sere : Truth) (x : code_expression.Expression) (checked : Checked) : Type 0 where
   pub kind : checked.kind ≡ kind_of scope in_sere x
   pub place : checked.place ≡ place_of x
+  pub side : checked.side ≡ side_of scope names x
   pub flaw : checked.flaw ≡ first_of (expression_flaws scope names in_sere x)
 
 -- the faults of an operator between its operands, without those of the operands
-abbrev pub own_flaws : List code_statement.Statement → List Name → Truth → InfixOperator → code_expression.Expression → Checked → code_expression.Expression → Checked → List Flaw
-own_flaws scope names in_sere operator left left_checked right right_checked =
+abbrev pub own_flaws : Truth → InfixOperator → Checked → Checked → List Flaw
+own_flaws in_sere operator left right =
     if is_comparison operator
-    then side_flaws (side_of scope names left) (side_of scope names right) left_checked.place
-    else infix_flaws in_sere operator left_checked.kind left_checked.place right_checked.kind right_checked.place
+    then side_flaws left.side right.side left.place
+    else infix_flaws in_sere operator left.kind left.place right.kind right.place

@@ -1,18 +1,16 @@
 // The sides of comparisons.
-ghost use Rattle.std.specs.Prelude.{◌≡◌, ◌≤◌, ◌^◌, nat_le, IfOk};
+ghost use Rattle.std.specs.Prelude.{◌≡◌, ◌≤◌, ◌^◌, nat_le};
 ghost use Rattle.psl_elaboration.specs.FirstFlaw.{first_of};
 ghost use Rattle.psl_elaboration.specs.Flaws as spec;
 
-use crate::checker::Checker;
 use crate::wants::flaw_where;
-use psl_base::{NoMemory, Place};
+use psl_base::Place;
 use psl_elaboration::{Cause, Flaw, InfixOperator, Reference, Side};
-use psl_grammar::Expression;
 use psl_lexer::{Token, TokenKind};
 use psl_names::literal_value;
 
-// One side of a comparison that is a number, a constant, `true` or `false`.
-fn literal_side(token: &Token) -> Side
+/// One side of a comparison that is a number, a constant, `true` or `false`.
+pub(crate) fn literal_side(token: &Token) -> Side
     ensures { result ≡ spec.literal_side token.now.kind token.now }
 {
     match token.kind {
@@ -51,32 +49,9 @@ pub(crate) fn side_flaw(left: Side, right: Side, left_place: Place) -> Option<Fl
     }
 }
 
-/// Whether an operator is `==` or `!=`.
+/// Whether an operator is a comparison.
 pub(crate) fn is_comparison(operator: InfixOperator) -> bool
     ensures { result ≡ spec.is_comparison operator }
 {
-    matches!(operator, InfixOperator::Equal | InfixOperator::Unequal)
-}
-
-impl Checker<'_, '_, '_, '_, '_> {
-    /// One side of a comparison.
-    pub(crate) fn side_of(&self, x: &Expression) -> Result<Side, NoMemory>
-        ensures { IfOk result (λ side. side ≡ spec.side_of self.now.scope.now self.now.names.now x.now) }
-    {
-        match x {
-            Expression::Signal(path, index) => self.signal_side(path.as_slice(), index),
-            Expression::Literal(token) => Ok(literal_side(token)),
-            _ => Ok(Side::Neither),
-        }
-    }
-
-    // One side of a comparison that is a path.
-    fn signal_side(&self, path: &[Token], index: &Option<Token>) -> Result<Side, NoMemory>
-        ensures { IfOk result (λ side. side ≡ spec.signal_side self.now.scope.now self.now.names.now path.now index.now) }
-    {
-        if self.is_declared_whole(path, index)? {
-            return Ok(Side::Neither);
-        }
-        Ok(Side::Bits(self.refers_in(path, index)?))
-    }
+    matches!(operator, InfixOperator::Comparison(_))
 }

@@ -19,7 +19,7 @@ pub(crate) fn prefix_flaw(in_sere: bool, operator: PrefixOperator, x: Checked) -
     }
 }
 
-// The first fault of the operands of `&&` or `||`.
+// The first fault of the operands of a connective.
 fn logical_flaw(in_sere: bool, left: Checked, right: Checked) -> Option<Flaw>
     ensures { result ≡ first_of (spec.logical_flaws in_sere left.kind left.place right.kind right.place) }
 {
@@ -53,25 +53,11 @@ pub(crate) fn infix_flaw(
     ensures { result ≡ first_of (spec.infix_flaws in_sere operator left.kind left.place right.kind right.place) }
 {
     match operator {
-        InfixOperator::Conjunction | InfixOperator::Disjunction => logical_flaw(
-            in_sere, left, right,
-        ),
-        InfixOperator::Implication
-        | InfixOperator::Equivalence
-        | InfixOperator::Equal
-        | InfixOperator::Unequal
-        | InfixOperator::Until
-        | InfixOperator::UntilOverlap
-        | InfixOperator::Before
-        | InfixOperator::BeforeOverlap => None,
-        InfixOperator::Concatenation
-        | InfixOperator::Fusion
-        | InfixOperator::Alternative
-        | InfixOperator::SameLength
-        | InfixOperator::AnyLength
-        | InfixOperator::Within => element_flaw(left, right),
-        InfixOperator::Suffix | InfixOperator::SuffixNext => wants_sequence(left.kind, left.place),
-        InfixOperator::Abort | InfixOperator::SyncAbort => wants_boolean(right.kind, right.place),
+        InfixOperator::Connective(_) => logical_flaw(in_sere, left, right),
+        InfixOperator::Comparison(_) | InfixOperator::Until(_) => None,
+        InfixOperator::Sequence(_) => element_flaw(left, right),
+        InfixOperator::Suffix(_) => wants_sequence(left.kind, left.place),
+        InfixOperator::Abort(_) => wants_boolean(right.kind, right.place),
     }
 }
 

@@ -4,13 +4,14 @@ ghost use Rattle.psl_kinds.specs.CheckedBy.{IsChecked};
 
 use crate::checked::Checked;
 use crate::checker::Checker;
-use crate::infix::paired;
+use crate::infix::joined;
 use crate::parts::{
     braced, clocked, grouped, literal, next_event, next_times, postfixed, prefixed, repeated,
     repetition,
 };
 use psl_base::NoMemory;
 use psl_grammar::Expression;
+use psl_names::operator_before;
 
 impl Checker<'_, '_, '_, '_, '_> {
     /// The kind of an expression, the place of its first token and its first fault, after the statements before it in its
@@ -25,10 +26,10 @@ impl Checker<'_, '_, '_, '_, '_> {
                 Ok(prefixed(in_sere, operator, x))
             }
             Expression::Infix(left, operator, right) => {
-                let left_checked = self.check(in_sere, left)?;
-                let right_checked = self.check(in_sere, right)?;
-                let operands = paired(left, right, left_checked, right_checked);
-                self.joined(in_sere, operator, operands)
+                let operator = operator_before(in_sere, operator.kind, right);
+                let left = self.check(in_sere, left)?;
+                let right = self.check(in_sere, right)?;
+                Ok(joined(in_sere, operator, left, right))
             }
             Expression::Postfix(x, _) => Ok(postfixed(self.check(in_sere, x)?)),
             Expression::Repeated(x, opening, count) => {

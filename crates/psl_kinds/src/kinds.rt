@@ -50,25 +50,12 @@ pub(crate) fn infix_kind(
     ensures { result ≡ spec.infix_kind in_sere operator left right }
 {
     match operator {
-        InfixOperator::Conjunction
-        | InfixOperator::Disjunction
-        | InfixOperator::Implication
-        | InfixOperator::Equivalence => logical_kind(in_sere, left, right),
-        InfixOperator::Equal | InfixOperator::Unequal => ExpressionKind::Boolean,
-        InfixOperator::Concatenation
-        | InfixOperator::Fusion
-        | InfixOperator::Alternative
-        | InfixOperator::SameLength
-        | InfixOperator::AnyLength
-        | InfixOperator::Within => ExpressionKind::Sequence,
-        InfixOperator::Suffix
-        | InfixOperator::SuffixNext
-        | InfixOperator::Abort
-        | InfixOperator::SyncAbort
-        | InfixOperator::Until
-        | InfixOperator::UntilOverlap
-        | InfixOperator::Before
-        | InfixOperator::BeforeOverlap => ExpressionKind::Property,
+        InfixOperator::Connective(_) => logical_kind(in_sere, left, right),
+        InfixOperator::Comparison(_) => ExpressionKind::Boolean,
+        InfixOperator::Sequence(_) => ExpressionKind::Sequence,
+        InfixOperator::Suffix(_) | InfixOperator::Abort(_) | InfixOperator::Until(_) => {
+            ExpressionKind::Property
+        }
     }
 }
 

@@ -17,5 +17,4 @@ mod statements;
 mod texts;
 mod wants;
 
-pub use shapes::operator_before;
 pub use texts::first_flaw;

@@ -1,11 +1,11 @@
 // Paths, as declared names and as signals.
-ghost use Rattle.std.specs.Prelude.{◌≡◌, ◌&&◌, IfOk};
+ghost use Rattle.std.specs.Prelude.{◌≡◌, ◌&&◌, ◌++◌, IfOk};
 ghost use Rattle.psl_elaboration.specs.FirstFlaw.{first_of};
 ghost use Rattle.psl_elaboration.specs.Flaws as spec;
-ghost use Rattle.psl_elaboration.specs.Kinds.{declared_as, signal_kind, path_place};
-ghost use Rattle.psl_elaboration.specs.Texts.{path_text};
-ghost use Rattle.psl_elaboration.specs.declared.kind.ExpressionKind.TheVariants as kinds;
-ghost use Rattle.std.specs.Option.{is_none};
+ghost use Rattle.psl_elaboration.specs.Kinds as kinds;
+ghost use Rattle.psl_elaboration.specs.declared.found.Side.TheVariants as sides;
+ghost use Rattle.psl_elaboration.specs.declared.kind.ExpressionKind.TheVariants as variants;
+ghost use Rattle.std.specs.Option.{is_none, is_some};
 
 use crate::checked::Checked;
 use crate::checker::Checker;
@@ -13,9 +13,9 @@ use crate::order::earlier;
 use crate::shapes::path_place;
 use crate::wants::flaw_where;
 use psl_base::{NoMemory, Place};
-use psl_elaboration::{Cause, ExpressionKind, Flaw, Reference};
+use psl_elaboration::{Cause, ExpressionKind, Flaw, Reference, Side};
 use psl_lexer::Token;
-use psl_names::{declared_as, path_text, reference};
+use psl_names::resolve_path;
 
 // The fault of a path that stands for nothing, or for several signals.
 fn reference_flaw(reference: Reference, place: Place) -> Option<Flaw>
@@ -38,90 +38,74 @@ fn width_flaw(reference: Reference, place: Place) -> Option<Flaw>
     }
 }
 
+// The first fault of a path that has to stand for one bit.
+#[tactic(auto, using(crate::proofs::Firsts::of_both))]
+fn bit_flaw(reference: Reference, place: Place) -> Option<Flaw>
+    ensures { result ≡ first_of (spec.reference_flaws reference place ++ spec.width_flaws reference place) }
+{
+    earlier(
+        reference_flaw(reference, place),
+        width_flaw(reference, place),
+    )
+}
+
+// Whether a path without an index is declared.
+fn is_whole(declared: Option<ExpressionKind>, index: &Option<Token>) -> bool
+    ensures { result ≡ (is_some declared && is_none index.now) }
+{
+    declared.is_some() && index.is_none()
+}
+
+// The kind of a path by what it is declared as.
+fn kind_as(declared: Option<ExpressionKind>, index: &Option<Token>) -> ExpressionKind
+    ensures { result ≡ kinds.kind_as declared index.now }
+{
+    match index {
+        Some(_) => ExpressionKind::Boolean,
+        None => match declared {
+            Some(kind) => kind,
+            None => ExpressionKind::Boolean,
+        },
+    }
+}
+
 impl Checker<'_, '_, '_, '_, '_> {
-    // The kind of a path, if a statement declares it.
-    fn declared(&self, path: &[Token]) -> Result<Option<ExpressionKind>, NoMemory>
-        ensures { IfOk result (λ kind. kind ≡ declared_as self.now.scope.now (path_text path.now)) }
+    /// A path, perhaps with an index.
+    pub(crate) fn signal(&self, path: &[Token], index: &Option<Token>) -> Result<Checked, NoMemory>
+        ensures kind { IfOk result (λ checked. checked.kind ≡ kinds.signal_kind self.now.scope.now path.now index.now) }
+        ensures place { IfOk result (λ checked. checked.place ≡ kinds.path_place path.now) }
+        ensures side { IfOk result (λ checked. checked.side ≡ spec.signal_side self.now.scope.now self.now.names.now path.now index.now) }
+        ensures flaw { IfOk result (λ checked. checked.flaw ≡ first_of (spec.signal_flaws self.now.scope.now self.now.names.now path.now index.now)) }
     {
-        let text = path_text(self.alloc, path)?;
-        Ok(declared_as(self.scope, text.as_slice()))
-    }
-
-    /// What a path that is no declared name stands for.
-    pub(crate) fn refers_in(
-        &self,
-        path: &[Token],
-        index: &Option<Token>,
-    ) -> Result<Reference, NoMemory>
-        ensures { IfOk result (λ reference. reference ≡ spec.refers_in self.now.scope.now self.now.names.now path.now index.now) }
-    {
-        match self.declared(path)? {
-            Some(_) => Ok(Reference::Nothing),
-            None => reference(self.alloc, self.names, path, index),
+        let found = resolve_path(self.alloc, self.scope, self.names, path, index)?;
+        let place = path_place(path);
+        let kind = kind_as(found.declared, index);
+        if is_whole(found.declared, index) {
+            return Ok(Checked {
+                kind,
+                place,
+                side: Side::Neither,
+                flaw: None,
+            });
         }
-    }
-
-    /// Whether a path without an index stands for a declared sequence or property.
-    pub(crate) fn is_declared_whole(
-        &self,
-        path: &[Token],
-        index: &Option<Token>,
-    ) -> Result<bool, NoMemory>
-        ensures { IfOk result (λ is. is ≡ (spec.is_declared self.now.scope.now path.now && is_none index.now)) }
-    {
-        Ok(self.declared(path)?.is_some() && index.is_none())
-    }
-
-    // The kind of a path.
-    fn signal_kind(&self, path: &[Token], index: &Option<Token>) -> Result<ExpressionKind, NoMemory>
-        ensures { IfOk result (λ kind. kind ≡ signal_kind self.now.scope.now path.now index.now) }
-    {
-        match index {
-            Some(_) => Ok(ExpressionKind::Boolean),
-            None => match self.declared(path)? {
-                Some(kind) => Ok(kind),
-                None => Ok(ExpressionKind::Boolean),
-            },
-        }
-    }
-
-    // The fault of a path.
-    fn signal_flaw(&self, path: &[Token], index: &Option<Token>) -> Result<Option<Flaw>, NoMemory>
-        ensures { IfOk result (λ flaw. flaw ≡ first_of (spec.signal_flaws self.now.scope.now self.now.names.now path.now index.now)) }
-    {
-        if self.is_declared_whole(path, index)? {
-            return Ok(None);
-        }
-        let reference = self.refers_in(path, index)?;
-        Ok(reference_flaw(reference, path_place(path)))
+        Ok(Checked {
+            kind,
+            place,
+            side: Side::Bits(found.reference),
+            flaw: reference_flaw(found.reference, place),
+        })
     }
 
     // The first fault of an edge.
     fn edge_flaw(&self, path: &[Token], index: &Option<Token>) -> Result<Option<Flaw>, NoMemory>
         ensures { IfOk result (λ flaw. flaw ≡ first_of (spec.edge_flaws self.now.scope.now self.now.names.now path.now index.now)) }
     {
+        let found = resolve_path(self.alloc, self.scope, self.names, path, index)?;
         let place = path_place(path);
-        if self.is_declared_whole(path, index)? {
+        if is_whole(found.declared, index) {
             return Ok(flaw_where(true, Cause::Kind, place));
         }
-        let reference = self.refers_in(path, index)?;
-        Ok(earlier(
-            reference_flaw(reference, place),
-            width_flaw(reference, place),
-        ))
-    }
-
-    /// A path, perhaps with an index.
-    pub(crate) fn signal(&self, path: &[Token], index: &Option<Token>) -> Result<Checked, NoMemory>
-        ensures kind { IfOk result (λ checked. checked.kind ≡ signal_kind self.now.scope.now path.now index.now) }
-        ensures place { IfOk result (λ checked. checked.place ≡ path_place path.now) }
-        ensures flaw { IfOk result (λ checked. checked.flaw ≡ first_of (spec.signal_flaws self.now.scope.now self.now.names.now path.now index.now)) }
-    {
-        Ok(Checked {
-            kind: self.signal_kind(path, index)?,
-            place: path_place(path),
-            flaw: self.signal_flaw(path, index)?,
-        })
+        Ok(bit_flaw(found.reference, place))
     }
 
     /// An edge: its word, and a path, perhaps with an index.
@@ -131,13 +115,15 @@ impl Checker<'_, '_, '_, '_, '_> {
         path: &[Token],
         index: &Option<Token>,
     ) -> Result<Checked, NoMemory>
-        ensures kind { IfOk result (λ checked. checked.kind ≡ kinds.Boolean) }
+        ensures kind { IfOk result (λ checked. checked.kind ≡ variants.Boolean) }
         ensures place { IfOk result (λ checked. checked.place ≡ word.now.place) }
+        ensures side { IfOk result (λ checked. checked.side ≡ sides.Neither) }
         ensures flaw { IfOk result (λ checked. checked.flaw ≡ first_of (spec.edge_flaws self.now.scope.now self.now.names.now path.now index.now)) }
     {
         Ok(Checked {
             kind: ExpressionKind::Boolean,
             place: word.place,
+            side: Side::Neither,
             flaw: self.edge_flaw(path, index)?,
         })
     }

@@ -3,9 +3,10 @@ use Rattle.std.proofs.Common.{◌≡◌, ℕ, ◌+◌, ◌-◌, ◌<◌, ◌≤�
 use Rattle.psl_lexer.specs.declared.token.Token.{Token}
 use Rattle.psl_grammar.specs.declared.tree.Expression as code_expression
 use Rattle.psl_grammar.specs.declared.tree.Expression.TheVariants as expressions
-use Rattle.psl_layer_laws.proofs.RangedBooleans as booleans
+use Rattle.psl_sugar.proofs.RangedBooleans as booleans
 use Rattle.psl_layer_laws.proofs.RangedLookUp.{AreBits, InRange, reference-has}
-use Rattle.psl_layer_laws.proofs.RangedOperators.{MeaningHas, NamedHave, boolean-has, sequence-has, formula-has, strong-has, prefix-has, infix-has, literal-has, repeated-has, alone-has, clocked-in-has, grouped-has, next-form-has, event-form-has, declared-has}
+use Rattle.psl_layer_laws.proofs.RangedOperators.{MeaningHas, NamedHave, boolean-has, sequence-has, formula-has, strong-has, prefix-has, connected-has, sequenced-has, suffixed-has, aborted-has, lasting-has, literal-has, repeated-has, alone-has, clocked-in-has, grouped-has, next-form-has, event-form-has, declared-has}
+use Rattle.psl_sugar.proofs.RowLaws.{comparison-row-has}
 use Rattle.psl_elaboration.specs.declared.found.Reference.{Reference}
 use Rattle.psl_elaboration.specs.declared.found.Reference.TheVariants as references
 use Rattle.psl_elaboration.specs.declared.operator.InfixOperator.{InfixOperator}
@@ -16,6 +17,7 @@ use Rattle.psl_elaboration.specs.LookUp.{reference}
 use Rattle.psl_elaboration.specs.Operators.{prefix_operator, repetition_operator, strength_of, edge_of}
 use Rattle.psl_elaboration.specs.Texts.{path_text, literal_value}
 use Rattle.psl_sugar.specs.Booleans.{bit_of as bit_of_vector}
+use Rattle.psl_sugar.specs.declared.comparison.Comparison.{Comparison}
 use Rattle.psl_sugar.specs.declared.operator.Strength.{Strength}
 use Rattle.psl_tree.specs.Atoms.{AtomsOfBoolean}
 use Rattle.psl_tree.specs.Names.{indices, AtomInRange, AreAlike}
@@ -38,15 +40,11 @@ module _ (names : List Name) (alike : AreAlike names) where
   bits-have references.Several h = tt
   bits-have (references.Bits signal lowest width) h = booleans.some-has (AtomInRange names) (vector signal lowest width) (each-bit signal lowest width h)
 
-  compared-bits-have : (is_equal : Bool) (found : Reference) (value : ℕ) → InRange names found → AtomsOfBoolean (AtomInRange names) (compared_bits is_equal found value)
-  compared-bits-have true references.Nothing value h = tt
-  compared-bits-have false references.Nothing value h = tt
-  compared-bits-have true references.Several value h = tt
-  compared-bits-have false references.Several value h = tt
-  compared-bits-have true (references.Bits signal lowest width) value h =
-      booleans.equality-has (AtomInRange names) (vector signal lowest width) (each-bit signal lowest width h) value
-  compared-bits-have false (references.Bits signal lowest width) value h =
-      booleans.inequality-has (AtomInRange names) (vector signal lowest width) (each-bit signal lowest width h) value
+  compared-bits-have : (comparison : Comparison) (found : Reference) (value : ℕ) → InRange names found → AtomsOfBoolean (AtomInRange names) (compared_bits comparison found value)
+  compared-bits-have comparison references.Nothing value h = tt
+  compared-bits-have comparison references.Several value h = tt
+  compared-bits-have comparison (references.Bits signal lowest width) value h =
+      comparison-row-has (AtomInRange names) comparison (vector signal lowest width) value (each-bit signal lowest width h)
 
   edge-has : (edge : atom_edge.Edge) (found : Reference) → InRange names found → AtomsOfBoolean (AtomInRange names) (edge_meaning edge found)
   edge-has edge references.Nothing h = tt
@@ -60,18 +58,21 @@ module _ (names : List Name) (alike : AreAlike names) where
       inside : (count : ℕ) → lowest + width ≤ count → lowest < count
       inside count le = let some : 1 ≤ width = bits.some in omega arith
 
-  compared-has : (is_equal : Bool) (x y : code_expression.Expression) → AtomsOfBoolean (AtomInRange names) (compared names is_equal x y)
-  compared-has is_equal (expressions.Signal path index) (expressions.Literal token) =
-      compared-bits-have is_equal (reference names path index) (literal_value token) (reference-has names alike path index)
-  compared-has is_equal (expressions.Literal token) (expressions.Signal path index) =
-      compared-bits-have is_equal (reference names path index) (literal_value token) (reference-has names alike path index)
-  compared-has is_equal _ _ = tt
+  compared-has : (comparison : Comparison) (x y : code_expression.Expression) → AtomsOfBoolean (AtomInRange names) (compared names comparison x y)
+  compared-has comparison (expressions.Signal path index) (expressions.Literal token) =
+      compared-bits-have comparison (reference names path index) (literal_value token) (reference-has names alike path index)
+  compared-has comparison (expressions.Literal token) (expressions.Signal path index) =
+      compared-bits-have comparison (reference names path index) (literal_value token) (reference-has names alike path index)
+  compared-has comparison _ _ = tt
 
   operated-has : (operator : InfixOperator) (strength : Strength) (x y : code_expression.Expression) (left right : Meaning)
       → MeaningHas (AtomInRange names) left → MeaningHas (AtomInRange names) right → MeaningHas (AtomInRange names) (operated names operator strength x y left right)
-  operated-has operators.Equal strength x y left right h k = compared-has true x y
-  operated-has operators.Unequal strength x y left right h k = compared-has false x y
-  operated-has operator strength x y left right h k = infix-has (AtomInRange names) operator strength left right h k
+  operated-has (operators.Connective connective) strength x y left right h k = connected-has (AtomInRange names) connective left right h k
+  operated-has (operators.Comparison comparison) strength x y left right h k = compared-has comparison x y
+  operated-has (operators.Sequence operator) strength x y left right h k = sequenced-has (AtomInRange names) operator left right h k
+  operated-has (operators.Suffix operator) strength x y left right h k = suffixed-has (AtomInRange names) operator left right h k
+  operated-has (operators.Abort operator) strength x y left right h k = aborted-has (AtomInRange names) operator left right h k
+  operated-has (operators.Until operator) strength x y left right h k = lasting-has (AtomInRange names) operator strength left right h k
 
   module _ (scope : List Named) (have : NamedHave (AtomInRange names) scope) where
     signal-has : (path : List Token) (index : Option Token) → MeaningHas (AtomInRange names) (signal_meaning scope names path index)

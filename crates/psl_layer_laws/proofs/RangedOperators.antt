@@ -7,21 +7,25 @@ use Rattle.psl_lexer.specs.declared.kind.TokenKind.{TokenKind}
 use Rattle.psl_lexer.specs.declared.kind.TokenKind.TheVariants as kinds
 use Rattle.psl_grammar.specs.declared.tree.Count as code_count
 use Rattle.psl_grammar.specs.declared.tree.Count.TheVariants as counts
-use Rattle.psl_layer_laws.proofs.RangedBooleans as booleans
-use Rattle.psl_layer_laws.proofs.RangedProperties as properties
-use Rattle.psl_layer_laws.proofs.RangedSequences as sequences
-use Rattle.psl_elaboration.specs.declared.operator.InfixOperator.{InfixOperator}
-use Rattle.psl_elaboration.specs.declared.operator.InfixOperator.TheVariants as operators
+use Rattle.psl_sugar.proofs.RangedBooleans as booleans
+use Rattle.psl_sugar.proofs.RangedProperties as properties
+use Rattle.psl_sugar.proofs.RowLaws as rows
+use Rattle.psl_sugar.proofs.RangedSequences as sequences
 use Rattle.psl_elaboration.specs.declared.operator.PrefixOperator.{PrefixOperator}
 use Rattle.psl_elaboration.specs.declared.operator.PrefixOperator.TheVariants as prefixes
 use Rattle.psl_elaboration.specs.declared.operator.RepetitionOperator.{RepetitionOperator}
 use Rattle.psl_elaboration.specs.declared.operator.RepetitionOperator.TheVariants as repetitions
-use Rattle.psl_elaboration.specs.Kernel.{Meaning, OfBoolean, OfSequence, OfProperty, Named, boolean_in, sequence_in, formula_in, strong_in, prefix_meaning, conjunction_meaning, disjunction_meaning, implication_meaning, equivalence_meaning, infix_meaning, literal_meaning, repeated_meaning, alone_meaning, clocked_meaning, clocked_in, grouped_meaning, next_meaning, event_meaning, declared_meaning, meaning_or}
+use Rattle.psl_elaboration.specs.Kernel.{Meaning, OfBoolean, OfSequence, OfProperty, Named, boolean_in, sequence_in, formula_in, strong_in, prefix_meaning, connected, sequenced, suffixed, aborted, lasting, literal_meaning, repeated_meaning, alone_meaning, clocked_meaning, clocked_in, grouped_meaning, next_meaning, event_meaning, declared_meaning, meaning_or}
 use Rattle.psl_elaboration.specs.Operators.{strength_of, quantifier_of}
 use Rattle.psl_elaboration.specs.Texts.{number_of}
 use Rattle.psl_sugar.specs.Sequences.{any_letter}
+use Rattle.psl_sugar.specs.declared.abort.AbortOperator.{AbortOperator}
+use Rattle.psl_sugar.specs.declared.connectives.Connective.{Connective}
 use Rattle.psl_sugar.specs.declared.count.Count as sugar_count
 use Rattle.psl_sugar.specs.declared.operator.Strength.{Strength}
+use Rattle.psl_sugar.specs.declared.sequence_operators.SequenceOperator.{SequenceOperator}
+use Rattle.psl_sugar.specs.declared.suffix.SuffixOperator.{SuffixOperator}
+use Rattle.psl_sugar.specs.declared.until.UntilOperator.{UntilOperator}
 use Rattle.psl_tree.specs.Atoms.{AtomsOfBoolean, AtomsOfSequence, AtomsOfFormula}
 use Rattle.psl_tree.specs.Trees.{Boolean, Formula, Now}
 use Rattle.psl_tree.specs.declared.atom.Atom.{Atom}
@@ -66,50 +70,22 @@ module _ (P : Atom → Type 0) where
   prefix-has prefixes.Eventually strength (OfSequence sequence) h = properties.eventually-sequence-has P sequence h
   prefix-has prefixes.Eventually strength (OfProperty formula) h = properties.eventually-has P formula h
 
-  conjunction-has : (left right : Meaning) → MeaningHas left → MeaningHas right → MeaningHas (conjunction_meaning left right)
-  conjunction-has (OfBoolean left) (OfBoolean right) h k = (h, k)
-  conjunction-has left right h k = (formula-has left h, formula-has right k)
+  pub connected-has : (connective : Connective) (left right : Meaning) → MeaningHas left → MeaningHas right → MeaningHas (connected connective left right)
+  connected-has connective (OfBoolean left) (OfBoolean right) h k = rows.boolean-row-has P connective left right h k
+  connected-has connective left right h k = rows.formula-row-has P connective (formula_in left) (formula_in right) (formula-has left h) (formula-has right k)
 
-  disjunction-has : (left right : Meaning) → MeaningHas left → MeaningHas right → MeaningHas (disjunction_meaning left right)
-  disjunction-has (OfBoolean left) (OfBoolean right) h k = (h, k)
-  disjunction-has left right h k = properties.disjunction-has P (formula_in left) (formula_in right) (formula-has left h) (formula-has right k)
+  pub sequenced-has : (operator : SequenceOperator) (left right : Meaning) → MeaningHas left → MeaningHas right → MeaningHas (sequenced operator left right)
+  sequenced-has operator left right h k = rows.sequence-row-has P operator (sequence_in left) (sequence_in right) (sequence-has left h) (sequence-has right k)
 
-  implication-has : (left right : Meaning) → MeaningHas left → MeaningHas right → MeaningHas (implication_meaning left right)
-  implication-has (OfBoolean left) (OfBoolean right) h k = booleans.implication-has P left right h k
-  implication-has left right h k = properties.implication-has P (formula_in left) (formula_in right) (formula-has left h) (formula-has right k)
+  pub suffixed-has : (operator : SuffixOperator) (left right : Meaning) → MeaningHas left → MeaningHas right → MeaningHas (suffixed operator left right)
+  suffixed-has operator left right h k = rows.suffix-row-has P operator (sequence_in left) (formula_in right) (sequence-has left h) (formula-has right k)
 
-  equivalence-has : (left right : Meaning) → MeaningHas left → MeaningHas right → MeaningHas (equivalence_meaning left right)
-  equivalence-has (OfBoolean left) (OfBoolean right) h k = booleans.iff-has P left right h k
-  equivalence-has left right h k = properties.iff-has P (formula_in left) (formula_in right) (formula-has left h) (formula-has right k)
+  pub aborted-has : (operator : AbortOperator) (left right : Meaning) → MeaningHas left → MeaningHas right → MeaningHas (aborted operator left right)
+  aborted-has operator left right h k = rows.abort-row-has P operator (formula_in left) (boolean_in right) (formula-has left h) (boolean-has right k)
 
-  pub infix-has : (operator : InfixOperator) (strength : Strength) (left right : Meaning) → MeaningHas left → MeaningHas right → MeaningHas (infix_meaning operator strength left right)
-  infix-has operators.Conjunction strength left right h k = conjunction-has left right h k
-  infix-has operators.Disjunction strength left right h k = disjunction-has left right h k
-  infix-has operators.Implication strength left right h k = implication-has left right h k
-  infix-has operators.Equivalence strength left right h k = equivalence-has left right h k
-  infix-has operators.Equal strength left right h k = tt
-  infix-has operators.Unequal strength left right h k = tt
-  infix-has operators.Concatenation strength left right h k = (sequence-has left h, sequence-has right k)
-  infix-has operators.Fusion strength left right h k = (sequence-has left h, sequence-has right k)
-  infix-has operators.Alternative strength left right h k = (sequence-has left h, sequence-has right k)
-  infix-has operators.SameLength strength left right h k = (sequence-has left h, sequence-has right k)
-  infix-has operators.AnyLength strength left right h k =
-      sequences.any-length-has P (sequence_in left) (sequence_in right) (sequence-has left h) (sequence-has right k)
-  infix-has operators.Within strength left right h k =
-      sequences.within-has P (sequence_in left) (sequence_in right) (sequence-has left h) (sequence-has right k)
-  infix-has operators.Suffix strength left right h k = (sequence-has left h, formula-has right k)
-  infix-has operators.SuffixNext strength left right h k =
-      properties.suffix-next-has P (sequence_in left) (formula_in right) (sequence-has left h) (formula-has right k)
-  infix-has operators.Abort strength left right h k = (formula-has left h, boolean-has right k)
-  infix-has operators.SyncAbort strength left right h k = (formula-has left h, boolean-has right k)
-  infix-has operators.Until strength left right h k =
-      properties.until-has P strength (formula_in left) (formula_in right) (formula-has left h) (formula-has right k)
-  infix-has operators.UntilOverlap strength left right h k =
-      properties.until-overlapping-has P strength (formula_in left) (formula_in right) (formula-has left h) (formula-has right k)
-  infix-has operators.Before strength left right h k =
-      properties.before-has P strength (formula_in left) (formula_in right) (formula-has left h) (formula-has right k)
-  infix-has operators.BeforeOverlap strength left right h k =
-      properties.before-overlapping-has P strength (formula_in left) (formula_in right) (formula-has left h) (formula-has right k)
+  pub lasting-has : (operator : UntilOperator) (strength : Strength) (left right : Meaning) → MeaningHas left → MeaningHas right → MeaningHas (lasting operator strength left right)
+  lasting-has operator strength left right h k =
+      rows.until-row-has P operator strength (formula_in left) (formula_in right) (formula-has left h) (formula-has right k)
 
   pub literal-has : (kind : TokenKind) (value : ℕ) → AtomsOfBoolean P (literal_meaning kind value)
   literal-has kinds.True value = tt

@@ -11,7 +11,7 @@ use Rattle.psl_grammar.specs.declared.tree.UnitTree as code_tree
 use Rattle.psl_grammar.specs.declared.tree.UnitTree.TheVariants as trees
 use Rattle.psl_grammar.specs.declared.tree.VerificationUnit.{VerificationUnit}
 use Rattle.psl_layer_laws.proofs.RangedExpressions.{meaning-has}
-use Rattle.psl_layer_laws.proofs.RangedProperties as properties
+use Rattle.psl_sugar.proofs.RangedProperties as properties
 use Rattle.psl_layer_laws.proofs.RangedOperators.{MeaningHas, NamedHave, boolean-has, sequence-has, formula-has, clocked-has}
 use Rattle.psl_elaboration.specs.declared.operator.DeclarationWord.{DeclarationWord}
 use Rattle.psl_elaboration.specs.declared.operator.DeclarationWord.TheVariants as declarations

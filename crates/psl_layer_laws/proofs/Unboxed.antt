@@ -1,6 +1,6 @@
 -- What expressions are hangs on their tokens alone, and not on their boxes.
-use Rattle.std.proofs.Common.{◌≡◌, refl, ap, ◌∙◌, ℕ, List, ◌++◌, Option, None, Bool, true, false}
-use Rattle.std.specs.Option.{is_some, unwrap_or}
+use Rattle.std.proofs.Common.{◌≡◌, refl, ap, ◌∙◌, ℕ, List, ◌++◌, Option, Bool, true, false}
+use Rattle.std.specs.Option.{is_some}
 use Rattle.std.specs.Prelude.{if◌then◌else◌, ◌&&◌}
 use Rattle.psl_lexer.specs.declared.kind.TokenKind.{TokenKind}
 use Rattle.psl_lexer.specs.declared.token.Token.{Token}
@@ -11,14 +11,14 @@ use Rattle.psl_layer_laws.proofs.Cleared.{clear}
 use Rattle.psl_elaboration.specs.Directives.{asserted, covered_under, cover_formula}
 use Rattle.psl_elaboration.specs.Flaws.{is_declared, side_of, expression_flaws}
 use Rattle.psl_elaboration.specs.Kernel.{Meaning, OfBoolean, Named, compared, operated, meaning_of}
-use Rattle.psl_elaboration.specs.Kinds.{is_part, before_part, prefix_kind, clocked_kind, grouped_kind, place_of, operator_before, declared_as, kind_of}
+use Rattle.psl_elaboration.specs.Kinds.{is_part, before_part, prefix_kind, clocked_kind, grouped_kind, place_of, operator_before, declared_as, kind_as, kind_of}
 use Rattle.psl_elaboration.specs.Operators.{infix_operator, prefix_operator, strength_of}
 use Rattle.psl_elaboration.specs.Texts.{path_text}
 use Rattle.psl_elaboration.specs.declared.fault.Flaw.{Flaw}
 use Rattle.psl_elaboration.specs.declared.kind.ExpressionKind.{ExpressionKind}
-use Rattle.psl_elaboration.specs.declared.kind.ExpressionKind.TheVariants as kinds
 use Rattle.psl_elaboration.specs.declared.operator.InfixOperator.{InfixOperator}
 use Rattle.psl_elaboration.specs.declared.operator.InfixOperator.TheVariants as operators
+use Rattle.psl_sugar.specs.declared.comparison.Comparison.{Comparison}
 use Rattle.psl_sugar.specs.declared.operator.Strength.{Strength}
 use Rattle.psl_tree.specs.Trees.{Boolean}
 use Rattle.psl_tree.specs.declared.name.Name.{Name}
@@ -44,7 +44,7 @@ module _ (s t : List code_statement.Statement) (declared : (text : List ℕ) →
   kind-clear in_sere (expressions.Infix' _ x op _ y) = rw (operator-clear in_sere op.kind y, kind-clear in_sere x, kind-clear in_sere y) refl
   kind-clear in_sere (expressions.Clocked' _ x at _ clock) = ap (clocked_kind in_sere) (kind-clear in_sere x)
   kind-clear in_sere (expressions.Grouped' opening _ x) = ap grouped_kind (kind-clear false x)
-  kind-clear in_sere (expressions.Signal path None) = ap (λ (k : Option ExpressionKind). unwrap_or k kinds.Boolean) (declared (path_text path))
+  kind-clear in_sere (expressions.Signal path index) = ap (λ (k : Option ExpressionKind). kind_as k index) (declared (path_text path))
   kind-clear in_sere _ = refl
 
   module _ (names : List Name) where
@@ -77,17 +77,16 @@ module _ (s t : List code_statement.Statement) (declared : (text : List ℕ) →
     flaws-clear in_sere _ = refl
 
 module _ (names : List Name) where
-  compared-clear : (is_equal : Bool) (x y : code_expression.Expression) → compared names is_equal (clear x) (clear y) ≡ compared names is_equal x y
-  compared-clear is_equal (expressions.Signal path index) (expressions.Literal token) = refl
-  compared-clear is_equal (expressions.Signal path index) _ = refl
-  compared-clear is_equal (expressions.Literal token) (expressions.Signal path index) = refl
-  compared-clear is_equal (expressions.Literal token) _ = refl
-  compared-clear is_equal _ y = refl
+  compared-clear : (comparison : Comparison) (x y : code_expression.Expression) → compared names comparison (clear x) (clear y) ≡ compared names comparison x y
+  compared-clear comparison (expressions.Signal path index) (expressions.Literal token) = refl
+  compared-clear comparison (expressions.Signal path index) _ = refl
+  compared-clear comparison (expressions.Literal token) (expressions.Signal path index) = refl
+  compared-clear comparison (expressions.Literal token) _ = refl
+  compared-clear comparison _ y = refl
 
   operated-clear : (operator : InfixOperator) (strength : Strength) (x y : code_expression.Expression) (left right : Meaning) →
       operated names operator strength (clear x) (clear y) left right ≡ operated names operator strength x y left right
-  operated-clear operators.Equal strength x y left right = ap OfBoolean (compared-clear true x y)
-  operated-clear operators.Unequal strength x y left right = ap OfBoolean (compared-clear false x y)
+  operated-clear (operators.Comparison comparison) strength x y left right = ap OfBoolean (compared-clear comparison x y)
   operated-clear _ strength x y left right = refl
 
   module _ (scope : List Named) where

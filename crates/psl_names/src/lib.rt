@@ -8,6 +8,7 @@ mod kinds;
 mod matching;
 mod operators;
 mod references;
+mod shapes;
 mod sorting;
 mod texts;
 mod values;
@@ -19,6 +20,7 @@ pub use operators::{
     declaration_word, directive_kind_of, edge_of, infix_operator, is_endless, prefix_operator,
     quantifier_of, repetition_operator, strength_of,
 };
-pub use references::{index_number, reference, refers_to};
+pub use references::{Resolved, index_number, reference, refers_to, resolve_path};
+pub use shapes::operator_before;
 pub use texts::{indexed_text, path_text};
 pub use values::{literal_value, number_of};

@@ -4,7 +4,10 @@ ghost use Rattle.psl_elaboration.specs.Operators as spec;
 
 use psl_elaboration::{DeclarationWord, InfixOperator, PrefixOperator, RepetitionOperator};
 use psl_lexer::TokenKind;
-use psl_sugar::{Quantifier, Strength};
+use psl_sugar::{
+    AbortOperator, Comparison, Connective, Quantifier, SequenceOperator, Strength, SuffixOperator,
+    UntilOperator,
+};
 use psl_tree::{Edge, Kind};
 
 /// The operator that a token is before its operand.
@@ -25,25 +28,31 @@ pub fn infix_operator(kind: TokenKind) -> InfixOperator
     ensures { result ≡ spec.infix_operator kind }
 {
     match kind {
-        TokenKind::OrOr => InfixOperator::Disjunction,
-        TokenKind::Arrow => InfixOperator::Implication,
-        TokenKind::Iff => InfixOperator::Equivalence,
-        TokenKind::EqualEqual => InfixOperator::Equal,
-        TokenKind::NotEqual => InfixOperator::Unequal,
-        TokenKind::Semicolon => InfixOperator::Concatenation,
-        TokenKind::Colon => InfixOperator::Fusion,
-        TokenKind::Bar => InfixOperator::Alternative,
-        TokenKind::Ampersand => InfixOperator::AnyLength,
-        TokenKind::Within => InfixOperator::Within,
-        TokenKind::Implies => InfixOperator::Suffix,
-        TokenKind::ImpliesNext => InfixOperator::SuffixNext,
-        TokenKind::Abort | TokenKind::AsyncAbort => InfixOperator::Abort,
-        TokenKind::SyncAbort => InfixOperator::SyncAbort,
-        TokenKind::Until | TokenKind::UntilStrong => InfixOperator::Until,
-        TokenKind::UntilOverlap | TokenKind::UntilStrongOverlap => InfixOperator::UntilOverlap,
-        TokenKind::Before | TokenKind::BeforeStrong => InfixOperator::Before,
-        TokenKind::BeforeOverlap | TokenKind::BeforeStrongOverlap => InfixOperator::BeforeOverlap,
-        _ => InfixOperator::Conjunction,
+        TokenKind::OrOr => InfixOperator::Connective(Connective::Disjunction),
+        TokenKind::Arrow => InfixOperator::Connective(Connective::Implication),
+        TokenKind::Iff => InfixOperator::Connective(Connective::Equivalence),
+        TokenKind::EqualEqual => InfixOperator::Comparison(Comparison::Equal),
+        TokenKind::NotEqual => InfixOperator::Comparison(Comparison::Unequal),
+        TokenKind::Semicolon => InfixOperator::Sequence(SequenceOperator::Concatenation),
+        TokenKind::Colon => InfixOperator::Sequence(SequenceOperator::Fusion),
+        TokenKind::Bar => InfixOperator::Sequence(SequenceOperator::Alternative),
+        TokenKind::Ampersand => InfixOperator::Sequence(SequenceOperator::AnyLength),
+        TokenKind::Within => InfixOperator::Sequence(SequenceOperator::Within),
+        TokenKind::Implies => InfixOperator::Suffix(SuffixOperator::Overlapping),
+        TokenKind::ImpliesNext => InfixOperator::Suffix(SuffixOperator::Next),
+        TokenKind::Abort | TokenKind::AsyncAbort => InfixOperator::Abort(
+            AbortOperator::Asynchronous,
+        ),
+        TokenKind::SyncAbort => InfixOperator::Abort(AbortOperator::Synchronous),
+        TokenKind::Until | TokenKind::UntilStrong => InfixOperator::Until(UntilOperator::Until),
+        TokenKind::UntilOverlap | TokenKind::UntilStrongOverlap => InfixOperator::Until(
+            UntilOperator::UntilOverlap,
+        ),
+        TokenKind::Before | TokenKind::BeforeStrong => InfixOperator::Until(UntilOperator::Before),
+        TokenKind::BeforeOverlap | TokenKind::BeforeStrongOverlap => InfixOperator::Until(
+            UntilOperator::BeforeOverlap,
+        ),
+        _ => InfixOperator::Connective(Connective::Conjunction),
     }
 }
 

@@ -1,6 +1,9 @@
 pub mod Booleans
 pub mod Budget
 pub mod Codes
+pub mod Comparisons
+pub mod Connectives
 pub mod Counting
 pub mod Properties
+pub mod Rows
 pub mod Sequences

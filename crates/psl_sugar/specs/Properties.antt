@@ -1,9 +1,15 @@
 -- Properties that stand for others (IEEE 1850, clause 6.2 and Annex B). Each equation is a row of the
 -- table, for a strong or a weak operator.
 use Rattle.std.specs.Prelude.{ℕ, zero, suc, ◌+◌, ◌-◌}
-use Rattle.psl_tree.specs.Trees.{Boolean, Sequence, Formula, Concat, Now, Strong, Not, And, Next, Until, Suffix, Clocked}
+use Rattle.psl_tree.specs.Trees.{Boolean, Sequence, Formula, Concat, Now, Strong, Not, And, Next, Until, Suffix, Abort, SyncAbort, Clocked}
 use Rattle.psl_meaning.specs.Sugar.{disjunction, implication, eventually, always, next_strong, next_weak}
 use Rattle.psl_sugar.specs.Sequences.{any_letter, any_letters}
+use Rattle.psl_sugar.specs.declared.abort.AbortOperator.{AbortOperator}
+use Rattle.psl_sugar.specs.declared.abort.AbortOperator.TheVariants as aborts
+use Rattle.psl_sugar.specs.declared.suffix.SuffixOperator.{SuffixOperator}
+use Rattle.psl_sugar.specs.declared.suffix.SuffixOperator.TheVariants as suffixes
+use Rattle.psl_sugar.specs.declared.until.UntilOperator.{UntilOperator}
+use Rattle.psl_sugar.specs.declared.until.UntilOperator.TheVariants as untils
 use Rattle.psl_sugar.specs.declared.operator.Strength.{Strength}
 use Rattle.psl_sugar.specs.declared.operator.Strength.TheVariants as strength
 use Rattle.psl_sugar.specs.declared.operator.Quantifier.{Quantifier}
@@ -45,6 +51,13 @@ before kind left right = until kind (Not right) (And left (Not right))
 -- f before!_ g, f before_ g: (not g) U f, (not g) W f
 abbrev pub before_overlapping : Strength → Formula → Formula → Formula
 before_overlapping kind left right = until kind (Not right) left
+
+-- an operator that is strong or weak: a row for each
+abbrev pub until_row : UntilOperator → Strength → Formula → Formula → Formula
+until_row untils.Until kind left right = until kind left right
+until_row untils.UntilOverlap kind left right = until_overlapping kind left right
+until_row untils.Before kind left right = before kind left right
+until_row untils.BeforeOverlap kind left right = before_overlapping kind left right
 
 -- next! f, next f
 abbrev pub next : Strength → Formula → Formula
@@ -94,6 +107,16 @@ next_event_range which kind test low high part = joined_parts which (λ count. n
 -- r |=> f: {r ; true} |-> f
 abbrev pub suffix_next : Sequence → Formula → Formula
 suffix_next sequence part = Suffix (Concat sequence any_letter) part
+
+-- a suffix implication: a row for each
+abbrev pub suffix_row : SuffixOperator → Sequence → Formula → Formula
+suffix_row suffixes.Overlapping sequence part = Suffix sequence part
+suffix_row suffixes.Next sequence part = suffix_next sequence part
+
+-- an abort: a row for each
+abbrev pub abort_row : AbortOperator → Formula → Boolean → Formula
+abort_row aborts.Asynchronous part test = Abort part test
+abort_row aborts.Synchronous part test = SyncAbort part test
 
 -- cover r: {[*];r}!
 abbrev pub covered : Sequence → Formula

@@ -1,6 +1,8 @@
 -- Sequences that stand for others (IEEE 1850, clause 6.1). Each equation is a row of the table.
 use Rattle.std.specs.Prelude.{ℕ, zero, suc, ◌-◌, ◌==◌, nat_lt, true, if◌then◌else◌}
-use Rattle.psl_tree.specs.Trees.{Boolean, Sequence, Const, Not, Empty, One, Concat, Either, Both, Star}
+use Rattle.psl_tree.specs.Trees.{Boolean, Sequence, Const, Not, Empty, One, Concat, Fuse, Either, Both, Star}
+use Rattle.psl_sugar.specs.declared.sequence_operators.SequenceOperator.{SequenceOperator}
+use Rattle.psl_sugar.specs.declared.sequence_operators.SequenceOperator.TheVariants as operators
 use Rattle.psl_sugar.specs.declared.count.Count.{Count}
 use Rattle.psl_sugar.specs.declared.count.Count.TheVariants.{Times, Between, AtLeast}
 
@@ -67,3 +69,12 @@ both_of_any_length left right = Either (Both left (Concat right any_letters)) (B
 -- r1 within r2: {[*] ; r1 ; [*]} && r2
 abbrev pub within : Sequence → Sequence → Sequence
 within left right = Both (Concat (Concat any_letters left) any_letters) right
+
+-- an operator between sequences: a row for each
+abbrev pub sequence_row : SequenceOperator → Sequence → Sequence → Sequence
+sequence_row operators.Concatenation left right = Concat left right
+sequence_row operators.Fusion left right = Fuse left right
+sequence_row operators.Alternative left right = Either left right
+sequence_row operators.SameLength left right = Both left right
+sequence_row operators.AnyLength left right = both_of_any_length left right
+sequence_row operators.Within left right = within left right

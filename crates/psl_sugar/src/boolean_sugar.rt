@@ -1,6 +1,6 @@
-// Boolean expressions that stand for others, and comparisons of vectors with numbers.
+// Numbers and vectors as Booleans.
 ghost use Rattle.std.specs.Prelude.{◌≡◌, ◌+◌, ◌<◌, ◌≤◌, ◌^◌};
-ghost use Rattle.psl_sugar.specs.Booleans.{boolean_implication, boolean_iff, number, has_bit, bit_of, literal, equality, inequality, some_bit};
+ghost use Rattle.psl_sugar.specs.Booleans.{number, has_bit, bit_of, literal, some_bit};
 ghost use Rattle.psl_sugar.specs.Budget.{GivesBoolean};
 
 use crate::{MeasuredBool, SugarFault, Vector};
@@ -8,22 +8,6 @@ use psl_tree::{Atom, Edge};
 use std::alloc::Global;
 
 impl MeasuredBool {
-    /// `b -> c`: `!b || c`.
-    pub fn implication(self, alloc: Global, right: MeasuredBool) -> Result<MeasuredBool, SugarFault>
-        ensures { GivesBoolean result (boolean_implication self right) }
-    {
-        self.not(alloc)?.or(alloc, right)
-    }
-
-    /// `b <-> c`: `(!b || c) && (!c || b)`.
-    pub fn iff(self, alloc: Global, right: MeasuredBool) -> Result<MeasuredBool, SugarFault>
-        ensures { GivesBoolean result (boolean_iff self right) }
-    {
-        let forth = self.copy(alloc)?.implication(alloc, right.copy(alloc)?)?;
-        let back = right.implication(alloc, self)?;
-        forth.and(alloc, back)
-    }
-
     /// A number or a constant: `true` exactly where its value is not 0.
     pub fn number(value: u64) -> MeasuredBool
         ensures { result ≡ number value }
@@ -44,8 +28,8 @@ impl MeasuredBool {
         })
     }
 
-    // A bit of a vector, counted from the leftmost one, as the number wants it.
-    fn literal(
+    /// A bit of a vector, counted from the leftmost one, as the number wants it.
+    pub(crate) fn literal(
         alloc: Global,
         vector: Vector,
         value: u64,
@@ -61,30 +45,6 @@ impl MeasuredBool {
         } else {
             test.not(alloc)
         }
-    }
-
-    /// `vector == number`: the conjunction from the left of the bits, the leftmost bit first, each
-    /// as it is or negated. The number is extended by zeros on the left.
-    pub fn equality(alloc: Global, vector: Vector, value: u64) -> Result<MeasuredBool, SugarFault>
-        requires some { 1 ≤ vector.width }
-        requires places { vector.lowest + vector.width ≤ 2 ^ 32 }
-        ensures { GivesBoolean result (equality vector value) }
-    {
-        let mut all = MeasuredBool::literal(alloc, vector, value, 0)?;
-        for more in 0..vector.width - 1 {
-            let next = MeasuredBool::literal(alloc, vector, value, more + 1)?;
-            all = all.and(alloc, next)?;
-        }
-        Ok(all)
-    }
-
-    /// `vector != number`: the negation of `vector == number`.
-    pub fn inequality(alloc: Global, vector: Vector, value: u64) -> Result<MeasuredBool, SugarFault>
-        requires some { 1 ≤ vector.width }
-        requires places { vector.lowest + vector.width ≤ 2 ^ 32 }
-        ensures { GivesBoolean result (inequality vector value) }
-    {
-        MeasuredBool::equality(alloc, vector, value)?.not(alloc)
     }
 
     /// A vector as a Boolean: the disjunction from the left of its bits, the leftmost bit first.

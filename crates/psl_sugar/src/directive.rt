@@ -1,23 +1,11 @@
-// What directives ask for, and the suffix implication that begins at the next letter.
+// What directives ask for.
 ghost use Rattle.psl_sugar.specs.Budget.{GivesFormula};
-ghost use Rattle.psl_sugar.specs.Properties.{suffix_next, covered, covered_at};
+ghost use Rattle.psl_sugar.specs.Properties.{covered, covered_at};
 
 use crate::{MeasuredBool, MeasuredFl, MeasuredSere, SugarFault};
 use std::alloc::Global;
 
 impl MeasuredFl {
-    /// `r |=> f`: `{r ; true} |-> f`.
-    pub fn suffix_next(
-        alloc: Global,
-        sequence: MeasuredSere,
-        part: MeasuredFl,
-    ) -> Result<MeasuredFl, SugarFault>
-        ensures { GivesFormula result (suffix_next sequence part) }
-    {
-        let longer = sequence.concat(alloc, MeasuredSere::any_letter()?)?;
-        MeasuredFl::suffix(alloc, longer, part)
-    }
-
     /// The formula of `cover r`: `{[*];r}!` (IEEE 1850, clause 7.1).
     pub fn covered(alloc: Global, sequence: MeasuredSere) -> Result<MeasuredFl, SugarFault>
         ensures { GivesFormula result (covered sequence) }

@@ -2,9 +2,11 @@
 //! builds its kernel tree from the trees of its parts, as long as it has at most 4,096 constructors.
 #![tactic(auto)]
 
+mod abort;
 mod boolean;
 mod boolean_sugar;
 mod budget;
+mod comparison;
 mod connectives;
 mod count;
 mod directive;
@@ -13,11 +15,21 @@ mod formula;
 mod occurrence;
 mod operator;
 mod sequence;
+mod sequence_operators;
 mod sequence_sugar;
+mod suffix;
+mod temporal;
+mod until;
 
+pub use abort::AbortOperator;
 pub use boolean::{MeasuredBool, Vector};
+pub use comparison::Comparison;
+pub use connectives::Connective;
 pub use count::Count;
 pub use fault::SugarFault;
 pub use formula::MeasuredFl;
 pub use operator::{Quantifier, Range, Strength};
 pub use sequence::MeasuredSere;
+pub use sequence_operators::SequenceOperator;
+pub use suffix::SuffixOperator;
+pub use until::UntilOperator;

@@ -1,7 +1,6 @@
-// Repetitions of sequences, and the other sequences that stand for others.
-ghost use Rattle.psl_tree.specs.Trees.{Concat};
+// Repetitions of sequences.
 ghost use Rattle.psl_sugar.specs.Budget.{GivesSequence};
-ghost use Rattle.psl_sugar.specs.Sequences.{any_letter, any_letters, plus, times, optional, between, at_least, repeated, absence, goto, goto_repeated, occurrences, both_of_any_length, within};
+ghost use Rattle.psl_sugar.specs.Sequences.{any_letter, any_letters, plus, times, optional, between, at_least, repeated, absence, goto, goto_repeated, occurrences};
 
 use crate::{Count, MeasuredBool, MeasuredSere, SugarFault};
 use std::alloc::Global;
@@ -131,34 +130,5 @@ impl MeasuredSere {
     {
         let absence = MeasuredSere::absence(alloc, test.copy(alloc)?)?;
         MeasuredSere::goto_repeated(alloc, test, count)?.concat(alloc, absence)
-    }
-
-    /// `r & s`: both from the same letter on, to the end of the longer one.
-    pub fn both_of_any_length(
-        self,
-        alloc: Global,
-        right: MeasuredSere,
-    ) -> Result<MeasuredSere, SugarFault>
-        ensures { GivesSequence result (both_of_any_length self right) }
-    {
-        let extended = self.copy(alloc)?.followed_by_any(alloc)?;
-        let left_shorter = extended.both(alloc, right.copy(alloc)?)?;
-        let right_shorter = self.both(alloc, right.followed_by_any(alloc)?)?;
-        right_shorter.either(alloc, left_shorter)
-    }
-
-    // `r ; [*]`.
-    fn followed_by_any(self, alloc: Global) -> Result<MeasuredSere, SugarFault>
-        ensures { GivesSequence result (Concat self any_letters) }
-    {
-        self.concat(alloc, MeasuredSere::any_letters(alloc)?)
-    }
-
-    /// `r within s`: `{[*] ; r ; [*]} && s`.
-    pub fn within(self, alloc: Global, right: MeasuredSere) -> Result<MeasuredSere, SugarFault>
-        ensures { GivesSequence result (within self right) }
-    {
-        let begun = MeasuredSere::any_letters(alloc)?.concat(alloc, self)?;
-        begun.followed_by_any(alloc)?.both(alloc, right)
     }
 }

@@ -1,7 +1,7 @@
 -- What each atom of the operands has, each atom of a property made of them has.
 use Rattle.std.proofs.Common.{ℕ, zero, suc, ◌+◌, ◌-◌}
-use Rattle.psl_meaning.specs.Sugar.{disjunction, implication, eventually, always}
-use Rattle.psl_sugar.specs.Properties.{iff, never, never_sequence, eventually_sequence, until, until_overlapping, before, before_overlapping, next, next_steps, next_times, next_event, next_event_times, joined, joined_parts, next_range, next_event_range, suffix_next, covered, covered_at}
+use Rattle.psl_meaning.specs.Sugar.{eventually, always}
+use Rattle.psl_sugar.specs.Properties.{never, never_sequence, eventually_sequence, until, until_overlapping, before, before_overlapping, next, next_steps, next_times, next_event, next_event_times, joined, joined_parts, next_range, next_event_range, covered, covered_at}
 use Rattle.psl_sugar.specs.declared.operator.Quantifier.{Quantifier}
 use Rattle.psl_sugar.specs.declared.operator.Quantifier.TheVariants as quantifier
 use Rattle.psl_sugar.specs.declared.operator.Strength.{Strength}
@@ -11,15 +11,6 @@ use Rattle.psl_tree.specs.Trees.{Boolean, Sequence, Formula, And, Not, Now}
 use Rattle.psl_tree.specs.declared.atom.Atom.{Atom}
 
 module _ (P : Atom → Type 0) where
-  pub disjunction-has : (left right : Formula) → AtomsOfFormula P left → AtomsOfFormula P right → AtomsOfFormula P (disjunction left right)
-  disjunction-has left right h k = (h, k)
-
-  pub implication-has : (left right : Formula) → AtomsOfFormula P left → AtomsOfFormula P right → AtomsOfFormula P (implication left right)
-  implication-has left right h k = (h, k)
-
-  pub iff-has : (left right : Formula) → AtomsOfFormula P left → AtomsOfFormula P right → AtomsOfFormula P (iff left right)
-  iff-has left right h k = ((h, k), (k, h))
-
   pub eventually-has : (part : Formula) → AtomsOfFormula P part → AtomsOfFormula P (eventually part)
   eventually-has part h = (tt, h)
 
@@ -87,9 +78,6 @@ module _ (P : Atom → Type 0) where
       → AtomsOfFormula P (next_event_range which kind test low high part)
   event-range-has which kind test low high part h k =
       parts-have which (λ (count : ℕ). next_event_times kind test count part) low (λ (count : ℕ). event-times-has kind test count part h k) (high - low)
-
-  pub suffix-next-has : (sequence : Sequence) (part : Formula) → AtomsOfSequence P sequence → AtomsOfFormula P part → AtomsOfFormula P (suffix_next sequence part)
-  suffix-next-has sequence part h k = ((h, tt), k)
 
   pub covered-has : (sequence : Sequence) → AtomsOfSequence P sequence → AtomsOfFormula P (covered sequence)
   covered-has sequence h = (tt, h)

@@ -1,19 +1,13 @@
 -- What each atom of the operands has, each atom of a Boolean made of them has.
 use Rattle.std.proofs.Common.{ℕ, zero, suc, ◌-◌, Bool, true, false}
 use Rattle.std.specs.Prelude.{if◌then◌else◌}
-use Rattle.psl_sugar.specs.Booleans.{boolean_implication, boolean_iff, number, bit_of, has_bit, literal, conjunction_of, disjunction_of, equality, inequality, some_bit}
+use Rattle.psl_sugar.specs.Booleans.{number, bit_of, has_bit, literal, conjunction_of, disjunction_of, equality, inequality, some_bit}
 use Rattle.psl_sugar.specs.declared.boolean.Vector.{Vector}
 use Rattle.psl_tree.specs.Atoms.{AtomsOfBoolean}
 use Rattle.psl_tree.specs.Trees.{Boolean, Not}
 use Rattle.psl_tree.specs.declared.atom.Atom.{Atom}
 
 module _ (P : Atom → Type 0) where
-  pub implication-has : (left right : Boolean) → AtomsOfBoolean P left → AtomsOfBoolean P right → AtomsOfBoolean P (boolean_implication left right)
-  implication-has left right h k = (h, k)
-
-  pub iff-has : (left right : Boolean) → AtomsOfBoolean P left → AtomsOfBoolean P right → AtomsOfBoolean P (boolean_iff left right)
-  iff-has left right h k = ((h, k), (k, h))
-
   pub number-has : (value : ℕ) → AtomsOfBoolean P (number value)
   number-has value = tt
 

@@ -1,0 +1,27 @@
+-- Vectors have as many constructors as bits.
+use Rattle.std.proofs.Common.{ℕ, zero, suc, ◌+◌, ◌-◌, ◌≤◌, arith}
+use Rattle.psl_tree.specs.Trees.{Boolean, Const, Test, Not, And, Or}
+use Rattle.psl_tree.specs.Counts.{boolean_size}
+use Rattle.psl_sugar.specs.Booleans.{conjunction_of, disjunction_of, literal, bit_of, equality, some_bit}
+use Rattle.psl_sugar.specs.declared.boolean.Vector.{Vector}
+
+boolean_is_some : (test : Boolean) → 1 ≤ boolean_size test
+boolean_is_some (Const value) = omega arith
+boolean_is_some (Test atom) = omega arith
+boolean_is_some (Not part) = omega arith
+boolean_is_some (And left right) = omega arith
+boolean_is_some (Or left right) = omega arith
+
+conjunction_size : (part : ℕ → Boolean) (more : ℕ) → more + 1 ≤ boolean_size (conjunction_of part more)
+conjunction_size part zero = boolean_is_some (part 0)
+conjunction_size part (suc more) = omega (arith, conjunction_size part more, boolean_is_some (part (suc more)))
+
+disjunction_size : (part : ℕ → Boolean) (more : ℕ) → more + 1 ≤ boolean_size (disjunction_of part more)
+disjunction_size part zero = boolean_is_some (part 0)
+disjunction_size part (suc more) = omega (arith, disjunction_size part more, boolean_is_some (part (suc more)))
+
+pub equality_size : (vector : Vector) (value : ℕ) → vector.width ≤ boolean_size (equality vector value)
+equality_size vector value = omega (arith, conjunction_size (literal vector value) (vector.width - 1))
+
+pub some_bit_size : (vector : Vector) → vector.width ≤ boolean_size (some_bit vector)
+some_bit_size vector = omega (arith, disjunction_size (bit_of vector) (vector.width - 1))
