@@ -55,7 +55,7 @@ at-end run loops =
     ∙ get_or-append-add (run.stem ++ run.loop_part) (take 1 run.loop_part) 0 [] ∙ first-of run.loop_part loops
 
 -- the first valuations of the run are those of its stem and of its loop
-early : (run : Run) (place : ℕ) → place < length run.stem + length run.loop_part → valuation_in run place ≡ valuation_at run place
+pub early : (run : Run) (place : ℕ) → place < length run.stem + length run.loop_part → valuation_in run place ≡ valuation_at run place
 early run place within = elim (cases_lt place (length run.stem)) [
   | inl low ↦ in-stem run place low ∙ sym (at-stem run place low)
   | inr high ↦
@@ -69,16 +69,16 @@ early run place within = elim (cases_lt place (length run.stem)) [
 ]
 
 -- so many places behind the loop's first, and the place of the word's loop that has the letter there
-abbrev turned : Run → ℕ → ℕ
+abbrev pub turned : Run → ℕ → ℕ
 turned run place = place % length run.loop_part
 
-around : (run : Run) (place : ℕ) → 0 < length run.loop_part → valuation_in run (length run.stem + place) ≡ valuation_at run (length run.stem + turned run place)
+pub around : (run : Run) (place : ℕ) → 0 < length run.loop_part → valuation_in run (length run.stem + place) ≡ valuation_at run (length run.stem + turned run place)
 around run place loops =
     in-loop run (length run.stem + place) (omega arith)
     ∙ ap (λ (n : ℕ). slice_index_or run.loop_part (n % length run.loop_part) []) (let e : length run.stem + place - length run.stem ≡ place = omega arith in e)
     ∙ sym (at-loop run (turned run place) (mod_below place (length run.loop_part) loops))
 
-around-next : (run : Run) (place : ℕ) → 0 < length run.loop_part → valuation_in run (length run.stem + (place + 1)) ≡ valuation_at run (length run.stem + (turned run place + 1))
+pub around-next : (run : Run) (place : ℕ) → 0 < length run.loop_part → valuation_in run (length run.stem + (place + 1)) ≡ valuation_at run (length run.stem + (turned run place + 1))
 around-next run place loops =
     let count = length run.loop_part in
     let parts = div-add-mod place count in
@@ -154,7 +154,7 @@ value-bit (false ∷ values) zero = refl
 value-bit (true ∷ values) zero = refl
 value-bit (value ∷ values) (suc signal) = value-bit values signal
 
-trace-bit : (design : Design) (run : Run) (loops sample signal : ℕ) → sample < count_of run loops → bit_at (trace_sampled Zero design run loops) sample signal 0 ≡ bit (valuation_in run sample) signal
+pub trace-bit : (design : Design) (run : Run) (loops sample signal : ℕ) → sample < count_of run loops → bit_at (trace_sampled Zero design run loops) sample signal 0 ≡ bit (valuation_in run sample) signal
 trace-bit design run loops sample signal within =
     ap (λ (row : List (Option (List ℕ))). bit_of Zero (slice_index_or row signal None) 0)
     (get_or-map-range_with_len (λ (n : ℕ). letters_of (valuation_in run n)) 0 (count_of run loops) sample sample [] within (omega arith))

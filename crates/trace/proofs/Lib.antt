@@ -1,8 +1,8 @@
-mod Accepting
+pub mod Accepting
 mod Definitions
 mod Digits
 mod Growing
-mod Letters
+pub mod Letters
 mod Marked
 mod Sizes
 mod SomeDigits

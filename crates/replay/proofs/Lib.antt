@@ -1,0 +1,6 @@
+mod Answering
+mod Lowest
+mod Missing
+mod Named
+mod Paths
+mod Sample

@@ -1,0 +1,13 @@
+//! Whether a recording is one that a netlist can make: the first sample and the first signal where it is not.
+#![tactic(auto)]
+
+mod answer;
+mod laws;
+mod leaving;
+mod numbers;
+mod replaying;
+mod values;
+
+pub use answer::{Replay, ReplayFault};
+pub use laws::{examples_law, path_law};
+pub use replaying::replay;
