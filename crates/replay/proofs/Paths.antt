@@ -31,6 +31,7 @@ use Rattle.replay.specs.declared.answer.ReplayFault.TheVariants as faults
 use Rattle.trace.proofs.Letters.{around, around-next, early, trace-bit, turned}
 use Rattle.trace.specs.Printed.{printed}
 use Rattle.trace.specs.Trace.{count_of, first_text, name_in, trace_names, trace_sampled, valuation_in}
+use Rattle.vcd_reader.specs.declared.unknown.Unknown.TheVariants.{Zero}
 use Rattle.vcd_writer.specs.Lines.{letters_of}
 
 is-false : (b : Bool) → (b ≡ true → ⊥) → b ≡ false
@@ -73,28 +74,28 @@ module _ (design : Design) (run : Run) (loops : ℕ) (plain : HasPlainNames desi
   named-only signal within other below named =
       plain.apart other signal below within (sym (plain.same other below) ∙ (bytes_eq-Decides (printed (first_text design.names other)) (first_text design.names signal)).0 named)
 
-  recorded-is : (signal : ℕ) → signal < design.signals → recorded design (trace_sampled design run loops) signal ≡ Some signal
+  recorded-is : (signal : ℕ) → signal < design.signals → recorded design (trace_sampled Zero design run loops) signal ≡ Some signal
   recorded-is signal within =
       let text = first_text design.names signal in
       ap (λ (names : List Name). bit_found (found_among (first_filled names (filter (ends_named text) (trace_names design)))))
       (one-passes (is_named text) (name_in design.names) signal 0 design.signals (omega arith) (omega (arith, within)) (named-self signal within)
       (λ other after below named. named-only signal within other (omega (arith, below)) named))
 
-  none-missing : (signals : List ℕ) → All (λ signal. signal < design.signals) signals → find (λ signal. is_none (recorded design (trace_sampled design run loops) signal)) signals ≡ None
+  none-missing : (signals : List ℕ) → All (λ signal. signal < design.signals) signals → find (λ signal. is_none (recorded design (trace_sampled Zero design run loops) signal)) signals ≡ None
   none-missing [] within = refl
   none-missing (signal ∷ signals) within =
-      ap (λ (o : Option ℕ). cond (is_none o) (Some signal) (find (λ (s : ℕ). is_none (recorded design (trace_sampled design run loops) s)) signals)) (recorded-is signal (All-head (λ (s : ℕ). s < design.signals) signal signals within))
+      ap (λ (o : Option ℕ). cond (is_none o) (Some signal) (find (λ (s : ℕ). is_none (recorded design (trace_sampled Zero design run loops) s)) signals)) (recorded-is signal (All-head (λ (s : ℕ). s < design.signals) signal signals within))
       ∙ none-missing signals (All-tail (λ (s : ℕ). s < design.signals) signal signals within)
 
-  value-is : (sample signal : ℕ) → sample < count_of run loops → signal < design.signals → value_at design (trace_sampled design run loops) sample signal ≡ bit (valuation_in run sample) signal
-  value-is sample signal here within = ap (value_of (trace_sampled design run loops) sample) (recorded-is signal within) ∙ trace-bit design run loops sample signal here
+  value-is : (sample signal : ℕ) → sample < count_of run loops → signal < design.signals → value_at design (trace_sampled Zero design run loops) sample signal ≡ bit (valuation_in run sample) signal
+  value-is sample signal here within = ap (value_of (trace_sampled Zero design run loops) sample) (recorded-is signal within) ∙ trace-bit design run loops sample signal here
 
   values-are : (sample : ℕ) → sample < count_of run loops → (signals : List ℕ) → All (λ signal. signal < design.signals) signals
-      → values (valuation_in run sample) signals ≡ map (value_at design (trace_sampled design run loops) sample) signals
+      → values (valuation_in run sample) signals ≡ map (value_at design (trace_sampled Zero design run loops) sample) signals
   values-are sample here [] within = refl
   values-are sample here (signal ∷ signals) within =
       ap (λ (b : Bool). b ∷ values (valuation_in run sample) signals) (sym (value-is sample signal here (All-head (λ (s : ℕ). s < design.signals) signal signals within)))
-      ∙ ap (λ (bs : List Bool). value_at design (trace_sampled design run loops) sample signal ∷ bs) (values-are sample here signals (All-tail (λ (s : ℕ). s < design.signals) signal signals within))
+      ∙ ap (λ (bs : List Bool). value_at design (trace_sampled Zero design run loops) sample signal ∷ bs) (values-are sample here signals (All-tail (λ (s : ℕ). s < design.signals) signal signals within))
 
 -- ---- the valuations of a run for ever
 
@@ -119,7 +120,7 @@ step-in design run is place = by (cases_lt place (length run.stem))
         (is.steps (length run.stem + turned run gap) (omega (arith, turn, long))))
 
 pub trace-filled : (design : Design) (run : Run) (loops : ℕ) → HasPlainNames design → IsSound design → IsRun design run → (sample : ℕ) → sample < count_of run loops
-    → IsFilled design (free_at design (trace_sampled design run loops) sample) (valuation_in run sample)
+    → IsFilled design (free_at design (trace_sampled Zero design run loops) sample) (valuation_in run sample)
 trace-filled design run loops plain sound is sample here = record {
   is = (step-in design run is sample).before;
   has = values-are design run loops plain sample here (free_of design) (free-within design sound);
@@ -154,7 +155,7 @@ none-leaves at first (suc count) stays =
 module _ (design : Design) (run : Run) (loops : ℕ) (plain : HasPlainNames design) (sound : IsSound design) (is : IsRun design run)
     (valuations : ℕ → List Bool) (are : (sample : ℕ) → sample < count_of run loops → valuations sample ≡ valuation_in run sample) where
   latch-stays : (sample : ℕ) → sample < count_of run loops → (place : ℕ) (other : Latch) → place < length design.latches
-      → latch_leaves design (trace_sampled design run loops) valuations sample (get_or design.latches place other) ≡ false
+      → latch_leaves design (trace_sampled Zero design run loops) valuations sample (get_or design.latches place other) ≡ false
   latch-stays zero here place other within =
       let latch = get_or design.latches place other in
       let low = latches-within design sound place other within in
@@ -164,33 +165,33 @@ module _ (design : Design) (run : Run) (loops : ℕ) (plain : HasPlainNames desi
   latch-stays (suc sample) here place other within =
       let latch = get_or design.latches place other in
       let low = latches-within design sound place other within in
-      alike (value_at design (trace_sampled design run loops) (suc sample) latch.output) (bit (valuations sample) latch.input)
+      alike (value_at design (trace_sampled Zero design run loops) (suc sample) latch.output) (bit (valuations sample) latch.input)
       (value-is design run loops plain (suc sample) latch.output here low
       ∙ (step-in design run is sample).latches place other within
       ∙ ap (λ (v : List Bool). bit v latch.input) (sym (are sample (omega (arith, here)))))
 
   table-stays : (sample : ℕ) → sample < count_of run loops → (place : ℕ) (other : Table) → place < length design.tables
-      → table_leaves design (trace_sampled design run loops) valuations sample (get_or design.tables place other) ≡ false
+      → table_leaves design (trace_sampled Zero design run loops) valuations sample (get_or design.tables place other) ≡ false
   table-stays sample here place other within =
       let table = get_or design.tables place other in
       let low = outputs-within design sound place other within in
-      ap (output_leaves (trace_sampled design run loops) (valuations sample) sample table.output) (recorded-is design run loops plain table.output low)
-      ∙ alike (value_of (trace_sampled design run loops) sample (Some table.output)) (bit (valuations sample) table.output)
+      ap (output_leaves (trace_sampled Zero design run loops) (valuations sample) sample table.output) (recorded-is design run loops plain table.output low)
+      ∙ alike (value_of (trace_sampled Zero design run loops) sample (Some table.output)) (bit (valuations sample) table.output)
       (trace-bit design run loops sample table.output here ∙ ap (λ (v : List Bool). bit v table.output) (sym (are sample here)))
 
-  stay : (sample : ℕ) → sample < count_of run loops → leaving design (trace_sampled design run loops) valuations sample ≡ []
+  stay : (sample : ℕ) → sample < count_of run loops → leaving design (trace_sampled Zero design run loops) valuations sample ≡ []
   stay sample here =
-      ap (λ (ls : List Latch). map (λ (l : Latch). l.output) ls ++ map (λ (t : Table). t.output) (filter (table_leaves design (trace_sampled design run loops) valuations sample) design.tables))
-      (none-kept (latch_leaves design (trace_sampled design run loops) valuations sample) design.latches (λ place other within. latch-stays sample here place other within))
+      ap (λ (ls : List Latch). map (λ (l : Latch). l.output) ls ++ map (λ (t : Table). t.output) (filter (table_leaves design (trace_sampled Zero design run loops) valuations sample) design.tables))
+      (none-kept (latch_leaves design (trace_sampled Zero design run loops) valuations sample) design.latches (λ place other within. latch-stays sample here place other within))
       ∙ ap (λ (ts : List Table). map (λ (t : Table). t.output) ts)
-      (none-kept (table_leaves design (trace_sampled design run loops) valuations sample) design.tables (λ place other within. table-stays sample here place other within))
+      (none-kept (table_leaves design (trace_sampled Zero design run loops) valuations sample) design.tables (λ place other within. table-stays sample here place other within))
 
-  pub no-leave : leaves design (trace_sampled design run loops) valuations ≡ None
+  pub no-leave : leaves design (trace_sampled Zero design run loops) valuations ≡ None
   no-leave =
-      let count : length (trace_sampled design run loops).samples ≡ count_of run loops = length-map-range_with_len (λ (n : ℕ). letters_of (valuation_in run n)) 0 (count_of run loops) in
-      ap (first_from (leaving design (trace_sampled design run loops) valuations) 0) count
-      ∙ none-leaves (leaving design (trace_sampled design run loops) valuations) 0 (count_of run loops)
-      (λ sample within. ap (leaving design (trace_sampled design run loops) valuations) (let e : 0 + sample ≡ sample = omega arith in e) ∙ stay sample within)
+      let count : length (trace_sampled Zero design run loops).samples ≡ count_of run loops = length-map-range_with_len (λ (n : ℕ). letters_of (valuation_in run n)) 0 (count_of run loops) in
+      ap (first_from (leaving design (trace_sampled Zero design run loops) valuations) 0) count
+      ∙ none-leaves (leaving design (trace_sampled Zero design run loops) valuations) 0 (count_of run loops)
+      (λ sample within. ap (leaving design (trace_sampled Zero design run loops) valuations) (let e : 0 + sample ≡ sample = omega arith in e) ∙ stay sample within)
 
 -- ---- what is answered of a trace
 
@@ -198,23 +199,23 @@ abbrev OneValuation : Design → Type 0
 OneValuation design = (free left right : List Bool) → IsFilled design free left → IsFilled design free right → left ≡ right
 
 pub is-path : (design : Design) → IsSound design → OneValuation design → (run : Run) (loops : ℕ) → IsRun design run → HasPlainNames design
-    → (answer : Replay) → IsReplay design (trace_sampled design run loops) answer → answer ≡ replays.Path
+    → (answer : Replay) → IsReplay design (trace_sampled Zero design run loops) answer → answer ≡ replays.Path
 is-path design sound one run loops is plain answer replay =
-    let recording = trace_sampled design run loops in
+    let recording = trace_sampled Zero design run loops in
     let count : length recording.samples ≡ count_of run loops = length-map-range_with_len (λ (n : ℕ). letters_of (valuation_in run n)) 0 (count_of run loops) in
     subst (λ (found : Option (ℕ × ℕ)). Tells design found answer)
     (no-leave design run loops plain sound is replay.valuations (λ sample within.
     one (free_at design recording sample) (replay.valuations sample) (valuation_in run sample) (replay.computed sample (omega (arith, count, within))) (trace-filled design run loops plain sound is sample within)))
     replay.tells
 
-pub not-missing : (design : Design) → IsSound design → (run : Run) (loops : ℕ) → HasPlainNames design → (fault : ReplayFault) → IsMissing design (trace_sampled design run loops) fault → fault ≡ faults.NoMemory
+pub not-missing : (design : Design) → IsSound design → (run : Run) (loops : ℕ) → HasPlainNames design → (fault : ReplayFault) → IsMissing design (trace_sampled Zero design run loops) fault → fault ≡ faults.NoMemory
 not-missing design sound run loops plain (faults.MissingSignal name) (signal, missing, is) =
-    let none : first_missing design (trace_sampled design run loops) ≡ None = none-missing design run loops plain (free_of design) (free-within design sound) in
+    let none : first_missing design (trace_sampled Zero design run loops) ≡ None = none-missing design run loops plain (free_of design) (free-within design sound) in
     let wrong : None ≡ Some signal = sym none ∙ missing in cc
 not-missing design sound run loops plain faults.NoMemory missing = refl
 
 pub path-answered : (design : Design) → IsSound design → OneValuation design → (run : Run) (loops : ℕ) (result : Result Replay ReplayFault) → IsRun design run → HasPlainNames design
-    → IfOk result (IsReplay design (trace_sampled design run loops)) → IfErr result (IsMissing design (trace_sampled design run loops))
+    → IfOk result (IsReplay design (trace_sampled Zero design run loops)) → IfErr result (IsMissing design (trace_sampled Zero design run loops))
     → (result ≡ Ok replays.Path) ⊎ (result ≡ Err faults.NoMemory)
 path-answered design sound one run loops (Ok answer) is plain replay missing = inl (ap Ok (is-path design sound one run loops is plain answer replay))
 path-answered design sound one run loops (Err fault) is plain replay missing = inr (ap Err (not-missing design sound run loops plain fault missing))

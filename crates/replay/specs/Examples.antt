@@ -7,6 +7,7 @@ use Rattle.replay.specs.Leaving.{leaves}
 use Rattle.replay.specs.Recorded.{first_missing, recorded}
 use Rattle.trace.specs.Examples.{named_from}
 use Rattle.vcd_reader.specs.Sampled.{Sampled}
+use Rattle.vcd_reader.specs.declared.unknown.Unknown.TheVariants as unknowns
 use Rattle.vcd_writer.specs.Lines.{letters_of}
 
 -- a latch `q`, at first 0, and then what `n` was, which is the contrary of `q`
@@ -32,7 +33,8 @@ gated = record {
 
 -- a recording of signals of one bit, by their names and their values at each sample
 abbrev pub recording_of : List (List ℕ) → List (List Truth) → Sampled
-recording_of texts rows = record { names = named_from 0 texts; samples = map letters_of rows }
+recording_of texts rows =
+    record { names = named_from 0 texts; samples = map letters_of rows; places = []; unknown = unknowns.Zero }
 
 -- the valuations of a list, and then the last one of it for ever
 abbrev pub listed : List Truth → List (List Truth) → ℕ → List Truth

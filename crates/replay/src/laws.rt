@@ -7,6 +7,7 @@ ghost use Rattle.replay.specs.Paths.{HasPlainNames};
 ghost use Rattle.replay.specs.declared.answer.Replay.{Replay};
 ghost use Rattle.replay.specs.declared.answer.ReplayFault.{ReplayFault};
 ghost use Rattle.trace.specs.Trace.{trace_sampled};
+ghost use Rattle.vcd_reader.specs.declared.unknown.Unknown.{Unknown};
 
 use netlist::{Netlist, one_valuation_law, soundness_law};
 
@@ -14,7 +15,7 @@ use netlist::{Netlist, one_valuation_law, soundness_law};
 /// of the trace of a run that it is a path, unless memory is refused. What is said of its result is what `replay` says of it.
 pub fn path_law(netlist: &Netlist)
     ensures { (run : Run) (loops : ℕ) (result : Result Replay ReplayFault) → IsRun netlist.now run → HasPlainNames netlist.now
-        → IfOk result (IsReplay netlist.now (trace_sampled netlist.now run loops)) → IfErr result (IsMissing netlist.now (trace_sampled netlist.now run loops))
+        → IfOk result (IsReplay netlist.now (trace_sampled Unknown.Zero netlist.now run loops)) → IfErr result (IsMissing netlist.now (trace_sampled Unknown.Zero netlist.now run loops))
         → (result ≡ Ok Replay.Path) ⊎ (result ≡ Err ReplayFault.NoMemory) }
 {
     soundness_law(netlist);
