@@ -9,7 +9,7 @@ use Rattle.psl_tree.specs.Trees.{Formula, Test, Now, formula_of}
 use Rattle.commands.specs.declared.outcome.Fault.{Fault}
 use Rattle.commands.specs.declared.outcome.Outcome.{Outcome}
 use Rattle.commands.specs.declared.outcome.Outcome.TheVariants.{Made}
-use Rattle.vcd_writer.specs.Made.{made_text}
+use Rattle.vcd_writer.specs.Made.{made_sampled, made_text}
 use Rattle.vcd_reader.specs.declared.unknown.Unknown.TheVariants.{Zero}
 use Rattle.vcd_reader.specs.Meaning.{reading}
 use Rattle.vcd_reader.specs.Sampled.{Sampled, letters_of}
@@ -34,6 +34,10 @@ pub record IsAnswered (directive : Directive) : Type 0 where
 -- the directives: that one alone
 abbrev pub AreAnswered : List Directive → Type 0
 AreAnswered directives = (directive : Directive) × (directives ≡ directive ∷ []) × IsAnswered directive
+
+-- a recording says what the made text says
+pub record IsMade (seed samples : ℕ) (recording : Sampled) : Type 0 where
+  pub sampled : recording ≡ made_sampled Zero seed samples
 
 -- the verdicts on the letters of the made recording, as it is read from its text
 pub record AreMade (seed samples : ℕ) (verdicts : List Verdict) : Type 0 where

@@ -2,10 +2,9 @@ ghost use Rattle.std.specs.Prelude.{◌≡◌, ◌≤◌, length, codes, IfOk, I
 ghost use Rattle.psl_base.specs.Files.{content_of};
 ghost use Rattle.commands.specs.Faults.{of_none};
 ghost use Rattle.commands.specs.declared.reason.Reason.{Reason};
-ghost use Rattle.commands.specs.Generated.{AreMade, AreAnswered, GeneratedStage, answered, value_of};
-ghost use Rattle.vcd_writer.specs.Made.{made_text, made_sampled};
+ghost use Rattle.commands.specs.Generated.{AreMade, AreAnswered, GeneratedStage, IsMade, answered, value_of};
+ghost use Rattle.vcd_writer.specs.Made.{made_text};
 ghost use Rattle.vcd_reader.specs.Rules.{sample_limit};
-ghost use Rattle.vcd_reader.specs.declared.unknown.Unknown.{Unknown};
 
 use crate::outcome::{Fault, Outcome};
 use psl_base::{Bytes, File, Files, MemShelf, NoMemory, Numbers, Place, Text};
@@ -47,7 +46,7 @@ fn judge_made(alloc: Global, seed: u32, samples: u32) -> Result<(u64, Verdicts),
 fn read_made(alloc: Global, text: Bytes, seed: u32, samples: u32) -> Result<Recording, NoMemory>
     requires text { text ≡ made_text seed samples }
     requires few { samples ≤ sample_limit }
-    ensures { IfOk result (λ recording. recording ≡ made_sampled Unknown.Zero seed samples) }
+    ensures { IfOk result (IsMade seed samples) }
 {
     let mut shelf = shelf_of(alloc, text)?;
     match read_vcd(alloc, &mut shelf, "made.vcd", Unknown::Zero) {

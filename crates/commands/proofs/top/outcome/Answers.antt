@@ -1,5 +1,5 @@
 use Rattle.std.proofs.lemmas.Result.{err_from_is_err_and}
-use Rattle.commands.proofs.Answering.{wave-answers, wave-refuses, show-answers, show-refuses, netlist-answers, netlist-refuses, proof-answers, proof-refuses, check-answers, check-refuses}
+use Rattle.commands.proofs.Answering.{wave-answers, wave-refuses, show-answers, show-refuses, netlist-answers, netlist-refuses, proof-answers, proof-refuses, check-answers, check-refuses, gen-answers}
 use Rattle.commands.proofs.top.outcome.Goals as goal
 
 pub returns-in_ok-wave-in-Wave-clause-answer : goal.returns-in_ok-wave-in-Wave-clause-answer
@@ -60,3 +60,8 @@ returns-in_err-check-in-Check-clause-answer g c words is =
     rw (p.1, p.2) (check-refuses words c.in-Check.unit.now c.in-Check.netlist.now c.in-Check.number c.in-Check.certificate.now
     (g.F.Shelf.state c.args.files.now) (g.F.Shelf.state c.check.new.files)
     _ (rw c.in-Check.is at is) c.in_err-check-in-Check.ensures)
+
+pub returns-in-Gen-clause-answer : goal.returns-in-Gen-clause-answer
+returns-in-Gen-clause-answer g c words is =
+    gen-answers words c.in-Gen.seed c.in-Gen.samples (g.F.Shelf.state c.args.files.now) c.generate.result (rw c.in-Gen.is at is)
+    c.generate.ensures.made c.generate.ensures.memory
