@@ -85,7 +85,12 @@ Misses =
 
 -- a signal that is wider than a bit is none that is found, one of a single index is
 abbrev pub one_name : List ℕ → ℕ → ℕ → Sampled
-one_name text left right = record { names = record { text = text; signal = 0; left = left; right = right } ∷ []; samples = [] }
+one_name text left right = record {
+  names = record { text = text; signal = 0; left = left; right = right } ∷ [];
+  samples = [];
+  places = [];
+  unknown = unknowns.Zero;
+}
 
 abbrev pub Finds : Type 0
 Finds =
