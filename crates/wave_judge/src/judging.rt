@@ -37,7 +37,12 @@ pub fn judge(alloc: Global, unit: &Unit, recording: &Recording) -> Result<Verdic
     Ok(verdicts)
 }
 
-fn judge_one(
+/// What the three views of a recording say of one directive, whose atoms are in range of the recording's names.
+///
+/// # Errors
+/// `Sere` and `Automaton`, with the directive's number, come exactly where `judge` is answered with them for a unit of this
+/// directive alone. `NoMemory` may come at any time.
+pub fn judge_one(
     alloc: Global,
     directive: &Directive,
     recording: &Recording,

@@ -13,7 +13,7 @@ mod pass;
 mod verdict;
 
 pub use fault::JudgeFault;
-pub use judging::judge;
+pub use judging::{judge, judge_one};
 pub use laws::one_answer_law;
 pub use leveling::level;
 pub use verdict::{Level, Verdict, Verdicts};

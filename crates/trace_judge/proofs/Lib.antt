@@ -1,0 +1,4 @@
+mod Agreeing
+mod Held
+mod ReadBack
+mod Traces

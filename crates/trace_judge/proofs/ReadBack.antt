@@ -1,0 +1,74 @@
+-- The trace is read as what it says, and the atoms of a formula over the names of the netlist are those of the trace.
+use Rattle.std.proofs.Common.{◌≡◌, refl, sym, ◌∙◌, ap, List, ℕ, Some, Ok}
+use Rattle.std.specs.Prelude.{Result}
+use Rattle.netlist.specs.Design.{Design}
+use Rattle.netlist.specs.Sound.{IsSound}
+use Rattle.netlist.specs.declared.run.Run.{Run}
+use Rattle.psl_base.specs.Files.{content_of}
+use Rattle.psl_base.specs.MemShelfState.{MemoryShelf, shelf_state}
+use Rattle.psl_tree.specs.Atoms.{AtomsOfBoolean, AtomsOfFormula, AtomsOfSequence}
+use Rattle.psl_tree.specs.Names.{AtomInRange}
+use Rattle.psl_tree.specs.Trees.{Boolean, Sequence, Formula}
+use Rattle.psl_tree.specs.Trees as trees
+use Rattle.psl_tree.specs.declared.atom.Atom.{Atom}
+use Rattle.trace.proofs.Accepting.{trace-read}
+use Rattle.trace.specs.Trace.{trace_names, trace_sampled, trace_text}
+use Rattle.trace_judge.proofs.Held.{in-range}
+use Rattle.trace_judge.specs.Verdicts.{IsReadable}
+use Rattle.vcd_reader.specs.declared.fault.VcdFault.{VcdFault}
+use Rattle.vcd_reader.specs.declared.unknown.Unknown.TheVariants.{Zero}
+use Rattle.vcd_reader.specs.Meaning.{reading}
+use Rattle.vcd_reader.specs.Sampled.{Sampled}
+use Rattle.vcd_reader.specs.Told.{Says}
+
+same-some : (a b : List ℕ) → Some a ≡ Some b → a ≡ b
+same-some a b e = cc
+
+same-read : (a b : Sampled) (r : Result Sampled VcdFault) → r ≡ Ok a → r ≡ Ok b → a ≡ b
+same-read a b r p q = let e : Ok a ≡ Ok b = sym p ∙ q in cc
+
+-- what is read of a shelf that holds the trace
+pub read-trace : (shelf : MemoryShelf) (name text : List ℕ) (design : Design) (run : Run) (loops : ℕ) (recording : Sampled) → content_of shelf.store.files name ≡ Some text
+    → text ≡ trace_text design run loops → IsReadable design run loops → Says Zero (shelf_state shelf) name (Ok recording) → recording ≡ trace_sampled Zero design run loops
+read-trace shelf name text design run loops recording holds is readable says =
+    let found = says (content_of shelf.store.files) refl in
+    let same : found.0 ≡ text = same-some found.0 text (sym found.1 ∙ holds) in
+    same-read recording (trace_sampled Zero design run loops) (reading Zero (trace_text design run loops))
+    (ap (reading Zero) (sym (same ∙ is)) ∙ found.3) (trace-read Zero design run loops readable.is readable.words readable.signals readable.samples)
+
+-- ---- atoms that have more
+
+module _ (P Q : Atom → Type 0) (more : (atom : Atom) → P atom → Q atom) where
+  of-boolean : (b : Boolean) → AtomsOfBoolean P b → AtomsOfBoolean Q b
+  of-boolean (trees.Const value) h = tt
+  of-boolean (trees.Test atom) h = more atom h
+  of-boolean (trees.Not part) h = of-boolean part h
+  of-boolean (trees.And left right) h = (of-boolean left h.0, of-boolean right h.1)
+  of-boolean (trees.Or left right) h = (of-boolean left h.0, of-boolean right h.1)
+
+  of-sequence : (r : Sequence) → AtomsOfSequence P r → AtomsOfSequence Q r
+  of-sequence trees.Empty h = tt
+  of-sequence (trees.One test) h = of-boolean test h
+  of-sequence (trees.Concat left right) h = (of-sequence left h.0, of-sequence right h.1)
+  of-sequence (trees.Fuse left right) h = (of-sequence left h.0, of-sequence right h.1)
+  of-sequence (trees.Either left right) h = (of-sequence left h.0, of-sequence right h.1)
+  of-sequence (trees.Both left right) h = (of-sequence left h.0, of-sequence right h.1)
+  of-sequence (trees.Star part) h = of-sequence part h
+  of-sequence (trees.Clocked part clock) h = (of-sequence part h.0, of-boolean clock h.1)
+
+  of-formula : (f : Formula) → AtomsOfFormula P f → AtomsOfFormula Q f
+  of-formula (trees.Now test) h = of-boolean test h
+  of-formula (trees.NowStrong test) h = of-boolean test h
+  of-formula (trees.Weak sequence) h = of-sequence sequence h
+  of-formula (trees.Strong sequence) h = of-sequence sequence h
+  of-formula (trees.Not part) h = of-formula part h
+  of-formula (trees.And left right) h = (of-formula left h.0, of-formula right h.1)
+  of-formula (trees.Next part) h = of-formula part h
+  of-formula (trees.Until left right) h = (of-formula left h.0, of-formula right h.1)
+  of-formula (trees.Suffix sequence part) h = (of-sequence sequence h.0, of-formula part h.1)
+  of-formula (trees.Abort part test) h = (of-formula part h.0, of-boolean test h.1)
+  of-formula (trees.SyncAbort part test) h = (of-formula part h.0, of-boolean test h.1)
+  of-formula (trees.Clocked part clock) h = (of-formula part h.0, of-boolean clock h.1)
+
+pub in-trace : (design : Design) → IsSound design → (f : Formula) → AtomsOfFormula (AtomInRange design.names) f → AtomsOfFormula (AtomInRange (trace_names design)) f
+in-trace design sound f = of-formula (AtomInRange design.names) (AtomInRange (trace_names design)) (in-range design sound) f
