@@ -2,7 +2,7 @@
 use Rattle.std.specs.Prelude.{◌≡◌, ℕ, ◌+◌, ◌-◌, ◌*◌, ◌^◌, ◌<◌, ◌≤◌, List, [], ◌∷◌}
 use Rattle.std.specs.Prelude.{◌++◌, length, map, take, slice_index_or, Bool, true, false, Option, Some, None}
 use Rattle.std.specs.List.{All, Contains}
-use Rattle.word_pool.specs.declared.region.TheConstants.{MOST_WORDS}
+use Rattle.clause_store.specs.declared.region.TheConstants.{MOST_WORDS}
 use Rattle.clauses.specs.declared.cnf.Cnf.{Cnf}
 use Rattle.clauses.specs.Live.{all_live}
 use Rattle.clauses.specs.Literals.{clause_words}
@@ -50,7 +50,7 @@ pub record CanAdd (state : State) (clause : List ℕ) : Type 0 where
   pub head : state.head ≡ 0
   pub within : All (λ literal. literal < 2 * state.path.variables) clause
   pub words : stored_words state.clauses + length clause ≤ MOST_WORDS
-  pub numbers : length state.clauses < 2 ^ 32 - 1
+  pub numbers : length state.clauses < 2 ^ 31 - 1
 
 -- a clause was added
 pub record IsAdded (old : State) (clause : List ℕ) (new : State) : Type 0 where

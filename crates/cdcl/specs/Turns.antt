@@ -2,7 +2,7 @@
 use Rattle.std.specs.Prelude.{◌≡◌, ◌⊎◌, ℕ, ◌+◌, ◌-◌, ◌*◌, ◌^◌, ◌<◌}
 use Rattle.std.specs.Prelude.{◌≤◌, ◌↔◌, Bool, true, false, List, length, slice_index, slice_index_or}
 use Rattle.std.specs.List.{All, Contains}
-use Rattle.word_pool.specs.declared.region.TheConstants.{MOST_WORDS}
+use Rattle.clause_store.specs.declared.region.TheConstants.{MOST_WORDS}
 use Rattle.clause_store.specs.Stored.{stored_words}
 use Rattle.trail.specs.Literals.{opposite}
 use Rattle.trail.specs.Path.{Path, start_of}
@@ -51,7 +51,7 @@ pub record CanAttach (state : State) (lemma : List ℕ) : Type 0 where
   pub levels : 0 < length state.path.limits
   pub within : All (λ literal. literal < 2 * state.path.variables) lemma
   pub words : stored_words state.clauses + length lemma ≤ MOST_WORDS
-  pub numbers : length state.clauses < 2 ^ 32 - 1
+  pub numbers : length state.clauses < 2 ^ 31 - 1
 
 -- A level is that of a literal: the literal is false on it and on those above, and on none below.
 pub record IsLevelOf (path : Path) (literal level : ℕ) : Type 0 where

@@ -1,1 +1,3 @@
+pub mod Gaps
+pub mod Runs
 pub mod Storing

@@ -1,170 +1,50 @@
--- Clauses by id in a pool: what a clause more and a clause less make of them.
-use Rattle.std.proofs.Common.{◌≡◌, ◌≢◌, ℕ, zero, suc, ◌+◌, ◌<◌, cond, List, [], ◌∷◌, ◌++◌, length, set, get_or, Option, Some, None, IsSome, IfSome, is_some, refl, sym, ap, ◌∙◌, ◌⊎◌, inl, inr, arith}
-use Rattle.std.specs.List.{sum_by}
-use Rattle.std.proofs.lemmas.List.{map-append, map-set, get_or-map, length-map}
-use Rattle.std.proofs.lemmas.List.Sums.{sum_by-append, sum_by-cons, sum_by-set}
-use Rattle.word_pool.specs.Region.{Region, list_of, used_words, live_ids}
+-- What a clause more and a clause less make of a store.
+use Rattle.std.proofs.Common.{◌≡◌, ℕ, zero, suc, ◌+◌, ◌-◌, ◌*◌, ◌/◌, ◌%◌, ◌<◌, ◌≤◌, cond, nat_eq, List, [], ◌∷◌, ◌++◌, length, set, get_or, take, drop, slice_index, Option, Some, None, IsSome, is_some, refl, ap, subst, ◌∙◌, arith}
+use Rattle.std.proofs.Math.ListN.{get_or-append}
+use Rattle.std.proofs.Math.Seq.{drop-append_seam, take-length}
+use Rattle.std.proofs.lemmas.List.{length-append, get_or_past}
+use Rattle.std.proofs.lemmas.List.Sums.{sum_by-set}
 use Rattle.clause_store.specs.Stored.{place_words, stored_words, live_clauses}
-use Rattle.clause_store.specs.Fields.{clause_at, clauses_of, IsStored}
-
--- the same clauses, where each id has the same list
-clauses-same : (old new : Region) (ids : List (Option ℕ)) → ((place id : ℕ) → get_or ids place None ≡ Some id → list_of new id ≡ list_of old id) → clauses_of new ids ≡ clauses_of old ids
-clauses-same old new [] same = refl
-clauses-same old new (None ∷ ids) same = ap (λ cs. None ∷ cs) (clauses-same old new ids (λ place id at. same (suc place) id at))
-clauses-same old new (Some id ∷ ids) same =
-    rw (same 0 id refl) (ap (λ cs. list_of old id ∷ cs) (clauses-same old new ids (λ place other at. same (suc place) other at)))
-
--- an id of a list with one more
-at_push : (ids : List (Option ℕ)) (new : ℕ) (place id : ℕ) → get_or (ids ++ Some new ∷ []) place None ≡ Some id → (get_or ids place None ≡ Some id) ⊎ ((place ≡ length ids) × (id ≡ new))
-at_push [] new zero id at = inr (refl, cc)
-at_push [] new (suc place) id at = cc
-at_push (first ∷ ids) new zero id at = inl at
-at_push (first ∷ ids) new (suc place) id at =
-    elim (at_push ids new place id at) [ inl old ↦ inl old | inr last ↦ inr (ap suc last.0, last.1) ]
-
--- a place with an id is within
-at_within : (ids : List (Option ℕ)) (place id : ℕ) → get_or ids place None ≡ Some id → place < length ids
-at_within [] place id at = cc
-at_within (first ∷ ids) zero id at = omega arith
-at_within (first ∷ ids) (suc place) id at = let rest = at_within ids place id at in omega arith
-
--- an id that has a list is another than one that has none
-differs : (pool : Region) (id new : ℕ) → list_of pool new ≡ None → IsSome (list_of pool id) → id ≢ new
-differs pool id new none some same =
-    let gone : list_of pool id ≡ None = ap (list_of pool) same ∙ none in
-    cc
+use Rattle.clause_store.specs.Fields.{begin_at, clause_from, clauses_of, IsRising}
+use Rattle.clause_store.proofs.Gaps.{sum-more}
+use Rattle.clause_store.proofs.Runs.{length-clauses, get-clauses, Lies, lies, clause-words, clauses-same, clauses-more, rising-more, clauses-out, rising-out}
 
 abbrev as_number : Option (List ℕ) → ℕ
 as_number clause = cond (is_some clause) 1 0
 
--- a clause more
-pub record Added (old new : Region) (id : ℕ) (words : List ℕ) : Type 0 where
-  pub new_id : list_of old id ≡ None
-  pub stored : list_of new id ≡ Some words
-  pub others : (other : ℕ) → other ≢ id → list_of new other ≡ list_of old other
-  pub used : used_words new ≡ used_words old + length words
-  pub live : live_ids new ≡ live_ids old + 1
+-- a region and its runs, and how many words and clauses it has
+pub record Holds (words ends : List ℕ) (used live : ℕ) : Type 0 where
+  pub rising : IsRising 0 ends (length words)
+  pub used_is : used ≡ stored_words (clauses_of words ends)
+  pub live_is : live ≡ live_clauses (clauses_of words ends)
 
-kept : (old new : Region) (ids : List (Option ℕ)) (id : ℕ) (words : List ℕ) → IsStored old ids → Added old new id words
-    → (place other : ℕ) → get_or ids place None ≡ Some other → list_of new other ≡ list_of old other
-kept old new ids id words stored added place other at = added.others other (differs old other id added.new_id (stored.live place other at))
+-- a clause behind the others
+pub clauses-push : (words ends more : List ℕ) → IsRising 0 ends (length words)
+    → clauses_of (words ++ more) (ends ++ 2 * length (words ++ more) ∷ []) ≡ clauses_of words ends ++ Some more ∷ []
+clauses-push words ends more rising =
+    let code = 2 * length (words ++ more) in
+    let long : length (words ++ more) ≡ length words + length more = length-append words more in
+    let half : code / 2 ≡ length words + length more = omega (arith, long) in
+    let even : code % 2 ≡ 0 = omega arith in
+    let same : clauses_of (words ++ more) ends ≡ clauses_of words ends =
+    clauses-same words (words ++ more) 0 ends (length words) rising (omega arith) (omega (arith, long)) (λ place low high. get_or-append words more 0 place high) in
+    let size : code / 2 - length words ≡ length more = omega (arith, half) in
+    let last : clause_from (words ++ more) (length words) code ≡ Some more =
+    rw (even, size, drop-append_seam words more) (ap Some (take-length more)) in
+    clauses-more (words ++ more) 0 ends (length words) code rising ∙ rw (same, last) refl
 
-pub clauses-push : (old new : Region) (ids : List (Option ℕ)) (id : ℕ) (words : List ℕ) → IsStored old ids → Added old new id words
-    → clauses_of new (ids ++ Some id ∷ []) ≡ clauses_of old ids ++ Some words ∷ []
-clauses-push old new ids id words stored added =
-    rw (map-append (clause_at new) ids (Some id ∷ []), clauses-same old new ids (kept old new ids id words stored added), added.stored)
-
--- an id that was new stands at no place
-not_there : (old new : Region) (ids : List (Option ℕ)) (id place : ℕ) (words : List ℕ) → IsStored old ids → Added old new id words → get_or ids place None ≡ Some id → ⊥
-not_there old new ids id place words stored added at = differs old id id added.new_id (stored.live place id at) refl
-
-apart-push : (old new : Region) (ids : List (Option ℕ)) (id place other found : ℕ) (words : List ℕ) → IsStored old ids → Added old new id words
-    → (get_or ids place None ≡ Some found) ⊎ ((place ≡ length ids) × (found ≡ id))
-    → (get_or ids other None ≡ Some found) ⊎ ((other ≡ length ids) × (found ≡ id)) → place ≡ other
-apart-push old new ids id place other found words stored added (inl here) (inl there) = stored.apart place other found here there
-apart-push old new ids id place other found words stored added (inl here) (inr last) =
-    absurd (not_there old new ids id place words stored added (here ∙ ap (λ n. Some n) last.1))
-apart-push old new ids id place other found words stored added (inr last) (inl there) =
-    absurd (not_there old new ids id other words stored added (there ∙ ap (λ n. Some n) last.1))
-apart-push old new ids id place other found words stored added (inr last) (inr end) = last.0 ∙ sym end.0
-
-sum-push : (f : Option (List ℕ) → ℕ) (clauses : List (Option (List ℕ))) (clause : Option (List ℕ)) → sum_by f (clauses ++ clause ∷ []) ≡ sum_by f clauses + f clause
-sum-push f clauses clause = omega (arith, sum_by-append f clauses (clause ∷ []), sum_by-cons f clause [])
-
-pub stored-push : (old new : Region) (ids : List (Option ℕ)) (id : ℕ) (words : List ℕ) → IsStored old ids → Added old new id words → IsStored new (ids ++ Some id ∷ [])
-stored-push old new ids id words stored added = record {
-  live = λ place other at.
-      elim (at_push ids id place other at) [
-        | inl here ↦ rw (kept old new ids id words stored added place other here) (stored.live place other here)
-        | inr last ↦ rw (last.1, added.stored) refl
-      ];
-  apart = λ place other found at at'. apart-push old new ids id place other found words stored added (at_push ids id place found at) (at_push ids id other found at');
-  words = omega (
-    arith,
-    added.used,
-    stored.words,
-    ap stored_words (clauses-push old new ids id words stored added),
-    sum-push place_words (clauses_of old ids) (Some words),
-  );
-  count = omega (
-    arith,
-    added.live,
-    stored.count,
-    ap live_clauses (clauses-push old new ids id words stored added),
-    sum-push as_number (clauses_of old ids) (Some words),
-  );
-}
-
--- a clause less
-pub record Removed (old new : Region) (id : ℕ) : Type 0 where
-  pub gone : list_of new id ≡ None
-  pub others : (other : ℕ) → other ≢ id → list_of new other ≡ list_of old other
-  pub used : IfSome (list_of old id) (λ words. used_words old ≡ used_words new + length words)
-  pub live : live_ids old ≡ live_ids new + 1
-
--- an id that is left stood at another place
-left : (ids : List (Option ℕ)) (gone place id : ℕ) → get_or (set ids gone None) place None ≡ Some id → (place ≢ gone) × (get_or ids place None ≡ Some id)
-left [] gone place id at = cc
-left (first ∷ ids) zero zero id at = cc
-left (first ∷ ids) zero (suc place) id at = (λ same. omega arith, at)
-left (first ∷ ids) (suc gone) zero id at = (λ same. omega arith, at)
-left (first ∷ ids) (suc gone) (suc place) id at =
-    let rest = left ids gone place id at in
-    (λ same. rest.0 (omega arith), rest.1)
-
-left_same : (old new : Region) (ids : List (Option ℕ)) (gone id : ℕ) → IsStored old ids → Removed old new id → get_or ids gone None ≡ Some id
-    → (place other : ℕ) → get_or (set ids gone None) place None ≡ Some other → list_of new other ≡ list_of old other
-left_same old new ids gone id stored removed here place other at =
-    let was = left ids gone place other at in
-    removed.others other (λ same. was.0 (stored.apart place gone id (was.1 ∙ ap (λ n. Some n) same) here))
-
-pub clauses-remove : (old new : Region) (ids : List (Option ℕ)) (gone id : ℕ) → IsStored old ids → Removed old new id → get_or ids gone None ≡ Some id
-    → clauses_of new (set ids gone None) ≡ set (clauses_of old ids) gone None
-clauses-remove old new ids gone id stored removed here =
-    clauses-same old new (set ids gone None) (left_same old new ids gone id stored removed here)
-    ∙ map-set (clause_at old) ids gone None
-
--- a sum loses what stood at the place
-sum-set : (f : Option (List ℕ) → ℕ) (old : Region) (ids : List (Option ℕ)) (gone id : ℕ) → f None ≡ 0 → get_or ids gone None ≡ Some id
-    → sum_by f (set (clauses_of old ids) gone None) + f (list_of old id) ≡ sum_by f (clauses_of old ids)
-sum-set f old ids gone id none here =
-    let within = at_within ids gone id here in
-    let inside : gone < length (clauses_of old ids) = omega (arith, length-map ids (clause_at old)) in
-    let there : get_or (clauses_of old ids) gone None ≡ list_of old id = get_or-map (clause_at old) ids gone None None within ∙ ap (clause_at old) here in
-    omega (arith, sum_by-set f (clauses_of old ids) gone None None inside, ap f there, none)
-
-used_less : (old new : Region) (id : ℕ) (clause : Option (List ℕ)) → list_of old id ≡ clause → IsSome clause
-    → IfSome clause (λ words. used_words old ≡ used_words new + length words) → used_words old ≡ used_words new + place_words clause
-used_less old new id None is some used = cc
-used_less old new id (Some words) is some used = used
-
-live_one : (clause : Option (List ℕ)) → IsSome clause → as_number clause ≡ 1
-live_one None some = cc
-live_one (Some words) some = refl
-
-pub stored-remove : (old new : Region) (ids : List (Option ℕ)) (gone id : ℕ) → IsStored old ids → Removed old new id → get_or ids gone None ≡ Some id → IsStored new (set ids gone None)
-stored-remove old new ids gone id stored removed here = record {
-  live = λ place other at.
-      let was = left ids gone place other at in
-      rw (left_same old new ids gone id stored removed here place other at) (stored.live place other was.1);
-  apart = λ place other found at at'.
-      stored.apart place other found (left ids gone place found at).1 (left ids gone other found at').1;
-  words = omega (
-    arith,
-    used_less old new id (list_of old id) refl (stored.live gone id here) removed.used,
-    stored.words,
-    ap stored_words (clauses-remove old new ids gone id stored removed here),
-    sum-set place_words old ids gone id refl here,
-  );
-  count = omega (
-    arith,
-    removed.live,
-    stored.count,
-    live_one (list_of old id) (stored.live gone id here),
-    ap live_clauses (clauses-remove old new ids gone id stored removed here),
-    sum-set as_number old ids gone id refl here,
-  );
-}
+pub holds-push : (words ends more : List ℕ) (used live : ℕ) → Holds words ends used live
+    → Holds (words ++ more) (ends ++ 2 * length (words ++ more) ∷ []) (used + length more) (live + 1)
+holds-push words ends more used live holds =
+    let code = 2 * length (words ++ more) in
+    let half : code / 2 ≡ length (words ++ more) = omega arith in
+    let order : length words ≤ code / 2 = omega (arith, half, length-append words more) in
+    let pushed = clauses-push words ends more holds.rising in
+    record {
+      rising = subst (λ stop. IsRising 0 (ends ++ code ∷ []) stop) half (rising-more 0 ends (length words) code holds.rising order);
+      used_is = rw pushed (omega (arith, holds.used_is, sum-more place_words (clauses_of words ends) (Some more)));
+      live_is = rw pushed (omega (arith, holds.live_is, sum-more as_number (clauses_of words ends) (Some more)));
+    }
 
 -- a place with a clause is within
 some_within : {X : Type 0} (xs : List (Option X)) (place : ℕ) → IsSome (get_or xs place None) → place < length xs
@@ -172,5 +52,73 @@ some_within [] place some = cc
 some_within (x ∷ xs) zero some = omega arith
 some_within (x ∷ xs) (suc place) some = let rest = some_within xs place some in omega arith
 
-pub clause_within : (pool : Region) (ids : List (Option ℕ)) (place : ℕ) → IsSome (get_or (clauses_of pool ids) place None) → place < length ids
-clause_within pool ids place some = omega (arith, some_within (clauses_of pool ids) place some, length-map ids (clause_at pool))
+pub clause_within : (words ends : List ℕ) (place : ℕ) → IsSome (get_or (clauses_of words ends) place None) → place < length ends
+clause_within words ends place some = omega (arith, some_within (clauses_of words ends) place some, length-clauses words 0 ends)
+
+even-by : (bit : ℕ) (words : List ℕ) → bit < 2 → IsSome (cond (nat_eq bit 0) (Some words) None) → bit ≡ 0
+even-by zero words small some = refl
+even-by (suc zero) words small some = cc
+even-by (suc (suc bit)) words small some = absurd (omega (arith, small))
+
+-- what is known of a place with a clause
+pub record Stands (words ends : List ℕ) (place : ℕ) : Type 0 where
+  pub within : place < length ends
+  pub even : slice_index ends place % 2 ≡ 0
+  pub lies : Lies (begin_at 0 ends place) (slice_index ends place) (length words)
+
+pub stands : (words ends : List ℕ) (place : ℕ) → IsRising 0 ends (length words) → IsSome (get_or (clauses_of words ends) place None) → Stands words ends place
+stands words ends place rising some =
+    let within : place < length ends = clause_within words ends place some in
+    let code = slice_index ends place in
+    let there : IsSome (clause_from words (begin_at 0 ends place) code) = rw (← get-clauses words 0 ends place within) some in
+    record {
+      within = within;
+      even = even-by (code % 2) (take (code / 2 - begin_at 0 ends place) (drop (begin_at 0 ends place) words)) (omega arith) there;
+      lies = lies 0 ends (length words) place rising within;
+    }
+
+live_one : (clause : Option (List ℕ)) → IsSome clause → as_number clause ≡ 1
+live_one None some = cc
+live_one (Some words) some = refl
+
+-- what the mark of a clause that is taken out does
+pub record Removes (words ends : List ℕ) (used live place : ℕ) : Type 0 where
+  pub size : slice_index ends place / 2 - begin_at 0 ends place ≤ used
+  pub one : 1 ≤ live
+  pub clauses : clauses_of words (set ends place (slice_index ends place + 1)) ≡ set (clauses_of words ends) place None
+  pub holds : Holds words (set ends place (slice_index ends place + 1)) (used - (slice_index ends place / 2 - begin_at 0 ends place)) (live - 1)
+
+pub removes : (words ends : List ℕ) (used live place : ℕ) → Holds words ends used live → IsSome (get_or (clauses_of words ends) place None)
+    → Removes words ends used live place
+removes words ends used live place holds some =
+    let at = stands words ends place holds.rising some in
+    let code = slice_index ends place in
+    let out = clauses-out words 0 ends place at.within at.even in
+    let inside : place < length (clauses_of words ends) = omega (arith, at.within, length-clauses words 0 ends) in
+    let here : get_or (clauses_of words ends) place None ≡ clause_from words (begin_at 0 ends place) code = get-clauses words 0 ends place at.within in
+    let size : place_words (clause_from words (begin_at 0 ends place) code) ≡ code / 2 - begin_at 0 ends place =
+    clause-words words (begin_at 0 ends place) code at.lies.within ∙ rw at.even refl in
+    let one : as_number (get_or (clauses_of words ends) place None) ≡ 1 = live_one (get_or (clauses_of words ends) place None) some in
+    let words_set = sum_by-set place_words (clauses_of words ends) place None None inside in
+    let live_set = sum_by-set as_number (clauses_of words ends) place None None inside in
+    record {
+      size = omega (arith, holds.used_is, size, ap place_words here, words_set);
+      one = omega (arith, holds.live_is, one, live_set);
+      clauses = out;
+      holds = record {
+        rising = rising-out 0 ends (length words) place at.within at.even holds.rising;
+        used_is = rw out (omega (arith, holds.used_is, size, ap place_words here, words_set));
+        live_is = rw out (omega (arith, holds.live_is, one, live_set));
+      };
+    }
+
+-- the clause of a place, by its code
+pub clause-past : (words ends : List ℕ) (place : ℕ) → length ends ≤ place → get_or (clauses_of words ends) place None ≡ None
+clause-past words ends place past = get_or_past (clauses_of words ends) place None (omega (arith, past, length-clauses words 0 ends))
+
+pub clause-out : (words ends : List ℕ) (place : ℕ) → place < length ends → slice_index ends place % 2 ≡ 1 → get_or (clauses_of words ends) place None ≡ None
+clause-out words ends place within odd = get-clauses words 0 ends place within ∙ rw odd refl
+
+pub clause-there : (words ends : List ℕ) (place : ℕ) → place < length ends → slice_index ends place % 2 ≡ 0
+    → get_or (clauses_of words ends) place None ≡ Some (take (slice_index ends place / 2 - begin_at 0 ends place) (drop (begin_at 0 ends place) words))
+clause-there words ends place within even = get-clauses words 0 ends place within ∙ rw even refl

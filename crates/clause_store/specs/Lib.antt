@@ -1,3 +1,2 @@
-pub use Rattle.word_pool.specs.Region
 pub mod Fields
 pub mod Stored

@@ -1,22 +1,27 @@
 ghost use Rattle.std.specs.Prelude.{◌≡◌, [], ◌∷◌, ◌++◌, ◌+◌, ◌-◌, ◌^◌, ◌<◌, ◌≤◌, length, slice_index_or, slice_set, Some, None, IsSome, IfSome, IfNone, OnOk, OnErr};
-ghost use Rattle.word_pool.specs.declared.region.TheConstants.{MOST_WORDS};
 ghost use Rattle.clause_store.specs.Stored.{stored_words, live_clauses};
+ghost use Rattle.clause_store.specs.declared.region.TheConstants.{MOST_WORDS};
 
+use crate::region::{clause_at, compact, make_room, take_out};
 use psl_base::NoMemory;
 use std::alloc::Global;
 use std::marker::Model;
-use word_pool::{Id, Pool};
 
 /// Clauses by place, counted from 0. Each clause gets the next place, and keeps it until it is taken out; a place is
 /// never used again. A clause is a list of words, such as the codes of its literals.
 ///
-/// The words lie in one region. Words of clauses that were taken out are used again.
+/// The words lie in one region, in the order of the places. Words of clauses that were taken out are used again.
 #[derive(Drop)]
 pub struct Store {
-    pool: Pool,
-    ids: Vec<Option<Id>>,
-    // How many words were given back since the clauses were last moved together.
-    loose: usize,
+    // The words of the clauses, and between them those of clauses that were taken out.
+    words: Vec<u32>,
+    // By place: twice where its words end, and one more if the clause was taken out. The words begin where those of
+    // the place before end.
+    ends: Vec<u32>,
+    // The words of the clauses that are there.
+    used: u32,
+    // How many clauses are there.
+    live: u32,
 }
 
 impl Model for Store {
@@ -25,7 +30,7 @@ impl Model for Store {
 
     ghost Value = { List (Option (List ℕ)) };
 
-    ghost view = { λ store. clauses_of store.pool store.ids.items };
+    ghost view = { λ store. clauses_of store.words.items store.ends.items };
 
     ghost invariant = { IsStore };
 }
@@ -36,9 +41,10 @@ impl Store {
         ensures { result ≡ [] }
     {
         Store {
-            pool: Pool::new(alloc),
-            ids: Vec::new(alloc),
-            loose: 0,
+            words: Vec::new(alloc),
+            ends: Vec::new(alloc),
+            used: 0,
+            live: 0,
         }
     }
 
@@ -46,21 +52,21 @@ impl Store {
     pub fn len(&self) -> usize
         ensures { result ≡ length self.now }
     {
-        self.ids.len()
+        self.ends.len()
     }
 
     /// How many clauses there are.
     pub fn live(&self) -> u32
         ensures { result ≡ live_clauses self.now }
     {
-        self.pool.live_ids()
+        self.live
     }
 
     /// The words of all clauses together.
     pub fn words(&self) -> u32
         ensures { result ≡ stored_words self.now }
     {
-        self.pool.used_words()
+        self.used
     }
 
     /// The clause at a place. None where it was taken out, or none was put there yet.
@@ -68,10 +74,7 @@ impl Store {
         ensures some { IfSome result (λ words. slice_index_or self.now place None ≡ Some words.now) }
         ensures none { IfNone result (slice_index_or self.now place None ≡ None) }
     {
-        match self.ids.get(place) {
-            Some(Some(id)) => Some(self.pool.get(*id)),
-            _ => None,
-        }
+        clause_at(&self.words, &self.ends, place)
     }
 
     /// Adds a clause, at the next place. Where memory is refused, the clauses stay.
@@ -81,11 +84,12 @@ impl Store {
         ensures ok { OnOk result (self.new ≡ self.old ++ Some words.now ∷ []) }
         ensures err { OnErr result (self.new ≡ self.old) }
     {
-        self.ids.reserve(1)?;
-        let id = self.pool.put(words)?;
-        let Ok(()) = self.ids.push(Some(id)) else {
-            unreachable!()
-        };
+        make_room(&mut self.words, &mut self.ends, words.len());
+        self.ends.reserve(1)?;
+        self.words.extend_from_slice(words)?;
+        self.ends.push_reserved(2 * self.words.len() as u32);
+        self.used += words.len() as u32;
+        self.live += 1;
         Ok(())
     }
 
@@ -94,12 +98,8 @@ impl Store {
         requires { IsSome (slice_index_or self.old place None) }
         ensures { self.new ≡ slice_set self.old place None }
     {
-        let Some(id) = self.ids[place] else {
-            unreachable!()
-        };
-        self.loose = self.loose.saturating_add(self.pool.get(id).len());
-        self.pool.give_back(id);
-        self.ids[place] = None;
+        self.used -= take_out(&mut self.ends, place);
+        self.live -= 1;
         self.compact_seldom();
     }
 
@@ -107,7 +107,8 @@ impl Store {
     fn compact_seldom(&mut self)
         ensures { self.new ≡ self.old }
     {
-        if self.loose > self.pool.used_words() as usize + self.ids.len() {
+        let used = self.used as usize;
+        if self.words.len() > 2 * used + self.ends.len() {
             self.compact();
         }
     }
@@ -116,7 +117,6 @@ impl Store {
     pub fn compact(&mut self)
         ensures { self.new ≡ self.old }
     {
-        self.pool.compact();
-        self.loose = 0;
+        compact(&mut self.words, &mut self.ends);
     }
 }

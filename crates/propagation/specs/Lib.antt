@@ -1,4 +1,5 @@
 pub mod Adding
+pub mod Packing
 pub mod State
 pub mod Watching
 pub mod Visits

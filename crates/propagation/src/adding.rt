@@ -1,7 +1,7 @@
 // Clauses that are added.
 ghost use Rattle.std.specs.Prelude.{◌≡◌, ◌≢◌, ◌⊎◌, ℕ, suc, [], ◌∷◌, ◌++◌, ◌+◌, ◌-◌, ◌^◌, ◌<◌, ◌≤◌, List, length, replicate, nat_eq, Some, None, IfOk, OnOk, OnErr};
 ghost use Rattle.propagation.specs.declared.watch.Watch.{Watch};
-ghost use Rattle.word_pool.specs.declared.region.TheConstants.{MOST_WORDS};
+ghost use Rattle.clause_store.specs.declared.region.TheConstants.{MOST_WORDS};
 ghost use Rattle.clause_store.specs.Stored.{stored_words};
 ghost use Rattle.propagation.specs.Adding.{Adds, IsRefused, with_both};
 
@@ -29,7 +29,7 @@ pub(crate) fn store(
     pair: Pair,
 ) -> Result<u32, NoMemory>
     requires words { stored_words clauses.old + length clause.now ≤ MOST_WORDS }
-    requires numbers { length clauses.old < 2 ^ 32 - 1 }
+    requires numbers { length clauses.old < 2 ^ 31 - 1 }
     ensures ok { OnOk result (Adds clauses.old pairs.old.items (Some clause.now) pair clauses.new pairs.new.items) }
     ensures number { IfOk result (λ number. number ≡ suc (length clauses.old)) }
     ensures err { OnErr result ((clauses.new ≡ clauses.old) × (pairs.new.items ≡ pairs.old.items)) }
@@ -49,6 +49,7 @@ fn name_in_both(
 ) -> Result<(), NoMemory>
     requires first { pair.first < length lists.old }
     requires second { pair.second < length lists.old }
+    requires number { number < 2 ^ 31 }
     ensures ok { OnOk result (lists.new ≡ with_both lists.old number pair is_short) }
     ensures err { OnErr result (lists.new ≡ lists.old) }
 {
@@ -79,7 +80,7 @@ pub(crate) fn add(
     requires first { pair.first < length lists.old }
     requires second { pair.second < length lists.old }
     requires words { stored_words clauses.old + length clause.now ≤ MOST_WORDS }
-    requires numbers { length clauses.old < 2 ^ 32 - 1 }
+    requires numbers { length clauses.old < 2 ^ 31 - 1 }
     ensures ok { OnOk result (Adds clauses.old pairs.old.items (Some clause.now) pair clauses.new pairs.new.items) }
     ensures lists { OnOk result (lists.new ≡ with_both lists.old (suc (length clauses.old)) pair (nat_eq (length clause.now) 2)) }
     ensures number { IfOk result (λ number. number ≡ suc (length clauses.old)) }

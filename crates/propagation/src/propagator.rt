@@ -8,11 +8,11 @@ ghost use Rattle.propagation.specs.State.{State, Extends, IsConflict, IsSettled,
 ghost use Rattle.propagation.specs.Adding.{KeepsClauses};
 ghost use Rattle.propagation.specs.Visits.{StopsFor};
 ghost use Rattle.clause_store.specs.Stored.{stored_words};
-ghost use Rattle.word_pool.specs.declared.region.TheConstants.{MOST_WORDS};
+ghost use Rattle.clause_store.specs.declared.region.TheConstants.{MOST_WORDS};
 
 use crate::adding::{add, empty_lists, store};
 use crate::visit::clause_at;
-use crate::watch::{Pair, Stop, Watch, WatchList, close_gap};
+use crate::watch::{Packed, Pair, Stop, WatchList, close_gap};
 use crate::work::visit_list;
 use clause_store::Store;
 use psl_base::NoMemory;
@@ -33,7 +33,7 @@ pub struct Propagator {
     // By literal.
     lists: Vec<WatchList>,
     // The list that is worked on.
-    working: Vec<Watch>,
+    working: Vec<Packed>,
     // How many literals of the trail were propagated.
     head: usize,
 }
@@ -189,7 +189,7 @@ impl Propagator {
         requires first_watch { CanWatch self.old first }
         requires second_watch { CanWatch self.old second }
         requires words { stored_words self.old.clauses + length clause.now ≤ MOST_WORDS }
-        requires numbers { length self.old.clauses < 2 ^ 32 - 1 }
+        requires numbers { length self.old.clauses < 2 ^ 31 - 1 }
         ensures ok { OnOk result (self.new ≡ record self.old { clauses = self.old.clauses ++ Some clause.now ∷ [] }) }
         ensures err_clauses { OnErr result (KeepsClauses self.old.clauses self.new.clauses) }
         ensures err { OnErr result ((self.new.path ≡ self.old.path) × (self.new.head ≡ self.old.head)) }
@@ -213,7 +213,7 @@ impl Propagator {
         requires within { All (λ literal. literal < 2 * self.old.path.variables) clause.now }
         requires learn { CanLearn self.old.path clause.now first second }
         requires words { stored_words self.old.clauses + length clause.now ≤ MOST_WORDS }
-        requires numbers { length self.old.clauses < 2 ^ 32 - 1 }
+        requires numbers { length self.old.clauses < 2 ^ 31 - 1 }
         ensures ok { OnOk result (self.new ≡ record self.old {
           clauses = self.old.clauses ++ Some clause.now ∷ [];
           path = pushed self.old.path first (length self.old.clauses + 1);
@@ -245,7 +245,7 @@ impl Propagator {
         requires lowest { self.old.path.limits ≡ [] }
         requires not_false { Contains self.old.path.literals (opposite literal) → ⊥ }
         requires words { stored_words self.old.clauses + length clause.now ≤ MOST_WORDS }
-        requires numbers { length self.old.clauses < 2 ^ 32 - 1 }
+        requires numbers { length self.old.clauses < 2 ^ 31 - 1 }
         ensures clauses { OnOk result (self.new.clauses ≡ self.old.clauses ++ Some clause.now ∷ []) }
         ensures was_true { OnOk result (Contains self.old.path.literals literal → self.new.path ≡ self.old.path) }
         ensures asserted { OnOk result ((Contains self.old.path.literals literal → ⊥)

@@ -1,5 +1,5 @@
 // What a clause watches, the lists of those that watch a literal, and what is found there.
-ghost use Rattle.std.specs.Prelude.{◌≡◌, ◌≢◌, ◌≤◌, ◌+◌, ◌-◌, [], ◌∷◌, ◌++◌, take, drop, length, IfSome, IfNone, OnOk, OnErr};
+ghost use Rattle.std.specs.Prelude.{◌^◌, ◌<◌, ◌≡◌, ◌≢◌, ◌≤◌, ◌+◌, ◌-◌, [], ◌∷◌, ◌++◌, take, drop, length, IfSome, IfNone, OnOk, OnErr};
 ghost use Rattle.propagation.specs.Watching.{Watches, IsPairOf};
 
 use psl_base::NoMemory;
@@ -39,6 +39,50 @@ pub(crate) struct Watch {
     pub(crate) is_short: bool,
 }
 
+/// An entry as the lists keep it, in 8 bytes.
+#[derive(Clone, Copy)]
+pub(crate) struct Packed {
+    // Twice the clause's number, and one more where the clause has two literals.
+    code: u32,
+    blocker: u32,
+}
+
+impl Model for Packed {
+    ghost use Rattle.propagation.specs.declared.watch.Watch.{Watch};
+    ghost use Rattle.propagation.specs.Packing.{packed, unpacked, packed_unpacked};
+
+    ghost Value = { Watch };
+
+    ghost view = { unpacked };
+
+    ghost inverse = { packed };
+
+    ghost inverse_ok = { λ entry sound. packed_unpacked entry };
+}
+
+impl Packed {
+    pub(crate) fn new(watch: Watch) -> Packed
+        requires { watch.number < 2 ^ 31 }
+        ensures { result ≡ watch }
+    {
+        Packed {
+            code: 2 * watch.number + watch.is_short as u32,
+            blocker: watch.blocker,
+        }
+    }
+
+    pub(crate) fn watch(self) -> Watch
+        ensures is { result ≡ self }
+        ensures number { result.number < 2 ^ 31 }
+    {
+        Watch {
+            number: self.code / 2,
+            blocker: self.blocker,
+            is_short: self.code % 2 == 1,
+        }
+    }
+}
+
 /// What a look at an entry finds.
 #[derive(Clone, Copy)]
 pub(crate) enum Visit {
@@ -75,7 +119,7 @@ pub(crate) enum Outcome {
 /// The entries of a literal's list.
 #[derive(Drop)]
 pub(crate) struct WatchList {
-    entries: Vec<Watch>,
+    entries: Vec<Packed>,
 }
 
 impl Model for WatchList {
@@ -98,10 +142,11 @@ impl WatchList {
 
     /// Adds an entry. Where memory is refused, the list stays.
     pub(crate) fn push(&mut self, watch: Watch) -> Result<(), NoMemory>
+        requires { watch.number < 2 ^ 31 }
         ensures ok { OnOk result (self.new ≡ self.old ++ watch ∷ []) }
         ensures err { OnErr result (self.new ≡ self.old) }
     {
-        self.entries.push(watch)?;
+        self.entries.push(Packed::new(watch))?;
         Ok(())
     }
 
@@ -113,7 +158,7 @@ impl WatchList {
     }
 
     /// Exchanges the entries for others.
-    pub(crate) fn swap(&mut self, other: &mut Vec<Watch>)
+    pub(crate) fn swap(&mut self, other: &mut Vec<Packed>)
         ensures here { self.new ≡ other.old.items }
         ensures there { other.new.items ≡ self.old }
     {
@@ -122,7 +167,7 @@ impl WatchList {
 }
 
 /// Takes out the entries from one place up to another.
-pub(crate) fn close_gap(list: &mut Vec<Watch>, kept: usize, next: usize)
+pub(crate) fn close_gap(list: &mut Vec<Packed>, kept: usize, next: usize)
     requires order { kept ≤ next }
     requires within { next ≤ length list.old.items }
     ensures { list.new.items ≡ take kept list.old.items ++ drop next list.old.items }

@@ -1,5 +1,5 @@
 // Visits to the entries of a false literal's list, which is worked in place.
-ghost use Rattle.std.specs.Prelude.{◌≡◌, ◌≢◌, ◌⊎◌, ℕ, [], ◌*◌, ◌<◌, ◌≤◌, List, length, take, drop, slice_index, Some, None, IfSome, IfNone};
+ghost use Rattle.std.specs.Prelude.{◌^◌, ◌≡◌, ◌≢◌, ◌⊎◌, ℕ, [], ◌*◌, ◌<◌, ◌≤◌, List, length, take, drop, slice_index, Some, None, IfSome, IfNone};
 ghost use Rattle.std.specs.List.{All, Contains};
 ghost use Rattle.clauses.specs.Live.{clause_of};
 ghost use Rattle.trail.specs.Literals.{opposite};
@@ -8,7 +8,7 @@ ghost use Rattle.propagation.specs.Watching.{IsPaired, IsEntry, IsVisiting};
 ghost use Rattle.propagation.specs.Visits.{Moves, Visited, StopsFor};
 
 use crate::visit::look_at;
-use crate::watch::{Outcome, Pair, Stop, Visit, Watch, WatchList};
+use crate::watch::{Outcome, Packed, Pair, Stop, Visit, Watch, WatchList};
 use clause_store::Store;
 use trail::{Trail, opposite};
 
@@ -25,6 +25,7 @@ fn visit(
     requires within { (number : ℕ) (clause : List ℕ) → clause_of clauses.now number ≡ Some clause → All (λ literal. literal < 2 * trail.old.variables) clause }
     requires size { length lists.old ≡ 2 * trail.old.variables }
     requires entry { IsEntry clauses.now (length pairs.old) (2 * trail.old.variables) literal watch }
+    requires small { watch.number < 2 ^ 31 }
     requires false_ { Contains trail.old.literals (opposite literal) }
     ensures { Visited clauses.now pairs.old lists.old trail.old literal watch result pairs.new lists.new trail.new }
 {
@@ -43,6 +44,7 @@ fn visit(
 /// Lets a clause watch another pair, of which the second literal was watched before.
 fn move_watch(pairs: &mut [Pair], lists: &mut [WatchList], number: u32, pair: Pair) -> Outcome
     requires number { number < length pairs.old }
+    requires small { number < 2 ^ 31 }
     requires first { pair.first < length lists.old }
     ensures { ((result ≡ Outcome.Gone) × Moves pairs.old lists.old number pair pairs.new lists.new)
         ⊎ ((result ≡ Outcome.Stop Stop.NoMemory) × (pairs.new ≡ pairs.old) × (lists.new ≡ lists.old)) }
@@ -75,7 +77,7 @@ pub(crate) fn visit_list(
     pairs: &mut [Pair],
     lists: &mut [WatchList],
     trail: &mut Trail,
-    list: &mut [Watch],
+    list: &mut [Packed],
     head: usize,
 ) -> Gap
     requires head { head < length trail.old.literals }
@@ -94,9 +96,9 @@ pub(crate) fn visit_list(
     let mut kept = 0;
     let mut next = 0;
     while next < list.len() {
-        match visit(clauses, pairs, lists, trail, list[next], literal) {
+        match visit(clauses, pairs, lists, trail, list[next].watch(), literal) {
             Outcome::Keep(watch) => {
-                list[kept] = watch;
+                list[kept] = Packed::new(watch);
                 kept += 1;
             }
             Outcome::Gone => {}
