@@ -1,5 +1,6 @@
 pub mod Forms
 pub mod Hitting
+pub mod Labelled
 pub mod Lasting
 pub mod Letters
 pub mod Merging

@@ -1,6 +1,6 @@
 -- An automaton whose states that are alike are one reads the same lists.
-use Rattle.std.proofs.Common.{◌≡◌, ◌↔◌, inl, inr, refl, sym, ap, ◌∙◌, subst, ℕ, zero, suc, ◌+◌, ◌-◌, ◌<◌, ◌≤◌, ◌^◌, Bool as Truth, true, false, List, [], ◌∷◌, ◌++◌, length, map, replicate, get_or, All, arith}
-use Rattle.std.specs.Prelude.{IsTrue, ◌==◌, ◌&&◌, if◌then◌else◌, slice_index}
+use Rattle.std.proofs.Common.{◌≡◌, ◌↔◌, inl, inr, refl, sym, ap, ◌∙◌, subst, ℕ, zero, suc, ◌+◌, ◌-◌, ◌<◌, ◌≤◌, ◌^◌, Bool as Truth, false, List, [], ◌∷◌, ◌++◌, length, map, replicate, get_or, All, arith}
+use Rattle.std.specs.Prelude.{IsTrue, ◌==◌, if◌then◌else◌, slice_index}
 use Rattle.std.proofs.lemmas.Bool.{cases_lt, cases_eq, both_ways, eq-eqb}
 use Rattle.std.proofs.lemmas.Bool.Decides.{nat_tests}
 use Rattle.std.proofs.lemmas.List.{length-append, length-map, get_or_append_left, get_or-map, get_or_default}
@@ -9,7 +9,7 @@ use Rattle.std.proofs.Math.Seq.{get_or-append_seam}
 use Rattle.psl_tree.specs.Trees.{Const}
 use Rattle.psl_tree.specs.declared.letter.Letter.{Letter}
 use Rattle.psl_tree.specs.declared.letter.Letter.TheVariants.{Top}
-use Rattle.sere_nfa.specs.Acceptance.{Edge, State, Automaton, no_state, state_at, Steps, AcceptsFrom, ReachesEnd, LeadsWithin, IsSound}
+use Rattle.sere_nfa.specs.Acceptance.{Edge, State, no_state, state_at, Steps, AcceptsFrom, ReachesEnd, LeadsWithin, IsSound}
 use Rattle.sere_nfa.specs.Views.{edge_of, edges_of}
 use Rattle.sere_nfa.specs.declared.edge.NfaEdge.{NfaEdge}
 use Rattle.lasso_judge.specs.Arrows.{edge_at}

@@ -6,7 +6,7 @@ use Rattle.std.proofs.lemmas.Bool.{cases_lt}
 use Rattle.lasso_judge.specs.Tables.{Has, Leads}
 
 -- what is known below a number, and at it
-below-more : (i : ℕ) (P : ℕ → Type 0) → ((p : ℕ) → p < i → P p) → P i → (p : ℕ) → p < i + 1 → P p
+pub below-more : (i : ℕ) (P : ℕ → Type 0) → ((p : ℕ) → p < i → P p) → P i → (p : ℕ) → p < i + 1 → P p
 below-more i P h here p l = elim (cases_lt p i) as (λ _. P p) [
   | inl k ↦ h p k
   | inr k ↦ (let e : i ≡ p = omega arith in subst P e here)

@@ -1,5 +1,6 @@
 pub mod Arrows
 pub mod Cells
+pub mod Labels
 pub mod Limits
 pub mod MergedView
 pub mod Merging

@@ -3,10 +3,12 @@ ghost use Rattle.std.specs.Prelude.{if◌then◌else◌, slice_index_or, OnOk};
 ghost use Rattle.psl_tree.specs.Holds.{holds};
 ghost use Rattle.lasso_judge.specs.Arrows.{arrow_at, label_of, IsChart, IsDrawn};
 ghost use Rattle.lasso_judge.specs.Cells.{cell_of, fresh_at, fresh_back};
+ghost use Rattle.lasso_judge.specs.Labels.{into_at, left_by, unmarked_at, AreSources, IsLabelled};
 ghost use Rattle.lasso_judge.specs.Seen.{seen_at};
 ghost use Rattle.lasso_judge.specs.Tables.{value_at};
 
 use crate::chart::Chart;
+use crate::labels::{arrows_to, known, label};
 use crate::places::holds_at;
 use psl_base::NoMemory;
 use psl_tree::Word;
@@ -24,41 +26,146 @@ pub(crate) fn cells_before(
     found: &mut Vec<u32>,
 ) -> Result<(), NoMemory>
     requires chart { IsChart next.now chart.now }
+    requires labels { IsLabelled (λ place. seen_at word.now flipped place) chart.now }
     requires marks { length marks.now ≡ chart.now.cells }
     requires within { cell < chart.now.cells }
     ensures { OnOk result (found.new.items ≡
         fresh_back chart.now.nfa.states (λ place. seen_at word.now flipped place) chart.now.arrows.items marks.now
         (slice_index_or chart.now.before.items (cell / length chart.now.nfa.states) [])
-        (slice_index_or chart.now.into.items (cell % length chart.now.nfa.states) [])) }
+        (into_at chart.now (cell % length chart.now.nfa.states))) }
 {
     let states = chart.nfa.len();
     let before = chart.before[cell as usize / states].as_slice();
-    let into = chart.into[cell as usize % states].as_slice();
     found.clear();
-    add_back(chart, word, flipped, marks, before, into, found)
+    add_back(
+        chart,
+        word,
+        flipped,
+        marks,
+        before,
+        cell as usize % states,
+        found,
+    )
 }
 
-// Adds the cells of some places that are not marked and from which these arrows can be taken.
+// Adds the cells of some places that are not marked and from which one letter leads to a state.
 fn add_back(
     chart: &Chart,
     word: &Word,
     flipped: bool,
     marks: &[bool],
     places: &[usize],
-    arrows: &[usize],
+    target: usize,
+    found: &mut Vec<u32>,
+) -> Result<(), NoMemory>
+    requires chart { IsDrawn chart.now }
+    requires labels { IsLabelled (λ place. seen_at word.now flipped place) chart.now }
+    requires marks { length marks.now ≡ chart.now.cells }
+    requires places { All (λ place. place < length chart.now.before.items) places.now }
+    requires target { target < length chart.now.nfa.states }
+    ensures { OnOk result (found.new.items ≡
+        found.old.items
+        ++ fresh_back chart.now.nfa.states (λ place. seen_at word.now flipped place) chart.now.arrows.items marks.now
+        places.now (into_at chart.now target)) }
+{
+    for place in places {
+        add_before(chart, word, flipped, marks, *place, target, found)?;
+    }
+    Ok(())
+}
+
+// Adds the cells of a place that are not marked and from which one letter leads to a state. Where all arrows
+// to it have the same label, this is known at once of all of them.
+fn add_before(
+    chart: &Chart,
+    word: &Word,
+    flipped: bool,
+    marks: &[bool],
+    place: usize,
+    target: usize,
+    found: &mut Vec<u32>,
+) -> Result<(), NoMemory>
+    requires chart { IsDrawn chart.now }
+    requires labels { IsLabelled (λ place. seen_at word.now flipped place) chart.now }
+    requires marks { length marks.now ≡ chart.now.cells }
+    requires place { place < length chart.now.before.items }
+    requires target { target < length chart.now.nfa.states }
+    ensures { OnOk result (found.new.items ≡
+        found.old.items
+        ++ fresh_at chart.now.nfa.states (λ place. seen_at word.now flipped place) chart.now.arrows.items marks.now
+        place (into_at chart.now target)) }
+{
+    match known(chart, place, target) {
+        Some(true) => add_sources(chart, marks, place, target, found),
+        Some(false) => Ok(()),
+        None => {
+            let into = arrows_to(chart, target);
+            add_at(chart, word, flipped, marks, place, into, found)
+        }
+    }
+}
+
+// Adds the cells of a place that are not marked and from whose states arrows lead to a state.
+fn add_sources(
+    chart: &Chart,
+    marks: &[bool],
+    place: usize,
+    target: usize,
+    found: &mut Vec<u32>,
+) -> Result<(), NoMemory>
+    requires chart { IsDrawn chart.now }
+    requires sources { AreSources chart.now (length chart.now.nfa.states) chart.now.sources.items }
+    requires marks { length marks.now ≡ chart.now.cells }
+    requires place { place < length chart.now.before.items }
+    requires target { target < length chart.now.nfa.states }
+    ensures { OnOk result (found.new.items ≡
+        found.old.items ++ unmarked_at (length chart.now.nfa.states) marks.now place
+        (left_by chart.now.arrows.items (into_at chart.now target))) }
+{
+    let sources = chart.sources[target].as_slice();
+    add_unmarked(chart, marks, place, sources, found)
+}
+
+// Adds the cells of a place and of some states that are not marked.
+fn add_unmarked(
+    chart: &Chart,
+    marks: &[bool],
+    place: usize,
+    states: &[usize],
     found: &mut Vec<u32>,
 ) -> Result<(), NoMemory>
     requires chart { IsDrawn chart.now }
     requires marks { length marks.now ≡ chart.now.cells }
-    requires places { All (λ place. place < length chart.now.before.items) places.now }
-    requires arrows { All (λ number. number < length chart.now.arrows.items) arrows.now }
+    requires place { place < length chart.now.before.items }
+    requires states { All (λ state. state < length chart.now.nfa.states) states.now }
     ensures { OnOk result (found.new.items ≡
-        found.old.items
-        ++ fresh_back chart.now.nfa.states (λ place. seen_at word.now flipped place) chart.now.arrows.items marks.now
-        places.now arrows.now) }
+        found.old.items ++ unmarked_at (length chart.now.nfa.states) marks.now place states.now) }
 {
-    for place in places {
-        add_at(chart, word, flipped, marks, *place, arrows, found)?;
+    for state in states {
+        add_if_unmarked(chart, marks, place, *state, found)?;
+    }
+    Ok(())
+}
+
+// Adds the cell of a place and a state if it is not marked.
+fn add_if_unmarked(
+    chart: &Chart,
+    marks: &[bool],
+    place: usize,
+    state: usize,
+    found: &mut Vec<u32>,
+) -> Result<(), NoMemory>
+    requires chart { IsDrawn chart.now }
+    requires marks { length marks.now ≡ chart.now.cells }
+    requires place { place < length chart.now.before.items }
+    requires state { state < length chart.now.nfa.states }
+    ensures { OnOk result (found.new.items ≡
+        found.old.items ++ (if value_at marks.now (cell_of (length chart.now.nfa.states) place state)
+        then [] else cell_of (length chart.now.nfa.states) place state ∷ [])) }
+{
+    let cell = cell_of(chart, place, state);
+    if !marks[cell as usize] {
+        found.push(cell)?;
     }
     Ok(())
 }
@@ -144,9 +251,7 @@ fn is_taken(chart: &Chart, word: &Word, flipped: bool, place: usize, number: usi
     ensures { result ≡ holds (seen_at word.now flipped place)
         (label_of chart.now.nfa.states (arrow_at chart.now.arrows.items number)) }
 {
-    let arrow = &chart.arrows[number];
-    let edges = chart.nfa.edges(arrow.state as u32).as_slice();
-    holds_at(word, flipped, place, &edges[arrow.edge].label)
+    holds_at(word, flipped, place, label(chart, number))
 }
 
 // The cell of a place from which an arrow leads.
@@ -158,5 +263,16 @@ fn source(chart: &Chart, place: usize, number: usize) -> u32
     ensures within { result < chart.now.cells }
 {
     let arrow = &chart.arrows[number];
-    (place * chart.nfa.len() + arrow.state) as u32
+    cell_of(chart, place, arrow.state)
+}
+
+// The cell of a place and a state.
+fn cell_of(chart: &Chart, place: usize, state: usize) -> u32
+    requires chart { IsDrawn chart.now }
+    requires place { place < length chart.now.before.items }
+    requires state { state < length chart.now.nfa.states }
+    ensures cell { result ≡ cell_of (length chart.now.nfa.states) place state }
+    ensures within { result < chart.now.cells }
+{
+    (place * chart.nfa.len() + state) as u32
 }

@@ -7,11 +7,14 @@ ghost use Rattle.sere_nfa.specs.Acceptance.{IsSound};
 ghost use Rattle.sere_nfa.specs.Construction.{nfa_of};
 ghost use Rattle.sere_nfa.specs.Views.{edges_of};
 ghost use Rattle.lasso_judge.specs.Arrows.{arrows_in, arrows_below, places_from, IsChart};
+ghost use Rattle.lasso_judge.specs.Labels.{IsLabelled};
 ghost use Rattle.lasso_judge.specs.Merging.{IsMerged};
+ghost use Rattle.lasso_judge.specs.Seen.{seen_at};
 
+use crate::labels::{sources_of, values_of};
 use crate::merged::Merged;
 use psl_base::{Items, NoMemory};
-use psl_tree::{MOST_STATES, Sere};
+use psl_tree::{MOST_STATES, Sere, Word};
 use sere_nfa::{Nfa, NfaEdge, NfaFault};
 use std::alloc::Global;
 
@@ -36,12 +39,42 @@ pub(crate) struct Chart {
     pub(crate) before: Vec<Items<usize>>,
     /// How many cells there are.
     pub(crate) cells: usize,
+    /// For each state, the states that the arrows to it leave, in the order of these.
+    pub(crate) sources: Vec<Items<usize>>,
+    /// For each cell, whether the label of all arrows to its state holds at its place; none where these have
+    /// not all the same.
+    pub(crate) values: Vec<Option<bool>>,
 }
 
 impl Chart {
-    /// The chart of a sequence and of the next place of each place.
+    /// The chart of a sequence and of the next place of each place, and for the letters that are seen.
     #[inline(never)]
-    pub(crate) fn new(alloc: Global, r: &Sere, next: &[usize]) -> Result<Chart, NoMemory>
+    pub(crate) fn new(
+        alloc: Global,
+        r: &Sere,
+        word: &Word,
+        next: &[usize],
+        flipped: bool,
+    ) -> Result<Chart, NoMemory>
+        requires plain { HasNoClock (sequence_of r.now) }
+        requires small { states_of (sequence_of r.now) ≤ MOST_STATES }
+        requires within { (place : ℕ) → place < length next.now → slice_index next.now place < length next.now }
+        ensures chart { IfOk result (λ chart. IsChart next.now chart) }
+        ensures labels { IfOk result (λ chart. IsLabelled (λ place. seen_at word.now flipped place) chart) }
+        ensures automaton { IfOk result (λ chart. IsMerged (nfa_of (sequence_of r.now)).states chart.nfa.states) }
+    {
+        let chart = Chart::drawn(alloc, r, next)?;
+        let sources = sources_of(alloc, &chart)?;
+        let values = values_of(alloc, &chart, word, flipped)?;
+        Ok(Chart {
+            sources,
+            values,
+            ..chart
+        })
+    }
+
+    // The chart without what labels say.
+    fn drawn(alloc: Global, r: &Sere, next: &[usize]) -> Result<Chart, NoMemory>
         requires plain { HasNoClock (sequence_of r.now) }
         requires small { states_of (sequence_of r.now) ≤ MOST_STATES }
         requires within { (place : ℕ) → place < length next.now → slice_index next.now place < length next.now }
@@ -60,6 +93,8 @@ impl Chart {
             into,
             before,
             cells,
+            sources: Vec::new(alloc),
+            values: Vec::new(alloc),
         })
     }
 }

@@ -1,13 +1,18 @@
-ghost use Rattle.std.specs.Prelude.{◌≡◌, ◌<◌, All, [], ◌∷◌, false, length, replicate, if◌then◌else◌, IfOk, OnOk};
+ghost use Rattle.std.specs.Prelude.{◌≡◌, ◌<◌, ◌&&◌, All, [], ◌∷◌, false, length, replicate, if◌then◌else◌, IfOk, OnOk};
+ghost use Rattle.psl_tree.specs.Holds.{holds};
+ghost use Rattle.psl_tree.specs.Trees.{boolean_of};
+ghost use Rattle.sere_nfa.specs.Acceptance.{state_at};
 ghost use Rattle.sere_nfa.specs.Marking.{visit_all};
 ghost use Rattle.sere_nfa.specs.MarkingView.{marking_of};
-ghost use Rattle.sere_nfa.specs.Views.{edges_of};
+ghost use Rattle.sere_nfa.specs.Views.{edge_of, edges_of};
 ghost use Rattle.lasso_judge.specs.Arrows.{IsChart, IsDrawn};
 ghost use Rattle.lasso_judge.specs.Cells.{ends_at, ends_on, numbers_below, AreHits};
+ghost use Rattle.lasso_judge.specs.Labels.{IsLabelled, IsTold};
 ghost use Rattle.lasso_judge.specs.Seen.{course_by, seen_at, IsWhole};
 
 use crate::before::cells_before;
 use crate::chart::Chart;
+use crate::labels::known;
 use crate::places::holds_at;
 use psl_base::NoMemory;
 use psl_tree::Word;
@@ -26,6 +31,7 @@ pub(crate) fn hit_cells(
     hits: &[bool],
 ) -> Result<Vec<bool>, NoMemory>
     requires chart { IsChart next.now chart.now }
+    requires labels { IsLabelled (λ place. seen_at word.now flipped place) chart.now }
     requires whole { IsWhole word.now next.now }
     requires same { length hits.now ≡ length next.now }
     ensures { IfOk result (λ cells.
@@ -51,6 +57,7 @@ fn ended(
     hits: &[bool],
 ) -> Result<Marking, NoMemory>
     requires chart { IsDrawn chart.now }
+    requires labels { IsLabelled (λ place. seen_at word.now flipped place) chart.now }
     requires same { length hits.now ≡ length chart.now.before.items }
     ensures { IfOk result (λ marking.
         marking_of marking ≡ visit_all (record { marks = replicate chart.now.cells false; waiting = [] })
@@ -81,6 +88,7 @@ fn visit_where(asked: bool, cell: u32, marking: &mut Marking) -> Result<(), NoMe
 // Whether one letter leads from a cell to an end, at a place that is hit.
 fn ends_here(chart: &Chart, word: &Word, flipped: bool, hits: &[bool], cell: usize) -> bool
     requires chart { IsDrawn chart.now }
+    requires labels { IsLabelled (λ place. seen_at word.now flipped place) chart.now }
     requires same { length hits.now ≡ length chart.now.before.items }
     requires within { cell < chart.now.cells }
     ensures { result ≡ ends_at chart.now.nfa.states (λ place. seen_at word.now flipped place) hits.now cell }
@@ -93,13 +101,33 @@ fn ends_here(chart: &Chart, word: &Word, flipped: bool, hits: &[bool], cell: usi
 
 // Whether some edge that can be taken at a place leads to an end.
 fn ends_by(chart: &Chart, word: &Word, flipped: bool, place: usize, edges: &[NfaEdge]) -> bool
-    requires { All (λ edge. edge.target < length chart.now.nfa.states) edges.now }
+    requires chart { IsDrawn chart.now }
+    requires values { length chart.now.values.items ≡ chart.now.cells }
+    requires place { place < length chart.now.before.items }
+    requires edges { All (λ edge. edge.target < length chart.now.nfa.states) edges.now }
+    requires told { All (λ edge. IsTold (λ place. seen_at word.now flipped place) chart.now (edge_of edge)) edges.now }
     ensures { result ≡ ends_on chart.now.nfa.states (seen_at word.now flipped place) (edges_of edges.now) }
 {
     for edge in edges {
-        if chart.nfa.is_final(edge.target) && holds_at(word, flipped, place, &edge.label) {
+        if ends_along(chart, word, flipped, place, edge) {
             return true;
         }
     }
     false
+}
+
+// Whether an edge can be taken at a place and leads to an end.
+fn ends_along(chart: &Chart, word: &Word, flipped: bool, place: usize, edge: &NfaEdge) -> bool
+    requires chart { IsDrawn chart.now }
+    requires values { length chart.now.values.items ≡ chart.now.cells }
+    requires place { place < length chart.now.before.items }
+    requires edge { edge.now.target < length chart.now.nfa.states }
+    requires told { IsTold (λ place. seen_at word.now flipped place) chart.now (edge_of edge.now) }
+    ensures { result ≡ (holds (seen_at word.now flipped place) (boolean_of edge.now.label)
+        && (state_at chart.now.nfa.states edge.now.target).is_final) }
+{
+    match known(chart, place, edge.target as usize) {
+        Some(value) => value && chart.nfa.is_final(edge.target),
+        None => { chart.nfa.is_final(edge.target) && holds_at(word, flipped, place, &edge.label) }
+    }
 }

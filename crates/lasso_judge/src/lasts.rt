@@ -1,14 +1,18 @@
-ghost use Rattle.std.specs.Prelude.{◌≡◌, ◌+◌, ◌*◌, ◌<◌, ◌≤◌, ◌&&◌, ℕ, All, [], length, not, nat_lt, replicate};
+ghost use Rattle.std.specs.Prelude.{◌≡◌, ◌+◌, ◌*◌, ◌<◌, ◌≤◌, ◌&&◌, ◌||◌, ℕ, All, [], length, not, nat_lt, replicate};
 ghost use Rattle.std.specs.Prelude.{slice_index, IfOk, OnOk};
+ghost use Rattle.sere_nfa.specs.Acceptance.{state_at};
 ghost use Rattle.sere_nfa.specs.MarkingView.{marking_of};
 ghost use Rattle.sere_nfa.specs.Views.{edge_of, edges_of};
 ghost use Rattle.lasso_judge.specs.Arrows.{edge_at, IsChart, IsDrawn};
 ghost use Rattle.lasso_judge.specs.Cells.{fall, fall_all, goes_along, goes_on, lasts_at, NoneGoes};
 ghost use Rattle.lasso_judge.specs.Cells.{AreDead, AreFallen, ArePassed, IsFirstFallen};
+ghost use Rattle.lasso_judge.specs.Labels.{IsLabelled, IsTold};
 ghost use Rattle.lasso_judge.specs.Seen.{course_by, seen_at, IsWhole};
+ghost use Rattle.lasso_judge.specs.Tables.{value_at};
 
 use crate::before::cells_before;
 use crate::chart::Chart;
+use crate::labels::known;
 use crate::places::holds_at;
 use psl_base::NoMemory;
 use psl_tree::Word;
@@ -27,6 +31,7 @@ pub(crate) fn fallen_cells(
     flipped: bool,
 ) -> Result<Vec<bool>, NoMemory>
     requires chart { IsChart next.now chart.now }
+    requires labels { IsLabelled (λ place. seen_at word.now flipped place) chart.now }
     requires whole { IsWhole word.now next.now }
     ensures { IfOk result (λ cells.
         AreFallen chart.now.nfa.states (course_by word.now flipped next.now) (length next.now) cells.items) }
@@ -70,6 +75,7 @@ fn first_fallen(
     passed: &mut Vec<usize>,
 ) -> Result<Marking, NoMemory>
     requires chart { IsChart next.now chart.now }
+    requires labels { IsLabelled (λ place. seen_at word.now flipped place) chart.now }
     requires within { (place : ℕ) → place < length next.now → slice_index next.now place < length next.now }
     requires passed { passed.old.items ≡ replicate chart.now.cells 0 }
     ensures fallen { IfOk result (λ marking.
@@ -122,6 +128,7 @@ fn fall_each(
     passed: &mut Vec<usize>,
 ) -> Result<(), NoMemory>
     requires chart { IsChart next.now chart.now }
+    requires labels { IsLabelled (λ place. seen_at word.now flipped place) chart.now }
     requires within { (place : ℕ) → place < length next.now → slice_index next.now place < length next.now }
     requires cells { All (λ cell. cell < chart.now.cells) cells.now }
     requires marks { length marking.old.marks.items ≡ chart.now.cells }
@@ -151,6 +158,7 @@ fn fall_one(
     passed: &mut Vec<usize>,
 ) -> Result<(), NoMemory>
     requires chart { IsChart next.now chart.now }
+    requires labels { IsLabelled (λ place. seen_at word.now flipped place) chart.now }
     requires within { (place : ℕ) → place < length next.now → slice_index next.now place < length next.now }
     requires cell { cell < chart.now.cells }
     requires marks { length marking.old.marks.items ≡ chart.now.cells }
@@ -192,6 +200,7 @@ fn lasts(
     passed: &mut Vec<usize>,
 ) -> bool
     requires chart { IsChart next.now chart.now }
+    requires labels { IsLabelled (λ place. seen_at word.now flipped place) chart.now }
     requires within { (place : ℕ) → place < length next.now → slice_index next.now place < length next.now }
     requires cell { cell < chart.now.cells }
     requires marks { length marks.now ≡ chart.now.cells }
@@ -233,7 +242,11 @@ fn first_along(
     marks: &[bool],
     from: usize,
 ) -> usize
+    requires chart { IsDrawn chart.now }
+    requires values { length chart.now.values.items ≡ chart.now.cells }
+    requires place { place < length chart.now.before.items }
     requires edges { All (λ edge. edge.target < length chart.now.nfa.states) edges.now }
+    requires told { All (λ edge. IsTold (λ place. seen_at word.now flipped place) chart.now (edge_of edge)) edges.now }
     requires marks { first + length chart.now.nfa.states ≤ length marks.now }
     requires passed { NoneGoes chart.now.nfa.states (seen_at word.now flipped place) marks.now first
         (edges_of edges.now) from }
@@ -260,7 +273,11 @@ fn is_idle(
     marks: &[bool],
     number: usize,
 ) -> bool
+    requires chart { IsDrawn chart.now }
+    requires values { length chart.now.values.items ≡ chart.now.cells }
+    requires place { place < length chart.now.before.items }
     requires edges { All (λ edge. edge.target < length chart.now.nfa.states) edges.now }
+    requires told { All (λ edge. IsTold (λ place. seen_at word.now flipped place) chart.now (edge_of edge)) edges.now }
     requires marks { first + length chart.now.nfa.states ≤ length marks.now }
     ensures { result ≡ (nat_lt number (length edges.now)
         && not (goes_along chart.now.nfa.states (seen_at word.now flipped place) marks.now first
@@ -279,12 +296,29 @@ fn is_along(
     first: usize,
     marks: &[bool],
 ) -> bool
+    requires chart { IsDrawn chart.now }
+    requires values { length chart.now.values.items ≡ chart.now.cells }
+    requires place { place < length chart.now.before.items }
     requires edge { edge.now.target < length chart.now.nfa.states }
+    requires told { IsTold (λ place. seen_at word.now flipped place) chart.now (edge_of edge.now) }
     requires marks { first + length chart.now.nfa.states ≤ length marks.now }
     ensures { result ≡ goes_along chart.now.nfa.states (seen_at word.now flipped place) marks.now first
         (edge_of edge.now) }
 {
     let target = edge.target;
-    (chart.nfa.is_final(target) || !marks[first + target as usize])
-        && holds_at(word, flipped, place, &edge.label)
+    match known(chart, place, target as usize) {
+        Some(value) => value && leads_on(chart, target, first, marks),
+        None => {
+            leads_on(chart, target, first, marks) && holds_at(word, flipped, place, &edge.label)
+        }
+    }
+}
+
+// Whether a state is an end, or its cell at the place whose first cell is given is not marked.
+fn leads_on(chart: &Chart, target: u32, first: usize, marks: &[bool]) -> bool
+    requires target { target < length chart.now.nfa.states }
+    requires marks { first + length chart.now.nfa.states ≤ length marks.now }
+    ensures { result ≡ ((state_at chart.now.nfa.states target).is_final || not (value_at marks.now (first + target))) }
+{
+    chart.nfa.is_final(target) || !marks[first + target as usize]
 }

@@ -7,6 +7,7 @@ mod before;
 mod chart;
 mod hits;
 mod judge;
+mod labels;
 mod lasts;
 mod merged;
 mod places;

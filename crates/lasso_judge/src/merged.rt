@@ -177,7 +177,8 @@ fn same_edge(left: &NfaEdge, right: &NfaEdge) -> bool
     left.target == right.target && same_boolean(&left.label, &right.label)
 }
 
-fn same_boolean(left: &Bool, right: &Bool) -> bool
+/// Whether two Booleans are equal.
+pub(crate) fn same_boolean(left: &Bool, right: &Bool) -> bool
     ensures { IsTrue result → boolean_of left.now ≡ boolean_of right.now }
 {
     match (left, right) {

@@ -29,7 +29,7 @@ pub(crate) fn strong(
     ensures { IfOk result (λ values.
         Tells (course_by word.now flipped next.now) (length next.now) (Strong (sequence_of r.now)) values.items) }
 {
-    let chart = Chart::new(alloc, r, next)?;
+    let chart = Chart::new(alloc, r, word, next, flipped)?;
     let hits = everywhere(alloc, next.len())?;
     let cells = hit_cells(alloc, &chart, word, next, flipped, &hits)?;
     let values = at_starts(alloc, &cells, next.len(), chart.nfa.len())?;
@@ -52,7 +52,7 @@ pub(crate) fn weak(
     ensures { IfOk result (λ values.
         Tells (course_by word.now flipped next.now) (length next.now) (Weak (sequence_of r.now)) values.items) }
 {
-    let chart = Chart::new(alloc, r, next)?;
+    let chart = Chart::new(alloc, r, word, next, flipped)?;
     let cells = fallen_cells(alloc, &chart, word, next, flipped)?;
     let fallen = at_starts(alloc, &cells, next.len(), chart.nfa.len())?;
     let values = opposites(alloc, &fallen)?;
@@ -79,7 +79,7 @@ pub(crate) fn suffix(
         → Tells (course_by word.now flipped next.now) (length next.now) (Suffix (sequence_of r.now) formula)
         values.items) }
 {
-    let chart = Chart::new(alloc, r, next)?;
+    let chart = Chart::new(alloc, r, word, next, !flipped)?;
     let misses = opposites(alloc, part)?;
     let cells = hit_cells(alloc, &chart, word, next, !flipped, &misses)?;
     let missed = at_starts(alloc, &cells, next.len(), chart.nfa.len())?;

@@ -1,9 +1,10 @@
 use Rattle.std.proofs.Common.{◌≡◌, ◌++◌, drop}
 use Rattle.lasso_judge.specs.Cells.{fresh_back}
+use Rattle.lasso_judge.specs.Labels.{into_at}
 use Rattle.lasso_judge.specs.Seen.{seen_at}
 use Rattle.lasso_judge.proofs.before.add_back.Given as goal
 
 abbrev pub invariant-loop-place : goal.invariant-loop-place
 invariant-loop-place l =
-    l.found.items ++ fresh_back l.chart.nfa.states (λ place. seen_at l.word l.flipped place) l.chart.arrows.items l.marks (drop l.place-index l.places) l.arrows
-    ≡ l.initial.found.items ++ fresh_back l.chart.nfa.states (λ place. seen_at l.word l.flipped place) l.chart.arrows.items l.marks l.places l.arrows
+    l.found.items ++ fresh_back l.chart.nfa.states (λ place. seen_at l.word l.flipped place) l.chart.arrows.items l.marks (drop l.place-index l.places) (into_at l.chart l.target)
+    ≡ l.initial.found.items ++ fresh_back l.chart.nfa.states (λ place. seen_at l.word l.flipped place) l.chart.arrows.items l.marks l.places (into_at l.chart l.target)

@@ -1,7 +1,5 @@
-use Rattle.std.proofs.Common.{refl, ℕ, ◌<◌, ◌/◌, ◌%◌, map, length, arith}
-use Rattle.std.proofs.lemmas.List.{length-map}
+use Rattle.std.proofs.Common.{refl, ℕ, ◌<◌, ◌/◌, length, arith}
 use Rattle.lasso_judge.specs.Arrows.{places_from}
-use Rattle.lasso_judge.specs.declared.chart.Arrow.{Arrow}
 use Rattle.lasso_judge.proofs.Drawn.{gathered, places-shown, cell-place, cell-state}
 use Rattle.lasso_judge.proofs.before.cells_before.Goals as goal
 
@@ -16,12 +14,5 @@ add_back-requires-clause-places c =
     refl inside c.as_slice-before.ensures c.index.ensures (c.requires.chart.before place (omega (arith, inside, c.requires.chart.before_length))))
     (omega (arith, c.requires.chart.before_length))
 
-pub add_back-requires-clause-arrows : goal.add_back-requires-clause-arrows
-add_back-requires-clause-arrows c =
-    let drawn = c.requires.chart.drawn in
-    let state : ℕ = c.args.cell % c.len-states.result in
-    let inside : c.args.cell % c.len-states.result < length c.args.chart.now.nfa.states = cell-state c.args.cell (length c.args.chart.now.nfa.states) c.len-states.result c.len-states.ensures drawn.some in
-    places-shown c.as_slice-into.result.now state (map (λ (a : Arrow). a.target) c.args.chart.now.arrows.items) (length c.args.chart.now.arrows.items)
-    (gathered c.args.chart.now.into.items (length c.args.chart.now.nfa.states) state c.index-2.result.now c.as_slice-into.result.now (places_from 0 state (map (λ (a : Arrow). a.target) c.args.chart.now.arrows.items))
-    drawn.into_length inside c.as_slice-into.ensures c.index-2.ensures (drawn.into state inside))
-    (length-map c.args.chart.now.arrows.items (λ (a : Arrow). a.target))
+pub add_back-requires-clause-target : goal.add_back-requires-clause-target
+add_back-requires-clause-target c = cell-state c.args.cell (length c.args.chart.now.nfa.states) c.len-states.result c.len-states.ensures c.requires.chart.drawn.some

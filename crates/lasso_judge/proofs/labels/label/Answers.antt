@@ -4,14 +4,14 @@ use Rattle.sere_nfa.specs.Acceptance.{Edge}
 use Rattle.sere_nfa.specs.Views.{edge_of}
 use Rattle.sere_nfa.specs.declared.edge.NfaEdge.{NfaEdge}
 use Rattle.lasso_judge.proofs.Drawn.{taken}
-use Rattle.lasso_judge.proofs.before.is_taken.Goals as goal
+use Rattle.lasso_judge.proofs.labels.label.Goals as goal
 
 pub overflow_cast-arrow : goal.overflow_cast-arrow
 overflow_cast-arrow c =
-    let r = taken c.args.chart.now.nfa.states c.args.chart.now.arrows.items c.requires.chart.real c.args.number c.index-arrow.result.now c.requires.arrow c.index-arrow.ensures in
-    omega (arith, r.state_below, c.requires.chart.few_states)
+    let r = taken c.args.chart.now.nfa.states c.args.chart.now.arrows.items c.requires.drawn.real c.args.number c.index-arrow.result.now c.requires.arrow c.index-arrow.ensures in
+    omega (arith, r.state_below, c.requires.drawn.few_states)
 
 pub bounds-edges-arrow : goal.bounds-edges-arrow
 bounds-edges-arrow c =
-    let r = taken c.args.chart.now.nfa.states c.args.chart.now.arrows.items c.requires.chart.real c.args.number c.index-arrow.result.now c.requires.arrow c.index-arrow.ensures in
+    let r = taken c.args.chart.now.nfa.states c.args.chart.now.arrows.items c.requires.drawn.real c.args.number c.index-arrow.result.now c.requires.arrow c.index-arrow.ensures in
     omega (arith, r.edge_below, ap (λ (es : List Edge). length es) c.edges.ensures.shown, length-map c.edges.result.now edge_of, ap (λ (es : List NfaEdge). length es) c.as_slice-edges.ensures)
