@@ -133,8 +133,10 @@ value_flaws references.Nothing value place = []
 value_flaws references.Several value place = []
 value_flaws (references.Bits signal lowest width) value place = flaw_where (nat_le (2 ^ width) value) causes.ConstantTooWide place
 
--- a comparison has a signal on one side and a value on the other; else the fault is at the first token of its left operand
+-- a comparison has a signal on one side at least, and a signal or a value on the other; else the fault is at the first token
+-- of its left operand
 abbrev pub side_flaws : Side → Side → Place → List Flaw
+side_flaws (Bits left) (Bits right) left_place = []
 side_flaws (Bits bits) (Value value place) left_place = value_flaws bits value place
 side_flaws (Value value place) (Bits bits) left_place = value_flaws bits value place
 side_flaws _ _ left_place = flaw_where true causes.Kind left_place

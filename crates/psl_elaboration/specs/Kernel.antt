@@ -1,6 +1,6 @@
 -- The kernel of an expression: the Boolean, the sequence or the property that it stands for (IEEE 1850, clauses 5 and 6).
--- An expression without faults has it by these rows. Where an operand is at fault, a constant or the empty sequence
--- stands in its place, and nothing rests on it.
+-- An expression without faults has it by these rows. Where an operand is at fault, a constant, the value 0 or the empty
+-- sequence stands in its place, and nothing rests on it.
 use Rattle.std.specs.Prelude.{Bool as Truth, true, false, ℕ, List, [], ◌∷◌, Option, None, Some, if◌then◌else◌}
 use Rattle.std.specs.Str.{bytes_eq}
 use Rattle.psl_lexer.specs.declared.kind.TokenKind.{TokenKind}
@@ -25,6 +25,8 @@ use Rattle.psl_sugar.specs.declared.comparison.Comparison.{Comparison}
 use Rattle.psl_sugar.specs.declared.connectives.Connective.{Connective}
 use Rattle.psl_sugar.specs.declared.count.Count as sugar_count
 use Rattle.psl_sugar.specs.declared.count.Count.TheVariants as sugar_counts
+use Rattle.psl_sugar.specs.declared.operand.Operand.{Operand}
+use Rattle.psl_sugar.specs.declared.operand.Operand.TheVariants as sides
 use Rattle.psl_sugar.specs.declared.operator.Strength.{Strength}
 use Rattle.psl_sugar.specs.declared.sequence_operators.SequenceOperator.{SequenceOperator}
 use Rattle.psl_sugar.specs.declared.suffix.SuffixOperator.{SuffixOperator}
@@ -119,19 +121,21 @@ bits_meaning references.Nothing = Const false
 bits_meaning references.Several = Const false
 bits_meaning (references.Bits signal lowest width) = some_bit (vector signal lowest width)
 
--- a comparison of bits with a value
-abbrev pub compared_bits : Comparison → Reference → ℕ → Boolean
-compared_bits comparison references.Nothing value = Const false
-compared_bits comparison references.Several value = Const false
-compared_bits comparison (references.Bits signal lowest width) value = comparison_row comparison (vector signal lowest width) value
+-- bits as a side of a comparison
+abbrev pub bits_operand : Reference → Operand
+bits_operand references.Nothing = sides.Value 0
+bits_operand references.Several = sides.Value 0
+bits_operand (references.Bits signal lowest width) = sides.Bits (vector signal lowest width)
 
--- a comparison: a signal on one side, a value on the other
+-- a side of a comparison: a signal, or the value of a number or a constant
+abbrev pub operand_of : List Name → code_expression.Expression → Operand
+operand_of names (expressions.Signal path index) = bits_operand (reference names path index)
+operand_of names (expressions.Literal token) = sides.Value (literal_value token)
+operand_of names _ = sides.Value 0
+
+-- a comparison of two sides
 abbrev pub compared : List Name → Comparison → code_expression.Expression → code_expression.Expression → Boolean
-compared names comparison (expressions.Signal path index) (expressions.Literal token) =
-    compared_bits comparison (reference names path index) (literal_value token)
-compared names comparison (expressions.Literal token) (expressions.Signal path index) =
-    compared_bits comparison (reference names path index) (literal_value token)
-compared names comparison _ _ = Const false
+compared names comparison x y = comparison_row comparison (operand_of names x) (operand_of names y)
 
 -- an operator between its operands: a comparison reads their trees, any other what they stand for
 abbrev pub operated : List Name → InfixOperator → Strength → code_expression.Expression → code_expression.Expression → Meaning → Meaning → Meaning

@@ -22,7 +22,7 @@ pub enum PrefixOperator {
 pub enum InfixOperator {
     /// Of Booleans and of properties; `&&` among them, unless it stands between sequences.
     Connective(Connective),
-    /// Of a signal with a number.
+    /// Of two numbers, of which one at least is a signal's.
     Comparison(Comparison),
     /// Of sequences.
     Sequence(SequenceOperator),

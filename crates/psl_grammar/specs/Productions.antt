@@ -14,9 +14,11 @@ implications = Quoted kinds.Arrow // Quoted kinds.Iff
 abbrev pub suffixes : Part
 suffixes = Quoted kinds.Implies // Quoted kinds.ImpliesNext
 
--- == and !=
+-- ==, !=, <, <=, > and >=
 abbrev pub comparisons : Part
-comparisons = Quoted kinds.EqualEqual // Quoted kinds.NotEqual
+comparisons =
+    Quoted kinds.EqualEqual // Quoted kinds.NotEqual // Quoted kinds.Less // Quoted kinds.LessEqual
+    // Quoted kinds.Greater // Quoted kinds.GreaterEqual
 
 -- & and && of sequences
 abbrev pub sequence_ands : Part

@@ -1,11 +1,13 @@
 -- Vectors: where their bits lie, and which are too wide for a tree.
-use Rattle.std.proofs.Common.{◌≡◌, ℕ, ◌+◌, ◌-◌, ◌≤◌, ◌<◌, List, Bool, true, false, if◌then◌else◌, Option, None, Some, arith}
+use Rattle.std.proofs.Common.{◌≡◌, ℕ, ◌-◌, ◌<◌, List, Bool, true, false, if◌then◌else◌, Option, None, Some, arith}
 use Rattle.psl_tree.specs.Counts.{boolean_size}
 use Rattle.psl_tree.specs.declared.name.Name.{Name}
 use Rattle.psl_sugar.proofs.RowLaws.{comparison-size}
 use Rattle.psl_sugar.proofs.VectorSizes.{some_bit_size}
+use Rattle.psl_sugar.specs.Comparisons.{width_of, comparison_row}
 use Rattle.psl_sugar.specs.declared.comparison.Comparison.{Comparison}
-use Rattle.psl_elaboration.specs.Kernel.{vector, compared_bits, bits_meaning}
+use Rattle.psl_sugar.specs.declared.operand.Operand.{Operand}
+use Rattle.psl_elaboration.specs.Kernel.{vector, bits_meaning}
 use Rattle.psl_elaboration.specs.LookUp.{is_index, distance, look_up, whole_of, bit_of, with_index, refers_to}
 use Rattle.psl_elaboration.specs.Texts.{indexed_text}
 use Rattle.psl_elaboration.specs.declared.found.Found.{Found}
@@ -38,11 +40,13 @@ pub text_placed : (names : List Name) (text : List ℕ) (index : Option ℕ) →
 text_placed names text None = whole_placed (look_up names text)
 text_placed names text (Some index) = index_placed (look_up names (indexed_text text index)) (look_up names text) index
 
--- a vector that is too wide for a tree makes a comparison too large
-pub compared_size : (comparison : Comparison) (found : Reference) (signal lowest width value : ℕ) →
-    found ≡ references.Bits signal lowest width → 4096 < width → 4096 < boolean_size (compared_bits comparison found value)
-compared_size comparison found signal lowest width value is wide = rw is (omega (arith, comparison-size comparison (vector signal lowest width) value))
+-- a side that is too wide for a tree makes a comparison too large
+pub left_size : (comparison : Comparison) (left right : Operand) → 4096 < width_of left → 4096 < boolean_size (comparison_row comparison left right)
+left_size comparison left right wide = omega (arith, comparison-size comparison left right)
 
--- and a Boolean
+pub right_size : (comparison : Comparison) (left right : Operand) → 4096 < width_of right → 4096 < boolean_size (comparison_row comparison left right)
+right_size comparison left right wide = omega (arith, comparison-size comparison left right)
+
+-- a vector that is too wide for a tree makes a Boolean too large
 pub bits_size : (found : Reference) (signal lowest width : ℕ) → found ≡ references.Bits signal lowest width → 4096 < width → 4096 < boolean_size (bits_meaning found)
 bits_size found signal lowest width is wide = rw is (omega (arith, some_bit_size (vector signal lowest width)))

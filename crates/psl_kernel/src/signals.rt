@@ -1,6 +1,8 @@
 // Signals, edges, numbers and comparisons.
 ghost use Rattle.std.specs.Prelude.{◌≡◌, ◌+◌, ◌<◌, ◌≤◌, ◌^◌, IfOk, IfErr};
 ghost use Rattle.psl_sugar.specs.Budget.{GivesBoolean};
+ghost use Rattle.psl_sugar.specs.Comparisons.{HasPlaces, width_of};
+ghost use Rattle.psl_sugar.specs.declared.fault.SugarFault.TheVariants.{TooLarge};
 ghost use Rattle.psl_elaboration.specs.Kernel as kernel;
 ghost use Rattle.psl_elaboration.specs.LookUp as spec;
 ghost use Rattle.psl_elaboration.specs.Texts.{literal_value as spec_value};
@@ -12,7 +14,7 @@ use psl_elaboration::Reference;
 use psl_grammar::{Expression, Path};
 use psl_lexer::{Token, TokenKind};
 use psl_names::{NameIndex, index_number, literal_value, path_text, reference, refers_to};
-use psl_sugar::{Comparison, MeasuredBool, SugarFault, Vector};
+use psl_sugar::{Comparison, MeasuredBool, Operand, SugarFault, Vector};
 use psl_tree::{Atom, Edge, MOST_CONSTRUCTORS};
 use std::alloc::Global;
 
@@ -63,42 +65,50 @@ fn some_bit(alloc: Global, found: Reference) -> Result<MeasuredBool, SugarFault>
     }
 }
 
-// A comparison of bits with a value.
-fn compared_bits(
-    alloc: Global,
-    comparison: Comparison,
-    found: Reference,
-    value: u64,
-) -> Result<MeasuredBool, SugarFault>
+// Bits as a side of a comparison, if there are not too many for a tree.
+fn bits_operand(found: Reference) -> Result<Operand, SugarFault>
     requires { IsPlaced found }
-    ensures { GivesBoolean result (kernel.compared_bits comparison found value) }
+    ensures same { IfOk result (λ new. new ≡ kernel.bits_operand found) }
+    ensures places { IfOk result HasPlaces }
+    ensures wide { IfErr result (λ fault. 4096 < width_of (kernel.bits_operand found)) }
 {
-    let Reference::Bits {
-        signal,
-        lowest,
-        width,
-    } = found
-    else {
-        return Ok(MeasuredBool::constant(false));
-    };
-    let vector = vector(signal, lowest, width)?;
-    MeasuredBool::compared(alloc, comparison, vector, value)
+    match found {
+        Reference::Nothing | Reference::Several => Ok(Operand::Value(0)),
+        Reference::Bits {
+            signal,
+            lowest,
+            width,
+        } => Ok(Operand::Bits(vector(signal, lowest, width)?)),
+    }
 }
 
-// A comparison of a path with a number or a constant.
-fn compared_path(
+// A path as a side of a comparison, if it has not too many bits for a tree.
+fn path_operand(
     alloc: Global,
     names: &NameIndex,
-    comparison: Comparison,
     path: &Path,
     index: &Option<Token>,
-    token: &Token,
-) -> Result<MeasuredBool, SugarFault>
-    ensures { GivesBoolean result (kernel.compared_bits comparison (spec.reference names.now path.now index.now) (spec_value token.now)) }
+) -> Result<Operand, SugarFault>
+    ensures same { IfOk result (λ new. new ≡ kernel.bits_operand (spec.reference names.now path.now index.now)) }
+    ensures places { IfOk result HasPlaces }
+    ensures wide { IfErr result (λ fault. fault ≡ TooLarge → 4096 < width_of (kernel.bits_operand (spec.reference names.now path.now index.now))) }
 {
     let text = path_text(alloc, path.as_slice())?;
     let found = referred(alloc, names, text.as_slice(), index)?;
-    compared_bits(alloc, comparison, found, literal_value(token))
+    bits_operand(found)
+}
+
+// A side of a comparison, if it is not too wide for a tree.
+fn operand(alloc: Global, names: &NameIndex, x: &Expression) -> Result<Operand, SugarFault>
+    ensures same { IfOk result (λ new. new ≡ kernel.operand_of names.now x.now) }
+    ensures places { IfOk result HasPlaces }
+    ensures wide { IfErr result (λ fault. fault ≡ TooLarge → 4096 < width_of (kernel.operand_of names.now x.now)) }
+{
+    match x {
+        Expression::Signal(path, index) => path_operand(alloc, names, path, index),
+        Expression::Literal(token) => Ok(Operand::Value(literal_value(token))),
+        _ => Ok(Operand::Value(0)),
+    }
 }
 
 /// A comparison.
@@ -111,21 +121,9 @@ pub(crate) fn compared(
 ) -> Result<MeasuredBool, SugarFault>
     ensures { GivesBoolean result (kernel.compared names.now comparison x.now y.now) }
 {
-    match x {
-        Expression::Signal(path, index) => match y {
-            Expression::Literal(token) => {
-                compared_path(alloc, names, comparison, path, index, token)
-            }
-            _ => Ok(MeasuredBool::constant(false)),
-        },
-        Expression::Literal(token) => match y {
-            Expression::Signal(path, index) => {
-                compared_path(alloc, names, comparison, path, index, token)
-            }
-            _ => Ok(MeasuredBool::constant(false)),
-        },
-        _ => Ok(MeasuredBool::constant(false)),
-    }
+    let left = operand(alloc, names, x)?;
+    let right = operand(alloc, names, y)?;
+    MeasuredBool::compared(alloc, comparison, left, right)
 }
 
 /// The text of a path, perhaps with an index, as a Boolean.

@@ -43,6 +43,7 @@ pub(crate) fn side_flaw(left: Side, right: Side, left_place: Place) -> Option<Fl
     ensures { result ≡ first_of (spec.side_flaws left right left_place) }
 {
     match (left, right) {
+        (Side::Bits(_), Side::Bits(_)) => None,
         (Side::Bits(bits), Side::Value(value, place))
         | (Side::Value(value, place), Side::Bits(bits)) => { value_flaw(bits, value, place) }
         _ => flaw_where(true, Cause::Kind, left_place),

@@ -1,4 +1,5 @@
 mod Cleared
+pub mod Compared
 mod RangedExpressions
 mod RangedLookUp
 mod RangedOperators

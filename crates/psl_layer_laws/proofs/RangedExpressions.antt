@@ -6,17 +6,18 @@ use Rattle.psl_grammar.specs.declared.tree.Expression.TheVariants as expressions
 use Rattle.psl_sugar.proofs.RangedBooleans as booleans
 use Rattle.psl_layer_laws.proofs.RangedLookUp.{AreBits, InRange, reference-has}
 use Rattle.psl_layer_laws.proofs.RangedOperators.{MeaningHas, NamedHave, boolean-has, sequence-has, formula-has, strong-has, prefix-has, connected-has, sequenced-has, suffixed-has, aborted-has, lasting-has, literal-has, repeated-has, alone-has, clocked-in-has, grouped-has, next-form-has, event-form-has, declared-has}
+use Rattle.psl_sugar.proofs.RangedComparisons.{OperandHas}
 use Rattle.psl_sugar.proofs.RowLaws.{comparison-row-has}
 use Rattle.psl_elaboration.specs.declared.found.Reference.{Reference}
 use Rattle.psl_elaboration.specs.declared.found.Reference.TheVariants as references
 use Rattle.psl_elaboration.specs.declared.operator.InfixOperator.{InfixOperator}
 use Rattle.psl_elaboration.specs.declared.operator.InfixOperator.TheVariants as operators
-use Rattle.psl_elaboration.specs.Kernel.{Meaning, Named, boolean_in, formula_in, vector, bits_meaning, compared_bits, compared, operated, edge_meaning, optional_count, signal_meaning, meaning_of}
+use Rattle.psl_elaboration.specs.Kernel.{Meaning, Named, boolean_in, formula_in, vector, bits_meaning, bits_operand, operand_of, compared, operated, edge_meaning, optional_count, signal_meaning, meaning_of}
 use Rattle.psl_elaboration.specs.Kinds.{operator_before}
 use Rattle.psl_elaboration.specs.LookUp.{reference}
 use Rattle.psl_elaboration.specs.Operators.{prefix_operator, repetition_operator, strength_of, edge_of}
 use Rattle.psl_elaboration.specs.Texts.{path_text, literal_value}
-use Rattle.psl_sugar.specs.Booleans.{bit_of as bit_of_vector}
+use Rattle.psl_sugar.specs.Booleans.{bit_at, bit_of as bit_of_vector}
 use Rattle.psl_sugar.specs.declared.comparison.Comparison.{Comparison}
 use Rattle.psl_sugar.specs.declared.operator.Strength.{Strength}
 use Rattle.psl_tree.specs.Atoms.{AtomsOfBoolean}
@@ -25,26 +26,33 @@ use Rattle.psl_tree.specs.declared.atom.Edge as atom_edge
 use Rattle.psl_tree.specs.declared.name.Name.{Name}
 
 module _ (names : List Name) (alike : AreAlike names) where
-  each-bit : (signal lowest width : ℕ) → AreBits names signal lowest width → (bit : ℕ) → AtomsOfBoolean (AtomInRange names) (bit_of_vector (vector signal lowest width) bit)
-  each-bit signal lowest width bits bit = record {
+  each-place : (signal lowest width : ℕ) → AreBits names signal lowest width → (place : ℕ) → place < width → AtomsOfBoolean (AtomInRange names) (bit_at (vector signal lowest width) place)
+  each-place signal lowest width bits place inside_width = record {
     named = bits.named;
     within = λ (k : ℕ) (d : Name) (below : k < length names) (same : (get_or names k d).signal ≡ signal).
         inside (indices (get_or names k d)) (bits.within k d below same);
   }
     where
-      inside : (count : ℕ) → lowest + width ≤ count → lowest + (width - 1 - bit) < count
-      inside count le = let some : 1 ≤ width = bits.some in omega arith
+      inside : (count : ℕ) → lowest + width ≤ count → lowest + place < count
+      inside count le = omega arith
+
+  each-bit : (signal lowest width : ℕ) → AreBits names signal lowest width → (bit : ℕ) → AtomsOfBoolean (AtomInRange names) (bit_of_vector (vector signal lowest width) bit)
+  each-bit signal lowest width bits bit = let some : 1 ≤ width = bits.some in each-place signal lowest width bits (width - 1 - bit) (omega arith)
 
   bits-have : (found : Reference) → InRange names found → AtomsOfBoolean (AtomInRange names) (bits_meaning found)
   bits-have references.Nothing h = tt
   bits-have references.Several h = tt
   bits-have (references.Bits signal lowest width) h = booleans.some-has (AtomInRange names) (vector signal lowest width) (each-bit signal lowest width h)
 
-  compared-bits-have : (comparison : Comparison) (found : Reference) (value : ℕ) → InRange names found → AtomsOfBoolean (AtomInRange names) (compared_bits comparison found value)
-  compared-bits-have comparison references.Nothing value h = tt
-  compared-bits-have comparison references.Several value h = tt
-  compared-bits-have comparison (references.Bits signal lowest width) value h =
-      comparison-row-has (AtomInRange names) comparison (vector signal lowest width) value (each-bit signal lowest width h)
+  bits-operand-has : (found : Reference) → InRange names found → OperandHas (AtomInRange names) (bits_operand found)
+  bits-operand-has references.Nothing h = tt
+  bits-operand-has references.Several h = tt
+  bits-operand-has (references.Bits signal lowest width) h = each-place signal lowest width h
+
+  operand-has : (x : code_expression.Expression) → OperandHas (AtomInRange names) (operand_of names x)
+  operand-has (expressions.Signal path index) = bits-operand-has (reference names path index) (reference-has names alike path index)
+  operand-has (expressions.Literal token) = tt
+  operand-has _ = tt
 
   edge-has : (edge : atom_edge.Edge) (found : Reference) → InRange names found → AtomsOfBoolean (AtomInRange names) (edge_meaning edge found)
   edge-has edge references.Nothing h = tt
@@ -59,11 +67,7 @@ module _ (names : List Name) (alike : AreAlike names) where
       inside count le = let some : 1 ≤ width = bits.some in omega arith
 
   compared-has : (comparison : Comparison) (x y : code_expression.Expression) → AtomsOfBoolean (AtomInRange names) (compared names comparison x y)
-  compared-has comparison (expressions.Signal path index) (expressions.Literal token) =
-      compared-bits-have comparison (reference names path index) (literal_value token) (reference-has names alike path index)
-  compared-has comparison (expressions.Literal token) (expressions.Signal path index) =
-      compared-bits-have comparison (reference names path index) (literal_value token) (reference-has names alike path index)
-  compared-has comparison _ _ = tt
+  compared-has comparison x y = comparison-row-has (AtomInRange names) comparison (operand_of names x) (operand_of names y) (operand-has x) (operand-has y)
 
   operated-has : (operator : InfixOperator) (strength : Strength) (x y : code_expression.Expression) (left right : Meaning)
       → MeaningHas (AtomInRange names) left → MeaningHas (AtomInRange names) right → MeaningHas (AtomInRange names) (operated names operator strength x y left right)

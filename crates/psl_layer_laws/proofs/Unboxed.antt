@@ -10,7 +10,7 @@ use Rattle.psl_grammar.specs.declared.tree.Statement as code_statement
 use Rattle.psl_layer_laws.proofs.Cleared.{clear}
 use Rattle.psl_elaboration.specs.Directives.{asserted, covered_under, cover_formula}
 use Rattle.psl_elaboration.specs.Flaws.{is_declared, side_of, expression_flaws}
-use Rattle.psl_elaboration.specs.Kernel.{Meaning, OfBoolean, Named, compared, operated, meaning_of}
+use Rattle.psl_elaboration.specs.Kernel.{Meaning, OfBoolean, Named, operand_of, compared, operated, meaning_of}
 use Rattle.psl_elaboration.specs.Kinds.{is_part, before_part, prefix_kind, clocked_kind, grouped_kind, place_of, operator_before, declared_as, kind_as, kind_of}
 use Rattle.psl_elaboration.specs.Operators.{infix_operator, prefix_operator, strength_of}
 use Rattle.psl_elaboration.specs.Texts.{path_text}
@@ -77,12 +77,13 @@ module _ (s t : List code_statement.Statement) (declared : (text : List ℕ) →
     flaws-clear in_sere _ = refl
 
 module _ (names : List Name) where
+  operand-clear : (x : code_expression.Expression) → operand_of names (clear x) ≡ operand_of names x
+  operand-clear (expressions.Signal path index) = refl
+  operand-clear (expressions.Literal token) = refl
+  operand-clear _ = refl
+
   compared-clear : (comparison : Comparison) (x y : code_expression.Expression) → compared names comparison (clear x) (clear y) ≡ compared names comparison x y
-  compared-clear comparison (expressions.Signal path index) (expressions.Literal token) = refl
-  compared-clear comparison (expressions.Signal path index) _ = refl
-  compared-clear comparison (expressions.Literal token) (expressions.Signal path index) = refl
-  compared-clear comparison (expressions.Literal token) _ = refl
-  compared-clear comparison _ y = refl
+  compared-clear comparison x y = rw (operand-clear x, operand-clear y) refl
 
   operated-clear : (operator : InfixOperator) (strength : Strength) (x y : code_expression.Expression) (left right : Meaning) →
       operated names operator strength (clear x) (clear y) left right ≡ operated names operator strength x y left right

@@ -10,6 +10,7 @@ ghost use Rattle.psl_elaboration.specs.Flaws.{tree_flaws};
 ghost use Rattle.psl_tree.specs.Atoms.{AtomsOfFormula};
 ghost use Rattle.psl_tree.specs.Names.{AreAlike, AtomInRange};
 ghost use Rattle.psl_tree.specs.declared.name.Name.{Name};
+ghost use Rattle.psl_layer_laws.specs.Comparisons.{TextsCompareNumbers};
 
 /// A law of the definitions, which runs nothing: two trees of the program that stand for one tree of the grammar have
 /// the same faults of kinds and names, and the same kernel.
@@ -23,4 +24,10 @@ pub fn same_tree()
 pub fn atoms_in_range()
     ensures { (names : List Name) (tree : code_tree.UnitTree) → AreAlike names
         → All (λ asked. AtomsOfFormula (AtomInRange names) asked.formula) (kernel names tree) }
+{}
+
+/// A law of the definitions, which runs nothing: a comparison of a text without faults holds, on a letter that is neither
+/// Top nor Bottom, exactly where the numbers of its two sides compare so.
+pub fn comparisons_of_texts()
+    ensures { TextsCompareNumbers }
 {}

@@ -2,7 +2,7 @@
 use Rattle.std.specs.Prelude.{ℕ, List, [], ◌∷◌, Option, None, Some, if◌then◌else◌, codes, unwrap_or}
 use Rattle.std.specs.Str.{bytes_eq}
 use Rattle.psl_lexer.specs.declared.kind.TokenKind.{TokenKind}
-use Rattle.psl_lexer.specs.declared.kind.TokenKind.TheVariants.{Name, Always, Never, Next, NextA, NextE, NextEvent, NextEventA, NextEventE, Until, UntilOverlap, Before, BeforeOverlap, Abort, AsyncAbort, SyncAbort, Within, Inf, True, False, Posedge, Negedge, Assert, Assume, Cover, Report, Vunit, Sequence, Property, Default, Clock, NextStrong, NextAStrong, NextEStrong, NextEventStrong, NextEventAStrong, NextEventEStrong, EventuallyStrong, UntilStrong, BeforeStrong, UntilStrongOverlap, BeforeStrongOverlap, Implies, ImpliesNext, Iff, GotoOpen, PlusRepeat, StarOpen, EqualsOpen, Arrow, AndAnd, OrOr, EqualEqual, NotEqual, ParenOpen, ParenClose, BraceOpen, BraceClose, BracketOpen, BracketClose, Semicolon, Colon, Dot, At, Not, Ampersand, Bar, Equals}
+use Rattle.psl_lexer.specs.declared.kind.TokenKind.TheVariants.{Name, Always, Never, Next, NextA, NextE, NextEvent, NextEventA, NextEventE, Until, UntilOverlap, Before, BeforeOverlap, Abort, AsyncAbort, SyncAbort, Within, Inf, True, False, Posedge, Negedge, Assert, Assume, Cover, Report, Vunit, Sequence, Property, Default, Clock, NextStrong, NextAStrong, NextEStrong, NextEventStrong, NextEventAStrong, NextEventEStrong, EventuallyStrong, UntilStrong, BeforeStrong, UntilStrongOverlap, BeforeStrongOverlap, Implies, ImpliesNext, Iff, GotoOpen, PlusRepeat, StarOpen, EqualsOpen, Arrow, AndAnd, OrOr, EqualEqual, NotEqual, LessEqual, GreaterEqual, ParenOpen, ParenClose, BraceOpen, BraceClose, BracketOpen, BracketClose, Semicolon, Colon, Dot, At, Not, Ampersand, Bar, Equals, Less, Greater}
 
 -- spellings, each with what it is
 abbrev pub Spellings : Type 0
@@ -85,6 +85,8 @@ marks =
     ∷ (codes "||", OrOr)
     ∷ (codes "==", EqualEqual)
     ∷ (codes "!=", NotEqual)
+    ∷ (codes "<=", LessEqual)
+    ∷ (codes ">=", GreaterEqual)
     ∷ (codes "(", ParenOpen)
     ∷ (codes ")", ParenClose)
     ∷ (codes "{", BraceOpen)
@@ -99,6 +101,8 @@ marks =
     ∷ (codes "&", Ampersand)
     ∷ (codes "|", Bar)
     ∷ (codes "=", Equals)
+    ∷ (codes "<", Less)
+    ∷ (codes ">", Greater)
     ∷ []
 
 -- what a word is: a keyword, or else a name

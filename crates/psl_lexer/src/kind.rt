@@ -119,6 +119,10 @@ pub enum TokenKind {
     EqualEqual,
     /// `!=`
     NotEqual,
+    /// `<=`
+    LessEqual,
+    /// `>=`
+    GreaterEqual,
     /// `(`
     ParenOpen,
     /// `)`
@@ -147,6 +151,10 @@ pub enum TokenKind {
     Bar,
     /// `=`
     Equals,
+    /// `<`
+    Less,
+    /// `>`
+    Greater,
 }
 
 /// The keywords that have the form of a name.
@@ -203,7 +211,7 @@ pub const OVERLAPPING_WORDS: [(&[u8], TokenKind); 2] = [
 ];
 
 /// The punctuation, longest first.
-pub const MARKS: [(&[u8], TokenKind); 26] = [
+pub const MARKS: [(&[u8], TokenKind); 30] = [
     (b"|->", TokenKind::Implies),
     (b"|=>", TokenKind::ImpliesNext),
     (b"<->", TokenKind::Iff),
@@ -216,6 +224,8 @@ pub const MARKS: [(&[u8], TokenKind); 26] = [
     (b"||", TokenKind::OrOr),
     (b"==", TokenKind::EqualEqual),
     (b"!=", TokenKind::NotEqual),
+    (b"<=", TokenKind::LessEqual),
+    (b">=", TokenKind::GreaterEqual),
     (b"(", TokenKind::ParenOpen),
     (b")", TokenKind::ParenClose),
     (b"{", TokenKind::BraceOpen),
@@ -230,4 +240,6 @@ pub const MARKS: [(&[u8], TokenKind); 26] = [
     (b"&", TokenKind::Ampersand),
     (b"|", TokenKind::Bar),
     (b"=", TokenKind::Equals),
+    (b"<", TokenKind::Less),
+    (b">", TokenKind::Greater),
 ];

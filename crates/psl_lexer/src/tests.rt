@@ -5,7 +5,7 @@ use std::alloc::Global;
 use std::test::Fail;
 
 /// Each keyword and punctuation, and its kind.
-const SINGLE: [(&[u8], TokenKind); 67] = [
+const SINGLE: [(&[u8], TokenKind); 71] = [
     (b"always", Always),
     (b"never", Never),
     (b"next", Next),
@@ -59,6 +59,8 @@ const SINGLE: [(&[u8], TokenKind); 67] = [
     (b"||", OrOr),
     (b"==", EqualEqual),
     (b"!=", NotEqual),
+    (b"<=", LessEqual),
+    (b">=", GreaterEqual),
     (b"(", ParenOpen),
     (b")", ParenClose),
     (b"{", BraceOpen),
@@ -73,10 +75,12 @@ const SINGLE: [(&[u8], TokenKind); 67] = [
     (b"&", Ampersand),
     (b"|", Bar),
     (b"=", Equals),
+    (b"<", Less),
+    (b">", Greater),
 ];
 
 /// Texts, and their tokens.
-const TEXTS: [(&[u8], &[(TokenKind, &[u8])]); 15] = [
+const TEXTS: [(&[u8], &[(TokenKind, &[u8])]); 16] = [
     (
         b"a|->b||c|d|=>e|=f",
         &[
@@ -163,6 +167,29 @@ const TEXTS: [(&[u8], &[(TokenKind, &[u8])]); 15] = [
             (Equals, b"="),
             (NotEqual, b"!="),
             (Equals, b"="),
+        ],
+    ),
+    (
+        b"a<->b<=c<d->e>=f>g<==>>=<",
+        &[
+            (Name, b"a"),
+            (Iff, b"<->"),
+            (Name, b"b"),
+            (LessEqual, b"<="),
+            (Name, b"c"),
+            (Less, b"<"),
+            (Name, b"d"),
+            (Arrow, b"->"),
+            (Name, b"e"),
+            (GreaterEqual, b">="),
+            (Name, b"f"),
+            (Greater, b">"),
+            (Name, b"g"),
+            (LessEqual, b"<="),
+            (Equals, b"="),
+            (Greater, b">"),
+            (GreaterEqual, b">="),
+            (Less, b"<"),
         ],
     ),
     (

@@ -26,8 +26,15 @@ pub const ABORTS: [TokenKind; 3] = [
     TokenKind::SyncAbort,
 ];
 
-/// `==` and `!=`.
-pub const COMPARISONS: [TokenKind; 2] = [TokenKind::EqualEqual, TokenKind::NotEqual];
+/// `==`, `!=`, `<`, `<=`, `>` and `>=`.
+pub const COMPARISONS: [TokenKind; 6] = [
+    TokenKind::EqualEqual,
+    TokenKind::NotEqual,
+    TokenKind::Less,
+    TokenKind::LessEqual,
+    TokenKind::Greater,
+    TokenKind::GreaterEqual,
+];
 
 /// `&` and `&&` of sequences.
 pub const SEQUENCE_ANDS: [TokenKind; 2] = [TokenKind::Ampersand, TokenKind::AndAnd];

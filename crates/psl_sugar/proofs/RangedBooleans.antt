@@ -1,17 +1,16 @@
 -- What each atom of the operands has, each atom of a Boolean made of them has.
-use Rattle.std.proofs.Common.{ℕ, zero, suc, ◌-◌, Bool, true, false}
-use Rattle.std.specs.Prelude.{if◌then◌else◌}
-use Rattle.psl_sugar.specs.Booleans.{number, bit_of, has_bit, literal, conjunction_of, disjunction_of, equality, inequality, some_bit}
+use Rattle.std.proofs.Common.{ℕ, zero, suc, ◌-◌}
+use Rattle.psl_sugar.specs.Booleans.{number, bit_of, conjunction_of, disjunction_of, some_bit}
 use Rattle.psl_sugar.specs.declared.boolean.Vector.{Vector}
 use Rattle.psl_tree.specs.Atoms.{AtomsOfBoolean}
-use Rattle.psl_tree.specs.Trees.{Boolean, Not}
+use Rattle.psl_tree.specs.Trees.{Boolean}
 use Rattle.psl_tree.specs.declared.atom.Atom.{Atom}
 
 module _ (P : Atom → Type 0) where
   pub number-has : (value : ℕ) → AtomsOfBoolean P (number value)
   number-has value = tt
 
-  conjunction-has : (part : ℕ → Boolean) → ((bit : ℕ) → AtomsOfBoolean P (part bit)) → (count : ℕ) → AtomsOfBoolean P (conjunction_of part count)
+  pub conjunction-has : (part : ℕ → Boolean) → ((bit : ℕ) → AtomsOfBoolean P (part bit)) → (count : ℕ) → AtomsOfBoolean P (conjunction_of part count)
   conjunction-has part each zero = each 0
   conjunction-has part each (suc more) = (conjunction-has part each more, each (suc more))
 
@@ -19,18 +18,7 @@ module _ (P : Atom → Type 0) where
   disjunction-has part each zero = each 0
   disjunction-has part each (suc more) = (disjunction-has part each more, each (suc more))
 
-  signed-has : (is_one : Bool) (test : Boolean) → AtomsOfBoolean P test → AtomsOfBoolean P (if is_one then test else Not test)
-  signed-has true test h = h
-  signed-has false test h = h
-
   -- a vector whose bits have P
   module _ (vector : Vector) (each : (bit : ℕ) → AtomsOfBoolean P (bit_of vector bit)) where
-    pub equality-has : (value : ℕ) → AtomsOfBoolean P (equality vector value)
-    equality-has value =
-        conjunction-has (literal vector value) (λ (bit : ℕ). signed-has (has_bit value (vector.width - 1 - bit)) (bit_of vector bit) (each bit)) (vector.width - 1)
-
-    pub inequality-has : (value : ℕ) → AtomsOfBoolean P (inequality vector value)
-    inequality-has value = equality-has value
-
     pub some-has : AtomsOfBoolean P (some_bit vector)
     some-has = disjunction-has (bit_of vector) each (vector.width - 1)

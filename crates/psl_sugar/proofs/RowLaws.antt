@@ -1,22 +1,21 @@
 -- The rows of the operators between operands: what each atom of the operands has, each atom of the row has; and how large
 -- they are.
-use Rattle.std.proofs.Common.{ℕ, ◌≤◌, arith}
-use Rattle.psl_sugar.proofs.RangedBooleans as booleans
+use Rattle.std.proofs.Common.{◌≤◌, arith}
+use Rattle.psl_sugar.proofs.RangedComparisons.{OperandHas, equality-has, less-has}
 use Rattle.psl_sugar.proofs.RangedProperties as properties
 use Rattle.psl_sugar.proofs.RangedSequences as sequences
-use Rattle.psl_sugar.proofs.VectorSizes.{equality_size}
-use Rattle.psl_sugar.specs.Booleans.{bit_of}
-use Rattle.psl_sugar.specs.Comparisons.{comparison_row}
+use Rattle.psl_sugar.proofs.VectorSizes.{equality_size, less_size}
+use Rattle.psl_sugar.specs.Comparisons.{compared_width, comparison_row}
 use Rattle.psl_sugar.specs.Connectives.{boolean_row, formula_row}
 use Rattle.psl_sugar.specs.Properties.{until_row, suffix_row, abort_row}
 use Rattle.psl_sugar.specs.Sequences.{sequence_row}
 use Rattle.psl_sugar.specs.declared.abort.AbortOperator.{AbortOperator}
 use Rattle.psl_sugar.specs.declared.abort.AbortOperator.TheVariants as aborts
-use Rattle.psl_sugar.specs.declared.boolean.Vector.{Vector}
 use Rattle.psl_sugar.specs.declared.comparison.Comparison.{Comparison}
 use Rattle.psl_sugar.specs.declared.comparison.Comparison.TheVariants as comparisons
 use Rattle.psl_sugar.specs.declared.connectives.Connective.{Connective}
 use Rattle.psl_sugar.specs.declared.connectives.Connective.TheVariants as connectives
+use Rattle.psl_sugar.specs.declared.operand.Operand.{Operand}
 use Rattle.psl_sugar.specs.declared.operator.Strength.{Strength}
 use Rattle.psl_sugar.specs.declared.sequence_operators.SequenceOperator.{SequenceOperator}
 use Rattle.psl_sugar.specs.declared.sequence_operators.SequenceOperator.TheVariants as operators
@@ -65,12 +64,20 @@ module _ (P : Atom → Type 0) where
   until-row-has untils.Before strength left right h k = properties.before-has P strength left right h k
   until-row-has untils.BeforeOverlap strength left right h k = properties.before-overlapping-has P strength left right h k
 
-  -- of a vector whose bits have P
-  pub comparison-row-has : (comparison : Comparison) (vector : Vector) (value : ℕ) → ((bit : ℕ) → AtomsOfBoolean P (bit_of vector bit)) → AtomsOfBoolean P (comparison_row comparison vector value)
-  comparison-row-has comparisons.Equal vector value each = booleans.equality-has P vector each value
-  comparison-row-has comparisons.Unequal vector value each = booleans.inequality-has P vector each value
+  -- of two sides whose bits have P
+  pub comparison-row-has : (comparison : Comparison) (left right : Operand) → OperandHas P left → OperandHas P right → AtomsOfBoolean P (comparison_row comparison left right)
+  comparison-row-has comparisons.Equal left right h k = equality-has P left right h k
+  comparison-row-has comparisons.Unequal left right h k = equality-has P left right h k
+  comparison-row-has comparisons.Less left right h k = less-has P left right h k
+  comparison-row-has comparisons.LessEqual left right h k = less-has P right left k h
+  comparison-row-has comparisons.Greater left right h k = less-has P right left k h
+  comparison-row-has comparisons.GreaterEqual left right h k = less-has P left right h k
 
--- a comparison has at least as many constructors as its vector has bits
-pub comparison-size : (comparison : Comparison) (vector : Vector) (value : ℕ) → vector.width ≤ boolean_size (comparison_row comparison vector value)
-comparison-size comparisons.Equal vector value = equality_size vector value
-comparison-size comparisons.Unequal vector value = omega (arith, equality_size vector value)
+-- a comparison has at least as many constructors as its wider side has bits
+pub comparison-size : (comparison : Comparison) (left right : Operand) → compared_width left right ≤ boolean_size (comparison_row comparison left right)
+comparison-size comparisons.Equal left right = equality_size left right
+comparison-size comparisons.Unequal left right = omega (arith, equality_size left right)
+comparison-size comparisons.Less left right = less_size left right
+comparison-size comparisons.LessEqual left right = omega (arith, less_size right left)
+comparison-size comparisons.Greater left right = omega (arith, less_size right left)
+comparison-size comparisons.GreaterEqual left right = omega (arith, less_size left right)

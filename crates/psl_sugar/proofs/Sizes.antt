@@ -11,6 +11,8 @@ use Rattle.psl_sugar.specs.declared.count.Count.{Count}
 use Rattle.psl_sugar.specs.declared.count.Count.TheVariants.{Times, Between, AtLeast}
 use Rattle.std.proofs.Math.Nat.{div-eq_of_lt, pow-le-pow_right}
 use Rattle.psl_sugar.specs.Booleans.{conjunction_of, disjunction_of, has_bit}
+use Rattle.psl_sugar.specs.Comparisons.{side_bit, less_there, less_within}
+use Rattle.psl_sugar.specs.declared.operand.Operand.{Operand}
 use Rattle.psl_sugar.specs.Counting.{is_zero}
 use Rattle.psl_sugar.specs.Sequences.{times, optional, between, at_least, repeated}
 use Rattle.psl_sugar.specs.Properties.{until, next, next_steps, next_times, next_event, next_event_times, joined, joined_parts}
@@ -226,6 +228,18 @@ disjunction_within part count high below =
     let more : boolean_size (disjunction_of part (count + 1)) ≤ boolean_size (disjunction_of part high) = subst P end (disjunction_grows_by part (count + 1) (high - (count + 1))) in
     let whole : boolean_size (disjunction_of part (count + 1)) ≡ boolean_size (disjunction_of part count) + boolean_size (part (count + 1)) + 1 = ap boolean_size (disjunction_more part count) in
     omega arith
+
+less_grows_by : (left right : Operand) (places more : ℕ) → boolean_size (less_within left right places) ≤ boolean_size (less_within left right (places + more))
+less_grows_by left right places zero = rw add-zero (omega arith)
+less_grows_by left right places (suc more) = rw add-suc (omega (arith, less_grows_by left right places more))
+
+-- so many bits and one more fit where more bits fit
+pub less_fits : (left right : Operand) (places high : ℕ) → places < high →
+    boolean_size (less_there (side_bit left places) (side_bit right places) (less_within left right places)) ≤ boolean_size (less_within left right high)
+less_fits left right places high below =
+    let P : ℕ → Type 0 = λ n. boolean_size (less_within left right (suc places)) ≤ boolean_size (less_within left right n) in
+    let end : suc places + (high - suc places) ≡ high = omega arith in
+    subst P end (less_grows_by left right (suc places) (high - suc places))
 
 -- a number of 64 bits has no bit past them
 pub no_bit : (value place : ℕ) → value < 2 ^ 64 → 64 ≤ place → has_bit value place ≡ false

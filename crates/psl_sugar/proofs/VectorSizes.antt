@@ -1,9 +1,11 @@
--- Vectors have as many constructors as bits.
+-- Vectors, and comparisons of vectors, have as many constructors as bits.
 use Rattle.std.proofs.Common.{ℕ, zero, suc, ◌+◌, ◌-◌, ◌≤◌, arith}
 use Rattle.psl_tree.specs.Trees.{Boolean, Const, Test, Not, And, Or}
 use Rattle.psl_tree.specs.Counts.{boolean_size}
-use Rattle.psl_sugar.specs.Booleans.{conjunction_of, disjunction_of, literal, bit_of, equality, some_bit}
+use Rattle.psl_sugar.specs.Booleans.{conjunction_of, disjunction_of, bit_of, some_bit}
+use Rattle.psl_sugar.specs.Comparisons.{compared_width, same_bit, equality, less_within, less}
 use Rattle.psl_sugar.specs.declared.boolean.Vector.{Vector}
+use Rattle.psl_sugar.specs.declared.operand.Operand.{Operand}
 
 boolean_is_some : (test : Boolean) → 1 ≤ boolean_size test
 boolean_is_some (Const value) = omega arith
@@ -20,8 +22,17 @@ disjunction_size : (part : ℕ → Boolean) (more : ℕ) → more + 1 ≤ boolea
 disjunction_size part zero = boolean_is_some (part 0)
 disjunction_size part (suc more) = omega (arith, disjunction_size part more, boolean_is_some (part (suc more)))
 
-pub equality_size : (vector : Vector) (value : ℕ) → vector.width ≤ boolean_size (equality vector value)
-equality_size vector value = omega (arith, conjunction_size (literal vector value) (vector.width - 1))
+pub equality_size : (left right : Operand) → compared_width left right ≤ boolean_size (equality left right)
+equality_size left right =
+    let leftmost = compared_width left right - 1 in
+    omega (arith, conjunction_size (λ (more : ℕ). same_bit left right (leftmost - more)) leftmost)
+
+less_within_size : (left right : Operand) (places : ℕ) → places ≤ boolean_size (less_within left right places)
+less_within_size left right zero = omega arith
+less_within_size left right (suc places) = omega (arith, less_within_size left right places)
+
+pub less_size : (left right : Operand) → compared_width left right ≤ boolean_size (less left right)
+less_size left right = less_within_size left right (compared_width left right)
 
 pub some_bit_size : (vector : Vector) → vector.width ≤ boolean_size (some_bit vector)
 some_bit_size vector = omega (arith, disjunction_size (bit_of vector) (vector.width - 1))

@@ -4,6 +4,7 @@ pub mod Codes
 pub mod Comparisons
 pub mod Connectives
 pub mod Counting
+pub mod Numbers
 pub mod Properties
 pub mod Rows
 pub mod Sequences

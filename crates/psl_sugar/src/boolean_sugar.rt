@@ -1,6 +1,6 @@
 // Numbers and vectors as Booleans.
 ghost use Rattle.std.specs.Prelude.{◌≡◌, ◌+◌, ◌<◌, ◌≤◌, ◌^◌};
-ghost use Rattle.psl_sugar.specs.Booleans.{number, has_bit, bit_of, literal, some_bit};
+ghost use Rattle.psl_sugar.specs.Booleans.{number, has_bit, bit_at, bit_of, some_bit};
 ghost use Rattle.psl_sugar.specs.Budget.{GivesBoolean};
 
 use crate::{MeasuredBool, SugarFault, Vector};
@@ -15,36 +15,26 @@ impl MeasuredBool {
         MeasuredBool::constant(value != 0)
     }
 
+    /// The bit of a vector at a place, counted from the right from 0.
+    pub(crate) fn bit_at(vector: Vector, place: u32) -> MeasuredBool
+        requires place { place < vector.width }
+        requires places { vector.lowest + vector.width ≤ 2 ^ 32 }
+        ensures { result ≡ bit_at vector place }
+    {
+        MeasuredBool::test(Atom {
+            signal: vector.signal,
+            bit: vector.lowest + place,
+            edge: Edge::Value,
+        })
+    }
+
     // A bit of a vector, counted from the leftmost one.
     fn bit_of(vector: Vector, bit: u32) -> MeasuredBool
         requires bit { bit < vector.width }
         requires places { vector.lowest + vector.width ≤ 2 ^ 32 }
         ensures { result ≡ bit_of vector bit }
     {
-        MeasuredBool::test(Atom {
-            signal: vector.signal,
-            bit: vector.lowest + (vector.width - 1 - bit),
-            edge: Edge::Value,
-        })
-    }
-
-    /// A bit of a vector, counted from the leftmost one, as the number wants it.
-    pub(crate) fn literal(
-        alloc: Global,
-        vector: Vector,
-        value: u64,
-        bit: u32,
-    ) -> Result<MeasuredBool, SugarFault>
-        requires bit { bit < vector.width }
-        requires places { vector.lowest + vector.width ≤ 2 ^ 32 }
-        ensures { GivesBoolean result (literal vector value bit) }
-    {
-        let test = MeasuredBool::bit_of(vector, bit);
-        if has_bit(value, vector.width - 1 - bit) {
-            Ok(test)
-        } else {
-            test.not(alloc)
-        }
+        MeasuredBool::bit_at(vector, vector.width - 1 - bit)
     }
 
     /// A vector as a Boolean: the disjunction from the left of its bits, the leftmost bit first.
@@ -61,8 +51,8 @@ impl MeasuredBool {
     }
 }
 
-// Whether a number's bit is 1, counted from the right.
-fn has_bit(value: u64, place: u32) -> bool
+/// Whether a number's bit is 1, counted from the right.
+pub(crate) fn has_bit(value: u64, place: u32) -> bool
     ensures { result ≡ has_bit value place }
 {
     place < 64 && (value >> place) % 2 == 1

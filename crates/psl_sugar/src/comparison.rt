@@ -1,60 +1,46 @@
-// Comparisons of vectors with numbers.
-ghost use Rattle.std.specs.Prelude.{◌+◌, ◌≤◌, ◌^◌};
-ghost use Rattle.psl_sugar.specs.Booleans.{equality, inequality};
+// Comparisons of vectors and numbers.
 ghost use Rattle.psl_sugar.specs.Budget.{GivesBoolean};
-ghost use Rattle.psl_sugar.specs.Comparisons.{comparison_row};
+ghost use Rattle.psl_sugar.specs.Comparisons.{HasPlaces, comparison_row};
 
-use crate::{MeasuredBool, SugarFault, Vector};
+use crate::{MeasuredBool, Operand, SugarFault};
 use std::alloc::Global;
 
-/// A comparison (IEEE 1850, clause 5).
+/// A comparison of unsigned numbers (IEEE 1850, clause 5).
 #[derive(Clone, Copy, Debug, PartialEq, Eq)]
 pub enum Comparison {
     /// `==`
     Equal,
     /// `!=`
     Unequal,
+    /// `<`
+    Less,
+    /// `<=`
+    LessEqual,
+    /// `>`
+    Greater,
+    /// `>=`
+    GreaterEqual,
 }
 
 impl MeasuredBool {
-    /// A comparison of a vector with a number, which is extended by zeros on the left.
+    /// A comparison of two sides, of which the shorter one is extended by zeros on the left.
     pub fn compared(
         alloc: Global,
         comparison: Comparison,
-        vector: Vector,
-        value: u64,
+        left: Operand,
+        right: Operand,
     ) -> Result<MeasuredBool, SugarFault>
-        requires some { 1 ≤ vector.width }
-        requires places { vector.lowest + vector.width ≤ 2 ^ 32 }
-        ensures { GivesBoolean result (comparison_row comparison vector value) }
+        requires left_places { HasPlaces left }
+        requires right_places { HasPlaces right }
+        ensures { GivesBoolean result (comparison_row comparison left right) }
     {
         match comparison {
-            Comparison::Equal => MeasuredBool::equality(alloc, vector, value),
-            Comparison::Unequal => MeasuredBool::inequality(alloc, vector, value),
+            Comparison::Equal => MeasuredBool::equality(alloc, left, right),
+            Comparison::Unequal => MeasuredBool::equality(alloc, left, right)?.not(alloc),
+            Comparison::Less => MeasuredBool::less(alloc, left, right),
+            Comparison::LessEqual => MeasuredBool::less(alloc, right, left)?.not(alloc),
+            Comparison::Greater => MeasuredBool::less(alloc, right, left),
+            Comparison::GreaterEqual => MeasuredBool::less(alloc, left, right)?.not(alloc),
         }
-    }
-
-    /// `vector == number`: the conjunction from the left of the bits, the leftmost bit first, each
-    /// as it is or negated. The number is extended by zeros on the left.
-    pub fn equality(alloc: Global, vector: Vector, value: u64) -> Result<MeasuredBool, SugarFault>
-        requires some { 1 ≤ vector.width }
-        requires places { vector.lowest + vector.width ≤ 2 ^ 32 }
-        ensures { GivesBoolean result (equality vector value) }
-    {
-        let mut all = MeasuredBool::literal(alloc, vector, value, 0)?;
-        for more in 0..vector.width - 1 {
-            let next = MeasuredBool::literal(alloc, vector, value, more + 1)?;
-            all = all.and(alloc, next)?;
-        }
-        Ok(all)
-    }
-
-    /// `vector != number`: the negation of `vector == number`.
-    pub fn inequality(alloc: Global, vector: Vector, value: u64) -> Result<MeasuredBool, SugarFault>
-        requires some { 1 ≤ vector.width }
-        requires places { vector.lowest + vector.width ≤ 2 ^ 32 }
-        ensures { GivesBoolean result (inequality vector value) }
-    {
-        MeasuredBool::equality(alloc, vector, value)?.not(alloc)
     }
 }
