@@ -27,6 +27,3 @@ pub use automaton::{AltFault, Alternating, has_large_sequence, of};
 pub use laws::values_and_letters;
 pub use positive::Positive;
 pub use truths::Truths;
-
-#[cfg(test)]
-mod tests;

@@ -19,8 +19,6 @@ mod shapes;
 mod signals;
 mod table;
 mod tail;
-#[cfg(test)]
-mod tests;
 mod text;
 
 pub use command::Command;

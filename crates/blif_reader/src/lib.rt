@@ -8,8 +8,6 @@ mod laws;
 mod models;
 mod places;
 mod reading;
-#[cfg(test)]
-mod tests;
 
 pub use blif_model::BlifFault;
 pub use laws::{hierarchy_law, one_reading_law};

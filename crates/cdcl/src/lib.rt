@@ -15,8 +15,6 @@ mod restart;
 mod run;
 mod solver;
 mod spread;
-#[cfg(test)]
-mod tests;
 mod usage;
 mod values;
 

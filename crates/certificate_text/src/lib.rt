@@ -4,8 +4,6 @@
 mod laws;
 mod live;
 mod printing;
-#[cfg(test)]
-mod tests;
 
 pub use laws::{printed_law, worked_example};
 pub use printing::{print_cert, print_cert_1};

@@ -10,8 +10,6 @@ mod left;
 mod literal_set;
 mod live;
 mod step;
-#[cfg(test)]
-mod tests;
 
 pub use answer::LogAnswer;
 pub use check::check_log;

@@ -3,8 +3,6 @@
 
 mod region;
 mod store;
-#[cfg(test)]
-mod tests;
 
 pub use psl_base::NoMemory;
 pub use region::MOST_WORDS;

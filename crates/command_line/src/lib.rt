@@ -12,8 +12,6 @@ mod commands;
 mod kinds;
 mod number;
 mod parsing;
-#[cfg(test)]
-mod tests;
 
 use commands::read_values;
 use kinds::kind_named;

@@ -7,4 +7,3 @@ pub mod Searching
 pub mod Settling
 pub mod Starting
 pub mod Sweeping
-pub mod Worked

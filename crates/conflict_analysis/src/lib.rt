@@ -10,8 +10,6 @@ mod search;
 mod settle;
 mod standing;
 mod sweep;
-#[cfg(test)]
-mod tests;
 mod view;
 
 pub use analyzer::Analyzer;

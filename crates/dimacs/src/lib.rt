@@ -4,8 +4,6 @@
 mod fault;
 mod header;
 mod reading;
-#[cfg(test)]
-mod tests;
 mod values;
 mod words;
 

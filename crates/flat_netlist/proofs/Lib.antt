@@ -6,4 +6,3 @@ pub mod Names
 pub mod Sound
 pub mod Splitting
 pub mod Unfolded
-pub mod Worked

@@ -1,4 +1,3 @@
-pub mod Example
 pub mod Flat
 pub mod Inputs
 pub mod Lines

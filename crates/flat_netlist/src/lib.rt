@@ -5,8 +5,6 @@ mod flat;
 mod instance_names;
 mod laws;
 mod parts;
-#[cfg(test)]
-mod tests;
 
 pub use flat::{FlatNetlist, flat_netlist};
 pub use laws::{soundness_law, unfolding_law};

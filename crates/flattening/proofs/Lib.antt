@@ -12,4 +12,3 @@ pub mod Tables
 pub mod Unfolding
 pub mod Visiting
 pub mod Walking
-pub mod Worked

@@ -1,5 +1,4 @@
 pub mod Cells
-pub mod Example
 pub mod Hierarchy
 pub mod Instances
 pub mod Listing

@@ -11,8 +11,6 @@ mod instance;
 mod laws;
 mod listing;
 mod model;
-#[cfg(test)]
-mod tests;
 mod walk;
 
 pub use hierarchy::{Flat, flatten};

@@ -8,8 +8,6 @@ mod literals;
 mod parts;
 mod sizes;
 mod states;
-#[cfg(test)]
-mod tests;
 mod unrolling;
 
 pub use distinctness::distinct;

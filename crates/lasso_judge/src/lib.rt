@@ -16,6 +16,3 @@ mod tables;
 mod until;
 
 pub use judge::satisfies;
-
-#[cfg(test)]
-mod tests;

@@ -7,8 +7,6 @@ mod lines;
 mod numbers;
 mod printing;
 mod reading;
-#[cfg(test)]
-mod tests;
 mod words;
 
 pub use fault::{LogFault, MOST_READ_WORDS};

@@ -11,4 +11,3 @@ pub mod Once
 pub mod Owning
 pub mod Parting
 pub mod Shallow
-pub mod Worked

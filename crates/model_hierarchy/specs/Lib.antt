@@ -1,6 +1,5 @@
 pub mod Depth
 pub mod Drivers
-pub mod Example
 pub mod First
 pub mod Laws
 pub mod Order

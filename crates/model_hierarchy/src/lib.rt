@@ -8,8 +8,6 @@ mod depth;
 mod laws;
 mod place;
 mod recursion;
-#[cfg(test)]
-mod tests;
 
 pub use cost::first_too_large;
 pub use depth::first_too_deep;

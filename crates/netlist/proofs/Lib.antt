@@ -2,7 +2,6 @@ pub mod Driving
 pub mod Filled
 pub mod Following
 pub mod Held
-pub mod InOrder
 pub mod Named
 pub mod RowLists
 pub mod Uniqueness

@@ -10,8 +10,6 @@ mod netlist;
 mod rows;
 mod run;
 mod table;
-#[cfg(test)]
-mod tests;
 mod word;
 
 pub use latch::{Init, Latch, Latches};

@@ -6,8 +6,6 @@ mod formula;
 mod kinds;
 mod laws;
 mod size;
-#[cfg(test)]
-mod tests;
 mod violations;
 
 pub use formula::owed;

@@ -3,8 +3,6 @@
 
 mod adding;
 mod propagator;
-#[cfg(test)]
-mod tests;
 mod visit;
 mod watch;
 mod work;

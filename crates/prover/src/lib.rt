@@ -13,8 +13,6 @@ mod proving;
 mod searching;
 mod stop;
 mod task;
-#[cfg(test)]
-mod tests;
 
 pub use finding::{Finding, OpenPath, OpenPaths, Query};
 pub use options::Options;

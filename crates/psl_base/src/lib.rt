@@ -14,8 +14,6 @@ mod packed;
 mod place;
 mod reading;
 mod streams;
-#[cfg(test)]
-mod tests;
 mod tokens;
 mod writing;
 

@@ -8,8 +8,6 @@ mod kind;
 mod laws;
 mod lexing;
 mod numbers;
-#[cfg(test)]
-mod tests;
 mod texts;
 mod token;
 mod values;

@@ -13,8 +13,6 @@ mod numbers;
 mod position;
 mod starts;
 mod tables;
-#[cfg(test)]
-mod tests;
 
 pub use booleans::add_boolean;
 pub use builder::{Builder, negated};

@@ -7,8 +7,6 @@
 
 mod order;
 mod search;
-#[cfg(test)]
-mod tests;
 mod wiring;
 
 pub use order::order_of;

@@ -4,8 +4,6 @@
 mod laws;
 mod literals;
 mod path;
-#[cfg(test)]
-mod tests;
 
 pub use laws::signed_law;
 pub use literals::{number_of, opposite, signed};

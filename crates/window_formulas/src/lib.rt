@@ -2,8 +2,6 @@
 //! initial one, and for one of different states of which the last alone is bad.
 #![tactic(auto)]
 
-#[cfg(test)]
-mod tests;
 mod windows;
 
 pub use windows::{base, induction};

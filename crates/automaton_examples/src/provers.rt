@@ -1,0 +1,112 @@
+// What no clause says: that the calls succeed with ample memory.
+ghost use Rattle.std.specs.Prelude.{◌<◌, ◌≤◌, ◌-◌, ◌^◌};
+
+use prover::{Finding, Options, Task, prove};
+use netlist::{Latches, Netlist, Signals, Tables};
+use owed::assumed_size;
+use psl_base::{Items, NoMemory, Place, Text, boxed};
+use psl_tree::{Atom, Bool, Directive, Edge, Fl, Kind, Name, Names, are_in_range};
+use std::alloc::Global;
+use std::test::Fail;
+use work_limits::check_sizes;
+
+// An input i, and nothing else.
+fn example(alloc: Global) -> Result<Netlist, NoMemory> {
+    let mut names = Names::new(alloc);
+    names.push(Name {
+        text: Text::from_slice(alloc, b"i")?,
+        signal: 0,
+        left: 0,
+        right: 0,
+    })?;
+    let inputs = Signals::from_slice(alloc, &[0])?;
+    Ok(Netlist::of(
+        1,
+        inputs,
+        Latches::new(alloc),
+        Tables::new(alloc),
+        names,
+        Signals::new(alloc),
+    ))
+}
+
+// `assert !i;`, or that i does not rise or fall.
+fn assertion(alloc: Global, edge: Edge) -> Result<Directive, NoMemory> {
+    let test = Bool::Test(Atom {
+        signal: 0,
+        bit: 0,
+        edge,
+    });
+    Ok(Directive {
+        number: 1,
+        kind: Kind::Assert,
+        label: None,
+        place: Place { line: 1, column: 1 },
+        formula: Fl::Not(boxed(alloc, Fl::Now(test))?),
+    })
+}
+
+// What is found of an assertion up to a depth.
+fn finding(
+    alloc: Global,
+    netlist: &Netlist,
+    assertion: &Directive,
+    depth: u32,
+) -> Result<Finding, Fail>
+    requires some { 1 ≤ depth }
+    requires few { depth < 2 ^ 32 - 1 }
+{
+    let unit = Items::new(alloc);
+    let assumed = assumed_size(alloc, &unit)?;
+    let Ok(()) = check_sizes(alloc, assertion, assumed, netlist, depth) else {
+        return Err("too large".into());
+    };
+    if !are_in_range(netlist.names(), &assertion.formula) {
+        return Err("not of the netlist".into());
+    }
+    let task = Task {
+        unit: &unit,
+        assertion,
+        netlist,
+        options: Options {
+            depth,
+            visits: 1,
+            steps: 1000,
+        },
+    };
+    let found = prove(alloc, task)?;
+    Ok(found)
+}
+
+#[test]
+fn an_input_may_be_1(rt: HostRuntime) -> Result<(), Fail> {
+    let netlist = example(rt.alloc())?;
+    let assertion = assertion(rt.alloc(), Edge::Value)?;
+    let Finding::Violated(run) = finding(rt.alloc(), &netlist, &assertion, 3)? else {
+        return Err("no run was found".into());
+    };
+    assert_eq!(rt; run.stem.len() + run.loop_part.len(), 1);
+    Ok(())
+}
+
+#[test]
+fn nothing_rises_at_first(rt: HostRuntime) -> Result<(), Fail> {
+    let netlist = example(rt.alloc())?;
+    let assertion = assertion(rt.alloc(), Edge::Rise)?;
+    let Finding::Proved(certificate) = finding(rt.alloc(), &netlist, &assertion, 3)? else {
+        return Err("no proof was found".into());
+    };
+    assert_eq!(rt; certificate.visits, 0);
+    Ok(())
+}
+
+#[test]
+fn one_valuation_does_not_tell(rt: HostRuntime) -> Result<(), Fail> {
+    let netlist = example(rt.alloc())?;
+    let assertion = assertion(rt.alloc(), Edge::Rise)?;
+    let Finding::Depth(paths) = finding(rt.alloc(), &netlist, &assertion, 1)? else {
+        return Err("a depth of 1 was enough".into());
+    };
+    assert_eq!(rt; paths.len(), 2);
+    Ok(())
+}

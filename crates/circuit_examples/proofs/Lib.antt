@@ -1,0 +1,4 @@
+pub mod InOrder
+pub mod OneLatch
+pub mod PlacedOnce
+pub mod PlacedTwice

@@ -1,0 +1,3 @@
+pub mod OneLatch
+pub mod PlacedOnce
+pub mod PlacedTwice

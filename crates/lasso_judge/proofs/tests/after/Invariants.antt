@@ -1,6 +1,0 @@
-use Rattle.psl_meaning.specs.Clockless.{HasNoClock}
-use Rattle.psl_tree.specs.Trees.{sequence_of}
-use Rattle.lasso_judge.proofs.tests.after.Given as goal
-
-abbrev pub invariant-loop-before : goal.invariant-loop-before
-invariant-loop-before l = HasNoClock (sequence_of l.r)
