@@ -5,11 +5,11 @@ ghost use Rattle.psl_tree.specs.Trees.{boolean_of, Test};
 ghost use Rattle.psl_tree.specs.declared.atom.Edge as Edge;
 ghost use Rattle.run_gates.specs.Building.{place_at};
 
-use run_gates::{Builder, Owing, Position, add_positive};
 use alternating::Positive;
 use clauses::CnfFault;
 use psl_base::boxed;
 use psl_tree::{Atom, Bool, Edge};
+use run_gates::{Builder, Owing, Position, add_positive};
 use std::test::Fail;
 
 // Ten obligations, each with a variable behind the first 20.

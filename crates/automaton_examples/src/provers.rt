@@ -1,9 +1,9 @@
 // What no clause says: that the calls succeed with ample memory.
 ghost use Rattle.std.specs.Prelude.{◌<◌, ◌≤◌, ◌-◌, ◌^◌};
 
-use prover::{Finding, Options, Task, prove};
 use netlist::{Latches, Netlist, Signals, Tables};
 use owed::assumed_size;
+use prover::{Finding, Options, Task, prove};
 use psl_base::{Items, NoMemory, Place, Text, boxed};
 use psl_tree::{Atom, Bool, Directive, Edge, Fl, Kind, Name, Names, are_in_range};
 use std::alloc::Global;

@@ -2,11 +2,11 @@
 ghost use Rattle.std.specs.Prelude.{◌≡◌, length, IfOk};
 ghost use Rattle.circuit_theory.specs.Circuits.{IsSound};
 
-use window_formulas::{base, induction};
 use circuit_theory::{Circuit, Gate, Gates, Literals};
 use psl_base::NoMemory;
 use std::alloc::Global;
 use std::test::Fail;
+use window_formulas::{base, induction};
 
 // A state bit, an input that is true, and their conjunction, whose negation is the next state.
 fn example(alloc: Global) -> Result<Circuit, NoMemory>

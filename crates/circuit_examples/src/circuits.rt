@@ -2,9 +2,9 @@
 ghost use Rattle.std.specs.Prelude.{IfOk};
 ghost use Rattle.circuit_theory.specs.Circuits.{IsSound};
 
-use gates::{distinct, fits, unroll};
 use circuit_theory::{Circuit, Gate, Gates, Literals};
 use clauses::CnfFault;
+use gates::{distinct, fits, unroll};
 use psl_base::NoMemory;
 use std::alloc::Global;
 use std::test::Fail;

@@ -2,8 +2,8 @@
 ghost use Rattle.std.specs.Prelude.{◌≡◌, IfOk};
 ghost use Rattle.circuit_examples.specs.OneLatch.{worked, worked_texts};
 
-use flat_netlist::{NoMemory, flat_netlist};
 use blif_model::{LineKind, ModelLine, NameTable};
+use flat_netlist::{NoMemory, flat_netlist};
 use flattening::{Item, Model};
 use netlist::Init;
 use psl_base::Items;

@@ -2,8 +2,8 @@
 ghost use Rattle.std.specs.Prelude.{◌≡◌, ◌<◌, IfOk};
 ghost use Rattle.circuit_examples.specs.PlacedOnce.{worked};
 
-use model_hierarchy::{NoMemory, PlacementAt, first_recursive, first_too_deep, first_too_large};
 use flattening::{Item, Model, Placement};
+use model_hierarchy::{NoMemory, PlacementAt, first_recursive, first_too_deep, first_too_large};
 use psl_base::Items;
 use std::alloc::Global;
 use std::test::Fail;

@@ -1,6 +1,6 @@
 // What no clause says: that an order and a cycle are found with ample memory.
-use table_order::{Wiring, order_of};
 use std::test::Fail;
+use table_order::{Wiring, order_of};
 
 // Table 0 reads two tables that both read table 3; signal 4 is an input.
 #[test]

@@ -1,6 +1,6 @@
 // What no clause says: that the calls succeed with ample memory.
-use conflict_analysis::{Analyzer, Lemma, TrailView};
 use clause_store::Store;
+use conflict_analysis::{Analyzer, Lemma, TrailView};
 use std::test::Fail;
 
 #[test]

@@ -1,6 +1,6 @@
 // What no clause says: that the calls succeed with ample memory.
-use trail::{Trail, number_of, opposite, signed};
 use std::test::Fail;
+use trail::{Trail, number_of, opposite, signed};
 
 #[test]
 fn levels_come_and_go(rt: HostRuntime) -> Result<(), Fail> {

@@ -1,6 +1,6 @@
 // What no clause says: that a call succeeds with ample memory, and the text itself.
-use certificate_text::{print_cert, print_cert_1};
 use certificate::Certificate;
+use certificate_text::{print_cert, print_cert_1};
 use log_lines::read_log2;
 use std::test::Fail;
 

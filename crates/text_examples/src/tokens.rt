@@ -1,6 +1,6 @@
+use psl_base::Place;
 use psl_lexer::TokenKind::{self, *};
 use psl_lexer::{LexFault, Tokens, lex, one_answer};
-use psl_base::Place;
 use std::alloc::Global;
 use std::test::Fail;
 
