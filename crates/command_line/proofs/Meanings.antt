@@ -4,10 +4,12 @@ use Rattle.command_line.specs.Clap.{Takes}
 use Rattle.command_line.specs.Commands.{AreLimits, AreTaken, AreUnnumbered, IsCommand, IsNoCommand, IsRefused, Meaning, Says, Values, kind_of, most_seed, values_of}
 use Rattle.command_line.specs.Commands.IsRefused.{unnamed, unnumbered, untaken}
 use Rattle.command_line.specs.Commands.Meaning.{wave, gen, show, show_netlist, prove, check}
-use Rattle.command_line.specs.Kinds.{app_of, name_of}
+use Rattle.command_line.specs.Kinds.{app_of, name_of, word_of}
 use Rattle.command_line.specs.Numbers.{IsGiven}
 use Rattle.command_line.specs.Ranges.{IsInRange}
 use Rattle.command_line.specs.declared.Limits.{Limits}
+use Rattle.command_line.specs.declared.Unknown.{Unknown}
+use Rattle.command_line.specs.declared.Unknown.TheVariants.{Zero, One, Refuse}
 use Rattle.command_line.specs.declared.kinds.Kind.{Kind}
 use Rattle.command_line.specs.declared.kinds.Kind.TheVariants.{Wave, Gen, Show, Prove, Check}
 use Rattle.command_line.proofs.Numbers.{one_number}
@@ -51,9 +53,26 @@ one_limits values a b one two =
     let steps : a.steps ≡ b.steps = one_given _ _ _ _ _ (omega arith) one.steps two.steps in
     λ i. record { depth = depth i; visits = visits i; steps = steps i }
 
+-- the first byte of each tells how unknown bits read
+unknown_from : ℕ → Unknown
+unknown_from byte = if byte == 122 then Zero else (if byte == 111 then One else Refuse)
+
+from_word : (unknown : Unknown) → unknown_from (first_byte (word_of unknown)) ≡ unknown
+unfolding unknown_from
+from_word Zero = refl
+from_word One = refl
+from_word Refuse = refl
+
+one_unknown : (a b : Unknown) → word_of a ≡ word_of b → a ≡ b
+one_unknown a b same = sym (from_word a) ∙ (ap (λ (word : List ℕ). unknown_from (first_byte word)) same ∙ from_word b)
+
 one_said : (most : ℕ) (values : Values) (first second : Meaning) → most < 2 ^ 32 → kind_of first ≡ kind_of second → Says most values first
     → Says most values second → first ≡ second
-one_said most values (wave a b) (wave c d) fits same one two = ap₂ wave (some_one _ _ (sym one.0 ∙ two.0)) (some_one _ _ (sym one.1 ∙ two.1))
+one_said most values (wave a b k) (wave c d m) fits same one two =
+    let unit : a ≡ c = some_one _ _ (sym one.0 ∙ two.0) in
+    let recording : b ≡ d = some_one _ _ (sym one.1 ∙ two.1) in
+    let unknown : k ≡ m = one_unknown k m (some_one _ _ (sym one.2 ∙ two.2)) in
+    λ i. wave (unit i) (recording i) (unknown i)
 one_said most values (gen a b) (gen c d) fits same one two =
     ap₂ gen (one_given _ _ _ _ _ (omega arith) one.0 two.0) (one_given _ _ _ _ _ fits one.1 two.1)
 one_said most values (show a b) (show c d) fits same one two = ap₂ show (some_one _ _ (sym one.0 ∙ two.0)) (some_one _ _ (sym one.1 ∙ two.1))
@@ -92,7 +111,7 @@ refused_unnumbered most words kind values taken same none =
     unnumbered kind taken (subst (λ (all : Values). AreUnnumbered most all kind) one none)
 
 not_said : (most : ℕ) (values : Values) (meaning : Meaning) → Says most values meaning → AreUnnumbered most values (kind_of meaning) → ⊥
-not_said most values (wave unit recording) says none = none
+not_said most values (wave unit recording unknown) says none = none unknown says.2
 not_said most values (gen seed samples) says none = none seed samples says.0 says.1
 not_said most values (show unit names) says none = none
 not_said most values (show_netlist unit netlist) says none = none
@@ -121,7 +140,7 @@ most_given least most number None given = absurd given
 most_given least most number (Some word) given = given.below
 
 in_range : (most : ℕ) (values : Values) (meaning : Meaning) → Says most values meaning → IsInRange most meaning
-in_range most values (wave unit recording) says = tt
+in_range most values (wave unit recording unknown) says = tt
 in_range most values (gen seed samples) says =
     let below : seed ≤ most_seed = most_given _ _ _ _ says.0 in
     (omega arith, least_given _ _ _ _ says.1, most_given _ _ _ _ says.1)

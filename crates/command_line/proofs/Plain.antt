@@ -9,10 +9,13 @@ use Rattle.clap.proofs.OnLiterals.{clap_on_literals}
 use Rattle.command_line.specs.Clap.{Takes, app, given, is_true}
 use Rattle.command_line.specs.Commands.{AreLimits, IsCommand, Values, most_seed}
 use Rattle.command_line.specs.Commands.Meaning.{wave, gen, show, show_netlist, prove, check}
+use Rattle.command_line.specs.Kinds.{word_of}
 use Rattle.command_line.specs.Numbers.{IsGiven}
 use Rattle.command_line.specs.Ranges.{AreInRange}
-use Rattle.command_line.specs.Plain.{ArePlain, IsPlain, limits_of_depth, to_check, usual_limits, with_depth, with_options}
+use Rattle.command_line.specs.Plain.{ArePlain, IsPlain, limits_of_depth, to_check, usual_limits, with_depth, with_options, with_unknown}
 use Rattle.command_line.specs.declared.Limits.{Limits}
+use Rattle.command_line.specs.declared.Unknown.{Unknown}
+use Rattle.command_line.specs.declared.Unknown.TheVariants.{Zero, One, Refuse}
 use Rattle.command_line.specs.declared.kinds.Kind.TheVariants.{Wave, Gen, Show, Prove, Check}
 use Rattle.command_line.proofs.Runs.{any_then, behind, behind_any, behind_value, ends, run_given, run_taken, start, value_then, word_then}
 
@@ -48,7 +51,7 @@ usual_steps = refl
 -- ---- the laws
 
 pub plain_wave : (most : ℕ) (unit recording : List ℕ) → IsPlain unit → IsPlain recording
-    → IsCommand most (codes "wave" ∷ unit ∷ recording ∷ []) (wave unit recording)
+    → IsCommand most (codes "wave" ∷ unit ∷ recording ∷ []) (wave unit recording Zero)
 unfolding clap_on_literals app
 plain_wave most a b one two =
     let words = a ∷ b ∷ [] in
@@ -56,7 +59,33 @@ plain_wave most a b one two =
     let end = behind Wave first b in
     let run = word_then Wave start.held 1 end a (b ∷ []) one refl (word_then Wave first.held 2 end b [] two refl (ends Wave end)) in (
       record { named = refl; taken = run_taken Wave words end run refl },
-      (run_given Wave words end (codes "unit") run, run_given Wave words end (codes "recording") run),
+      (run_given Wave words end (codes "unit") run, run_given Wave words end (codes "recording") run, run_given Wave words end (codes "unknown") run),
+    )
+
+-- the words of the option do not begin with a hyphen
+plain_word : (unknown : Unknown) → IsPlain (word_of unknown)
+plain_word Zero hyphen = omega arith
+plain_word One hyphen = omega arith
+plain_word Refuse hyphen = omega arith
+
+pub plain_unknown : (most : ℕ) (unit recording : List ℕ) (unknown : Unknown) → IsPlain unit → IsPlain recording
+    → IsCommand most (with_unknown unit recording unknown) (wave unit recording unknown)
+unfolding clap_on_literals app
+plain_unknown most a b unknown one two =
+    let word = word_of unknown in
+    let on_word = word ∷ [] in
+    let on_option = codes "--unknown" ∷ on_word in
+    let words = a ∷ b ∷ on_option in
+    let first = behind Wave start a in
+    let second = behind Wave first b in
+    let third = behind_any Wave second (codes "--unknown") in
+    let end = behind_value Wave third (codes "unknown") word in
+    let run = word_then Wave start.held 1 end a (b ∷ on_option) one refl
+    (word_then Wave first.held 2 end b on_option two refl
+    (any_then Wave second end (codes "--unknown") on_word refl
+    (value_then Wave third.held 3 end (codes "unknown") word [] (plain_word unknown) (ends Wave end)))) in (
+      record { named = refl; taken = run_taken Wave words end run refl },
+      (run_given Wave words end (codes "unit") run, run_given Wave words end (codes "recording") run, run_given Wave words end (codes "unknown") run),
     )
 
 pub plain_gen : (most seed samples : ℕ) → most < 2 ^ 32 → seed ≤ most_seed → 1 ≤ samples → samples ≤ most
@@ -232,9 +261,9 @@ plain_check most a b d number plain some below =
 
 -- ---- behind `--` all words are read as they stand
 
-pub wave_behind : (most : ℕ) (unit recording : List ℕ) → IsCommand most (codes "wave" ∷ codes "--" ∷ unit ∷ recording ∷ []) (wave unit recording)
+pub wave_behind : (most : ℕ) (unit recording : List ℕ) → IsCommand most (codes "wave" ∷ codes "--" ∷ unit ∷ recording ∷ []) (wave unit recording Zero)
 unfolding clap_on_literals Takes given app
-wave_behind most unit recording = (record { named = refl; taken = refl }, (refl, refl))
+wave_behind most unit recording = (record { named = refl; taken = refl }, (refl, refl, refl))
 
 pub show_behind : (most : ℕ) (unit names : List ℕ) → IsCommand most (codes "show" ∷ codes "--" ∷ unit ∷ names ∷ []) (show unit names)
 unfolding clap_on_literals Takes given app

@@ -1,11 +1,12 @@
 -- The commands, and what the words after the program's name say.
 use Rattle.std.specs.Prelude.{◌≡◌, ◌≢◌, ℕ, true, false, List, Option, Some, codes, option_map, slice_get}
 use Rattle.command_line.specs.Clap.{Takes, given, is_true}
-use Rattle.command_line.specs.Kinds.{app_of, name_of}
+use Rattle.command_line.specs.Kinds.{app_of, name_of, word_of}
 use Rattle.command_line.specs.Numbers.{IsGiven}
 use Rattle.command_line.specs.declared.Command.{Command}
 use Rattle.command_line.specs.declared.Command.TheVariants.{Wave, Gen, Show, ShowNetlist, Prove, Check}
 use Rattle.command_line.specs.declared.Limits.{Limits}
+use Rattle.command_line.specs.declared.Unknown.{Unknown}
 use Rattle.command_line.specs.declared.commands.TheConstants.{MOST_SEED, MOST_DEPTH, MOST_VISITS, MOST_STEPS}
 use Rattle.command_line.specs.declared.commands.TheConstants.{MOST_NUMBER}
 use Rattle.command_line.specs.declared.kinds.Kind.{Kind}
@@ -13,7 +14,7 @@ use Rattle.command_line.specs.declared.kinds.Kind.TheVariants as kind
 
 -- which command, with which values
 pub data Meaning : Type 0 where
-  wave : List ℕ → List ℕ → Meaning
+  wave : List ℕ → List ℕ → Unknown → Meaning
   gen : ℕ → ℕ → Meaning
   show : List ℕ → List ℕ → Meaning
   show_netlist : List ℕ → List ℕ → Meaning
@@ -21,7 +22,7 @@ pub data Meaning : Type 0 where
   check : List ℕ → List ℕ → ℕ → List ℕ → Meaning
 
 abbrev pub kind_of : Meaning → Kind
-kind_of (wave unit recording) = kind.Wave
+kind_of (wave unit recording unknown) = kind.Wave
 kind_of (gen seed samples) = kind.Gen
 kind_of (show unit names) = kind.Show
 kind_of (show_netlist unit netlist) = kind.Show
@@ -36,19 +37,24 @@ most_seed = MOST_SEED
 abbrev pub Values : Type 0
 Values = List ℕ → Option (List ℕ)
 
+-- the option of `wave` says that unknown bits read so
+abbrev pub IsUnknown : Option (List ℕ) → Unknown → Type 0
+IsUnknown value unknown = value ≡ Some (word_of unknown)
+
 -- The options of `prove` say these limits: a depth from 1 to 1,000, at most 16 visits, and from 1 to 10,000,000 steps.
 pub record AreLimits (values : Values) (limits : Limits) : Type 0 where
   pub depth : IsGiven 1 MOST_DEPTH (values (codes "depth")) limits.depth
   pub visits : IsGiven 0 MOST_VISITS (values (codes "visits")) limits.visits
   pub steps : IsGiven 1 MOST_STEPS (values (codes "steps")) limits.steps
 
--- What values say: `wave UNIT RECORDING`, `gen SEED SAMPLES`, `show UNIT NAMES`, `show UNIT NAMES --netlist`,
+-- What values say: `wave UNIT RECORDING` with how unknown bits read, `gen SEED SAMPLES`, `show UNIT NAMES`, `show UNIT NAMES --netlist`,
 -- `prove UNIT NETLIST` with its limits and maybe a prefix, or `check UNIT NETLIST NUMBER CERTIFICATE`. A seed is at
 -- most 2^31 - 1, of samples there is one at least and at most the limit, and the number of an assertion is from 1 to
 -- 2^32 - 1.
 abbrev pub Says : ℕ → Values → Meaning → Type 0
-Says most values (wave unit recording) =
+Says most values (wave unit recording unknown) =
     (values (codes "unit") ≡ Some unit) × (values (codes "recording") ≡ Some recording)
+    × IsUnknown (values (codes "unknown")) unknown
 Says most values (gen seed samples) =
     IsGiven 0 most_seed (values (codes "seed")) seed × IsGiven 1 most (values (codes "samples")) samples
 Says most values (show unit names) =
@@ -82,9 +88,9 @@ IsCommand most words meaning =
 abbrev pub IsNoCommand : ℕ → List (List ℕ) → Type 0
 IsNoCommand most words = (meaning : Meaning) → IsCommand most words meaning → ⊥
 
--- the values of such a command are to be numbers, and one of them is none in its range
+-- a value of such a command is to be a number, and is none in its range, or one of some words, and is none of them
 abbrev pub AreUnnumbered : ℕ → Values → Kind → Type 0
-AreUnnumbered most values kind.Wave = ⊥
+AreUnnumbered most values kind.Wave = (unknown : Unknown) → IsUnknown (values (codes "unknown")) unknown → ⊥
 AreUnnumbered most values kind.Gen = (seed samples : ℕ)
     → IsGiven 0 most_seed (values (codes "seed")) seed → IsGiven 1 most (values (codes "samples")) samples → ⊥
 AreUnnumbered most values kind.Show = ⊥
@@ -92,7 +98,7 @@ AreUnnumbered most values kind.Prove = (limits : Limits) → AreLimits values li
 AreUnnumbered most values kind.Check = (number : ℕ) → IsGiven 1 MOST_NUMBER (values (codes "number")) number → ⊥
 
 -- Why words are refused: the first is no command's name, `clap` does not take those after it, or one of them is no
--- number in its range.
+-- number in its range or none of the words that may stand there.
 pub data IsRefused (most : ℕ) (words : List (List ℕ)) : Type 0 where
   unnamed : ((kind : Kind) → slice_get words 0 ≢ Some (name_of kind)) → IsRefused most words
   untaken : (kind : Kind) → slice_get words 0 ≡ Some (name_of kind) → (Takes (app_of kind) words → ⊥)
@@ -102,7 +108,7 @@ pub data IsRefused (most : ℕ) (words : List (List ℕ)) : Type 0 where
 
 -- what a command that was read means
 abbrev pub meaning_of : Command → Meaning
-meaning_of (Wave unit recording) = wave unit.now recording.now
+meaning_of (Wave unit recording unknown) = wave unit.now recording.now unknown
 meaning_of (Gen seed samples) = gen seed samples
 meaning_of (Show unit names) = show unit.now names.now
 meaning_of (ShowNetlist unit netlist) = show_netlist unit.now netlist.now

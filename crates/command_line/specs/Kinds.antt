@@ -3,6 +3,8 @@ use Rattle.std.specs.Prelude.{ℕ, List, [], ◌∷◌, codes}
 use Rattle.clap.specs.Walk.{Rule}
 use Rattle.clap.specs.Simple.{App}
 use Rattle.command_line.specs.Clap.{app, flag, option, optional, required}
+use Rattle.command_line.specs.declared.Unknown.{Unknown}
+use Rattle.command_line.specs.declared.Unknown.TheVariants.{Zero, One, Refuse}
 use Rattle.command_line.specs.declared.kinds.Kind.{Kind}
 use Rattle.command_line.specs.declared.kinds.Kind.TheVariants.{Wave, Gen, Show, Prove, Check}
 
@@ -14,9 +16,15 @@ name_of Show = codes "show"
 name_of Prove = codes "prove"
 name_of Check = codes "check"
 
+-- the word of the option that says how unknown bits read
+abbrev pub word_of : Unknown → List ℕ
+word_of Zero = codes "zero"
+word_of One = codes "one"
+word_of Refuse = codes "refuse"
+
 -- the words, flags and options that follow it
 abbrev pub rules_of : Kind → List Rule
-rules_of Wave = required (codes "unit") ∷ required (codes "recording") ∷ []
+rules_of Wave = required (codes "unit") ∷ required (codes "recording") ∷ option (codes "unknown") (codes "zero") ∷ []
 rules_of Gen = required (codes "seed") ∷ required (codes "samples") ∷ []
 rules_of Show = required (codes "unit") ∷ required (codes "names") ∷ flag (codes "netlist") ∷ []
 rules_of Prove = required (codes "unit") ∷ required (codes "netlist") ∷ option (codes "depth") (codes "20")

@@ -1,6 +1,8 @@
 -- Words that `clap` reads as they stand.
 use Rattle.std.specs.Prelude.{◌≢◌, ℕ, List, [], ◌∷◌, codes, decimal, slice_index}
+use Rattle.command_line.specs.Kinds.{word_of}
 use Rattle.command_line.specs.declared.Limits.{Limits}
+use Rattle.command_line.specs.declared.Unknown.{Unknown}
 
 -- the word does not begin with a hyphen
 abbrev pub IsPlain : List ℕ → Type 0
@@ -8,6 +10,10 @@ IsPlain word = slice_index word 0 ≢ 45
 
 abbrev pub ArePlain : List ℕ → List ℕ → List ℕ → Type 0
 ArePlain a b c = IsPlain a × IsPlain b × IsPlain c
+
+-- `wave UNIT RECORDING --unknown WORD`
+abbrev pub with_unknown : List ℕ → List ℕ → Unknown → List (List ℕ)
+with_unknown unit recording unknown = codes "wave" ∷ unit ∷ recording ∷ codes "--unknown" ∷ word_of unknown ∷ []
 
 -- the limits where no option is given
 abbrev pub usual_limits : Limits

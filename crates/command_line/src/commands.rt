@@ -1,16 +1,16 @@
 //! Each command, from the values of its words. A command that takes other words has a function here, and
 //! its rows in `kinds`.
 
-ghost use Rattle.std.specs.Prelude.{◌≡◌, ◌≤◌, ℕ, IfOk, IfErr, IfSome, IsNone};
+ghost use Rattle.std.specs.Prelude.{◌≡◌, ◌≤◌, ℕ, codes, IfOk, IfErr, IfSome, IsNone};
 ghost use Rattle.clap.specs.Words.{first_value, found_of};
 ghost use Rattle.command_line.specs.Chains.{HasRequired};
-ghost use Rattle.command_line.specs.Commands.{AreLimits, AreUnnumbered, IsRead};
+ghost use Rattle.command_line.specs.Commands.{AreLimits, AreUnnumbered, IsRead, IsUnknown};
 ghost use Rattle.command_line.specs.Kinds.{rules_of};
 
-use crate::kinds::Kind;
+use crate::kinds::{Kind, unknown_named};
 use crate::number::number_of;
 use crate::parsing::{is_set, word};
-use crate::{Command, Limits, WordsFault};
+use crate::{Command, Limits, Unknown, WordsFault};
 use clap::ArgMatches;
 
 /// The largest seed.
@@ -39,7 +39,7 @@ pub fn read_values<'a>(
     ensures usage { IfErr result (λ _. AreUnnumbered most_samples (first_value (found_of matches.now)) kind) }
 {
     match kind {
-        Kind::Wave => Ok(wave(matches)),
+        Kind::Wave => wave(matches),
         Kind::Gen => gen_of(matches, most_samples),
         Kind::Show => Ok(show(matches)),
         Kind::Prove => prove(matches),
@@ -47,15 +47,20 @@ pub fn read_values<'a>(
     }
 }
 
-/// `wave UNIT RECORDING`
-fn wave<'a>(matches: &ArgMatches<'a>) -> Command<'a>
+/// `wave UNIT RECORDING` with its option
+fn wave<'a>(matches: &ArgMatches<'a>) -> Result<Command<'a>, WordsFault>
     requires { HasRequired (rules_of Kind.Wave) (first_value (found_of matches.now)) }
-    ensures { (most : ℕ) → IsRead most (first_value (found_of matches.now)) Kind.Wave result }
+    ensures command { IfOk result (λ command. (most : ℕ) → IsRead most (first_value (found_of matches.now)) Kind.Wave command) }
+    ensures usage { IfErr result (λ _. (most : ℕ) → AreUnnumbered most (first_value (found_of matches.now)) Kind.Wave) }
 {
-    Command::Wave {
+    let Some(unknown) = unknown_of(matches) else {
+        return Err(WordsFault::Usage);
+    };
+    Ok(Command::Wave {
         unit: word(matches, "unit"),
         recording: word(matches, "recording"),
-    }
+        unknown,
+    })
 }
 
 /// `gen SEED SAMPLES`
@@ -119,6 +124,14 @@ fn check<'a>(matches: &ArgMatches<'a>) -> Result<Command<'a>, WordsFault>
         number,
         certificate: word(matches, "certificate"),
     })
+}
+
+/// How unknown bits are to be read, as the option of `wave` says.
+fn unknown_of(matches: &ArgMatches) -> Option<Unknown>
+    ensures some { IfSome result (IsUnknown (first_value (found_of matches.now) (codes "unknown"))) }
+    ensures none { IsNone result → (unknown : Unknown) → IsUnknown (first_value (found_of matches.now) (codes "unknown")) unknown → ⊥ }
+{
+    unknown_named(matches.get_str("unknown")?)
 }
 
 /// The limits that the options of `prove` say.

@@ -3,8 +3,9 @@
 ghost use Rattle.std.specs.Prelude.{◌≡◌, ◌≢◌, map, IfOk, IfSome, IsNone};
 ghost use Rattle.clap.specs.Words.{rule_of};
 ghost use Rattle.command_line.specs.Clap as spec;
-ghost use Rattle.command_line.specs.Kinds.{name_of, rules_of};
+ghost use Rattle.command_line.specs.Kinds.{name_of, rules_of, word_of};
 
+use crate::Unknown;
 use clap::{Arg, ArgAction};
 use std::alloc::{AllocError, Global};
 
@@ -33,12 +34,29 @@ pub fn kind_named(name: &str) -> Option<Kind>
     }
 }
 
+/// How unknown bits read by this word.
+pub fn unknown_named(word: &str) -> Option<Unknown>
+    ensures some { IfSome result (λ unknown. word.now ≡ word_of unknown) }
+    ensures none { IsNone result → (unknown : Unknown) → word.now ≢ word_of unknown }
+{
+    match word {
+        "zero" => Some(Unknown::Zero),
+        "one" => Some(Unknown::One),
+        "refuse" => Some(Unknown::Refuse),
+        _ => None,
+    }
+}
+
 /// The words, flags and options that follow a command's name.
 pub fn args_of<'a>(alloc: Global, kind: Kind) -> Result<Vec<Arg<'a>>, AllocError>
     ensures { IfOk result (λ args. map rule_of args.items ≡ rules_of kind) }
 {
     let args = match kind {
-        Kind::Wave => vec![in alloc; required(alloc, "unit"), required(alloc, "recording")]?,
+        Kind::Wave => vec![in alloc;
+            required(alloc, "unit"),
+            required(alloc, "recording"),
+            option(alloc, "unknown", "zero"),
+        ]?,
         Kind::Gen => vec![in alloc; required(alloc, "seed"), required(alloc, "samples")]?,
         Kind::Show => vec![in alloc;
             required(alloc, "unit"),

@@ -6,7 +6,7 @@ ghost use Rattle.std.specs.Prelude.{◌≡◌, ◌∷◌, ◌<◌, ◌≤◌, �
 ghost use Rattle.command_line.specs.Commands.{IsCommand, IsNoCommand, IsRefused, Meaning, meaning_of, most_seed};
 ghost use Rattle.command_line.specs.Commands.Meaning.{wave as a_wave, gen as a_gen, show as a_show, show_netlist as a_netlist, prove as a_proof, check as a_check};
 ghost use Rattle.command_line.specs.Ranges.{AreInRange, IsInRange};
-ghost use Rattle.command_line.specs.Plain.{ArePlain, IsPlain, limits_of_depth, to_check, usual_limits, with_depth, with_options};
+ghost use Rattle.command_line.specs.Plain.{ArePlain, IsPlain, limits_of_depth, to_check, usual_limits, with_depth, with_options, with_unknown};
 
 mod commands;
 mod kinds;
@@ -26,6 +26,7 @@ pub enum Command<'a> {
     Wave {
         unit: &'a str,
         recording: &'a str,
+        unknown: Unknown,
     },
 
     /// Makes a recording of so many samples from a seed below 2^31, and judges it.
@@ -62,6 +63,19 @@ pub enum Command<'a> {
         number: u32,
         certificate: &'a str,
     },
+}
+
+/// How a bit of a recording reads that is neither 0 nor 1.
+#[derive(Clone, Copy, Debug, PartialEq, Eq)]
+pub enum Unknown {
+    /// As 0: `zero`, which is so where nothing else is said.
+    Zero,
+
+    /// As 1: `one`.
+    One,
+
+    /// As 0, but where an assertion asks for it, it is a fault of the recording: `refuse`.
+    Refuse,
 }
 
 /// How far the search for proofs and violations goes.
@@ -103,7 +117,8 @@ impl From<AllocError> for WordsFault {
 ///
 /// # Errors
 /// `Usage` where the words are no command: the first is none of `wave`, `gen`, `show`, `prove` and `check`,
-/// `clap` refuses those after it, or a number is not in its decimal form or not in its range.
+/// `clap` refuses those after it, a number is not in its decimal form or not in its range, or the word for unknown bits is
+/// none of `zero`, `one` and `refuse`.
 pub fn read_words<'a>(
     alloc: Global,
     words: &'a [String],
@@ -139,14 +154,15 @@ pub fn one_command()
 /// Laws of the definitions, which run nothing. Words that do not begin with a hyphen are read as they stand,
 /// as all are behind `--`, and a number in its range is read from its decimal form.
 pub fn plain_words()
-    ensures wave { (most : ℕ) (unit recording : List ℕ) → IsPlain unit → IsPlain recording → IsCommand most (codes "wave" ∷ unit ∷ recording ∷ []) (a_wave unit recording) }
+    ensures wave { (most : ℕ) (unit recording : List ℕ) → IsPlain unit → IsPlain recording → IsCommand most (codes "wave" ∷ unit ∷ recording ∷ []) (a_wave unit recording Unknown.Zero) }
+    ensures unknown { (most : ℕ) (unit recording : List ℕ) (unknown : Unknown) → IsPlain unit → IsPlain recording → IsCommand most (with_unknown unit recording unknown) (a_wave unit recording unknown) }
     ensures show { (most : ℕ) (unit names : List ℕ) → IsPlain unit → IsPlain names → IsCommand most (codes "show" ∷ unit ∷ names ∷ []) (a_show unit names) }
     ensures netlist { (most : ℕ) (unit netlist : List ℕ) → IsPlain unit → IsPlain netlist → IsCommand most (codes "show" ∷ unit ∷ netlist ∷ codes "--netlist" ∷ []) (a_netlist unit netlist) }
     ensures prove { (most : ℕ) (unit netlist : List ℕ) → IsPlain unit → IsPlain netlist → IsCommand most (codes "prove" ∷ unit ∷ netlist ∷ []) (a_proof unit netlist usual_limits None) }
     ensures depth { (most : ℕ) (unit netlist : List ℕ) (depth : ℕ) → IsPlain unit → IsPlain netlist → 1 ≤ depth → depth ≤ 1000 → IsCommand most (with_depth unit netlist depth) (a_proof unit netlist (limits_of_depth depth) None) }
     ensures options { (most : ℕ) (unit netlist cert : List ℕ) (limits : Limits) → ArePlain unit netlist cert → AreInRange limits → IsCommand most (with_options unit netlist limits cert) (a_proof unit netlist limits (Some cert)) }
     ensures check { (most : ℕ) (unit netlist proof : List ℕ) (number : ℕ) → ArePlain unit netlist proof → 1 ≤ number → number < 2 ^ 32 → IsCommand most (to_check unit netlist number proof) (a_check unit netlist number proof) }
-    ensures wave_behind { (most : ℕ) (unit recording : List ℕ) → IsCommand most (codes "wave" ∷ codes "--" ∷ unit ∷ recording ∷ []) (a_wave unit recording) }
+    ensures wave_behind { (most : ℕ) (unit recording : List ℕ) → IsCommand most (codes "wave" ∷ codes "--" ∷ unit ∷ recording ∷ []) (a_wave unit recording Unknown.Zero) }
     ensures show_behind { (most : ℕ) (unit names : List ℕ) → IsCommand most (codes "show" ∷ codes "--" ∷ unit ∷ names ∷ []) (a_show unit names) }
     ensures generate { (most seed samples : ℕ) → most < 2 ^ 32 → seed ≤ most_seed → 1 ≤ samples → samples ≤ most → IsCommand most (codes "gen" ∷ decimal seed ∷ decimal samples ∷ []) (a_gen seed samples) }
 {}

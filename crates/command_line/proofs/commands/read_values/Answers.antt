@@ -2,7 +2,12 @@ use Rattle.std.proofs.lemmas.Result.{IfErr-weaker, IfOk-weaker}
 use Rattle.command_line.proofs.commands.read_values.Goals as goal
 
 pub returns-in-Wave-clause-command : goal.returns-in-Wave-clause-command
-returns-in-Wave-clause-command c = rw c.in-Wave.is (c.wave.ensures c.args.most_samples)
+returns-in-Wave-clause-command c =
+    rw c.in-Wave.is (IfOk-weaker c.wave.result _ _ (λ command is. is c.args.most_samples) c.wave.ensures.command)
+
+pub returns-in-Wave-clause-usage : goal.returns-in-Wave-clause-usage
+returns-in-Wave-clause-usage c =
+    rw c.in-Wave.is (IfErr-weaker c.wave.result _ _ (λ fault is. is c.args.most_samples) c.wave.ensures.usage)
 
 pub returns-in-Show-clause-command : goal.returns-in-Show-clause-command
 returns-in-Show-clause-command c = rw c.in-Show.is (c.show.ensures c.args.most_samples)
