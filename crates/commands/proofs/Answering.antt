@@ -3,6 +3,7 @@ use Rattle.std.proofs.Common.{◌≡◌, refl, sym, ◌∙◌, ap, subst, ℕ, L
 use Rattle.std.specs.Prelude.{◌≢◌, ◌⊎◌, Result, Ok, Err, IfOk, IfErr}
 use Rattle.command_line.specs.Commands.{Meaning}
 use Rattle.command_line.specs.Commands.Meaning.{wave, show, show_netlist, gen, prove, check}
+use Rattle.command_line.specs.declared.Unknown.{Unknown}
 use Rattle.command_line.specs.declared.Limits.{Limits}
 use Rattle.psl_base.specs.Shelf.{Contents, ShelfState}
 use Rattle.commands.proofs.Staging.{cause-moved, same_state, none-unread}
@@ -16,7 +17,7 @@ use Rattle.commands.specs.Planning.{IsAnswer}
 use Rattle.commands.specs.Provings.{ProveStage}
 use Rattle.commands.specs.Rows.{OfWords, OfReading, OfWriting, OfMemory, cause_of}
 use Rattle.commands.specs.Stages.{Then, OfTold, Gives, IsOfFiles, IsOfFilesOrMemory, IsStage, SpeaksOfFile}
-use Rattle.commands.specs.Waves.{WaveStage, ShowStage, ShowNetlistStage}
+use Rattle.commands.specs.Waves.{WaveStage, ShowStage, ShowNetlistStage, unknown_of}
 use Rattle.commands.specs.declared.finish.Planned.{Planned}
 use Rattle.commands.specs.declared.outcome.Fault.{Fault}
 use Rattle.commands.specs.declared.outcome.Line.{Line}
@@ -152,15 +153,15 @@ words-answer words old fault e none = record {
 
 -- the commands
 
-pub wave-answers : (words : List (List ℕ)) (unit recording : List ℕ) (old new : ShelfState) (verdicts : List Verdict) → IsCommand words (wave unit recording)
-    → IsStage (unit ∷ recording ∷ []) (WaveStage unit recording) old new (Ok verdicts) → IsAnswer itself words old new (Ok (Wave verdicts))
-wave-answers words unit recording old new verdicts is s =
-    stage-answers words (wave unit recording) is old new (WaveStage unit recording) Wave (λ files result h. h) verdicts (verdicts, refl) (λ e. cc) s
+pub wave-answers : (words : List (List ℕ)) (unit recording : List ℕ) (unknown : Unknown) (old new : ShelfState) (verdicts : List Verdict) → IsCommand words (wave unit recording unknown)
+    → IsStage (unit ∷ recording ∷ []) (WaveStage unit recording (unknown_of unknown)) old new (Ok verdicts) → IsAnswer itself words old new (Ok (Wave verdicts))
+wave-answers words unit recording unknown old new verdicts is s =
+    stage-answers words (wave unit recording unknown) is old new (WaveStage unit recording (unknown_of unknown)) Wave (λ files result h. h) verdicts (verdicts, refl) (λ e. cc) s
 
-pub wave-refuses : (words : List (List ℕ)) (unit recording : List ℕ) (old new : ShelfState) (fault : Fault) → IsCommand words (wave unit recording)
-    → IsStage (unit ∷ recording ∷ []) (WaveStage unit recording) old new (Err fault) → IsAnswer itself words old new (Err fault)
-wave-refuses words unit recording old new fault is s =
-    stage-refuses words (wave unit recording) is old new (WaveStage unit recording) Wave (λ files result h. h) fault s
+pub wave-refuses : (words : List (List ℕ)) (unit recording : List ℕ) (unknown : Unknown) (old new : ShelfState) (fault : Fault) → IsCommand words (wave unit recording unknown)
+    → IsStage (unit ∷ recording ∷ []) (WaveStage unit recording (unknown_of unknown)) old new (Err fault) → IsAnswer itself words old new (Err fault)
+wave-refuses words unit recording unknown old new fault is s =
+    stage-refuses words (wave unit recording unknown) is old new (WaveStage unit recording (unknown_of unknown)) Wave (λ files result h. h) fault s
 
 pub show-answers : (words : List (List ℕ)) (unit names : List ℕ) (old new : ShelfState) (lines : List Line) → IsCommand words (show unit names)
     → IsStage (unit ∷ names ∷ []) (ShowStage unit names) old new (Ok lines) → IsAnswer itself words old new (Ok (Shown lines))

@@ -38,6 +38,10 @@ counted-later : (old mid new : ShelfState) (fault : Fault) → mid.read_faults �
 counted-later old mid new fault quiet (inl still) = inl (still ∙ quiet)
 counted-later old mid new fault quiet (inr told) = inr told
 
+pub fails-of-more : (names more : List (List ℕ)) (Refusal : Fault → Type 0) (fault : Fault) → TextFails names Refusal fault → TextFails (names ++ more) Refusal fault
+fails-of-more names more Refusal fault (inl e) = inl e
+fails-of-more names more Refusal fault (inr t) = inr record { cause = t.cause; file = of-more names more fault t.file; refusal = t.refusal }
+
 -- a stage behind a stage
 
 module _ {A B : Type 0} (names more : List (List ℕ)) (First : Contents → Result A Fault → Type 0) (Next : A → Contents → Result B Fault → Type 0) where
@@ -129,11 +133,7 @@ module _ {A B C : Type 0} (one two : List ℕ) (First : Contents → Result A Fa
 pub reading-of-more : {B : Type 0} (names more : List (List ℕ)) (Reading : Result B Fault → Type 0) (result : Result B Fault)
     → IsReading names Reading result → IsReading (names ++ more) Reading result
 reading-of-more names more Reading (Ok b) r = record { gives = r.gives; refuses = tt }
-reading-of-more names more Reading (Err fault) r = record { gives = tt; refuses = by r.refuses }
-  where
-    by : TextFails names (λ f. Reading (Err f)) fault → TextFails (names ++ more) (λ f. Reading (Err f)) fault
-    by (inl e) = inl e
-    by (inr t) = inr record { cause = t.cause; file = of-more names more fault t.file; refusal = t.refusal }
+reading-of-more names more Reading (Err fault) r = record { gives = tt; refuses = fails-of-more names more (λ f. Reading (Err f)) fault r.refuses }
 
 -- a reading behind a stage, of its files
 

@@ -17,5 +17,6 @@ pub mod SameUnits
 pub mod Saving
 pub mod Sources
 pub mod Staging
+pub mod Unknowns
 pub mod Valuations
 pub mod Written

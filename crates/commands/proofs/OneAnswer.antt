@@ -39,6 +39,7 @@ use Rattle.commands.proofs.Alike.{Agree, alike-err, alike-ok, agree-faults, agre
 use Rattle.commands.proofs.SameChecks.{one-checked-of}
 use Rattle.commands.proofs.SameOwed.{are-within, same-first-refused}
 use Rattle.commands.proofs.SameUnits.{SameUnit, all-judgeable, same-first, same-said}
+use Rattle.commands.proofs.Unknowns.{one-known}
 use Rattle.commands.specs.Diagnostics.{lex_diagnostic, parse_diagnostic, layer_diagnostic, judge_diagnostic, vcd_diagnostic, blif_diagnostic}
 use Rattle.certificate.specs.declared.answer.CertAnswer.{CertAnswer}
 use Rattle.commands.specs.Checks.{CertReading, CertStage, CheckStage}
@@ -49,7 +50,7 @@ use Rattle.commands.specs.Provings.{FoundReading, ProveStage, size_fault}
 use Rattle.commands.specs.Stages.{AndThen, OfFile, Then}
 use Rattle.commands.specs.Waves.{TokensReading, TreeReading, UnitReading, UnitStage, TextAnd, DirectivesReading}
 use Rattle.commands.specs.Waves.{RecordingReading, InputsStage, with_recording, NetlistReading, CircuitStage, with_netlist}
-use Rattle.commands.specs.Waves.{AreJudged, JudgeReading, VerdictsReading, WaveStage}
+use Rattle.commands.specs.Waves.{AreJudged, JudgeReading, KnownReading, VerdictsReading, WaveStage, unknown_of}
 use Rattle.commands.specs.Waves.{LinesReading, ShowStage, ShowNetlistStage, line_of}
 use Rattle.commands.specs.Waves.{SubjectReading, SubjectStage, subject_of}
 use Rattle.commands.specs.declared.inputs.Circuit.{Circuit}
@@ -62,6 +63,7 @@ use Rattle.commands.specs.declared.prove.Found.{Found}
 use Rattle.commands.specs.declared.reason.Reason.{Reason}
 use Rattle.commands.specs.declared.reason.Reason.TheVariants.{Usage, NoMemory}
 use Rattle.commands.specs.declared.subject.Subject.{Subject}
+use Rattle.vcd_reader.specs.declared.unknown.Unknown.{Unknown}
 use Rattle.vcd_reader.specs.declared.unknown.Unknown.TheVariants.{Zero}
 use Rattle.vcd_reader.specs.Meaning.{reading}
 use Rattle.vcd_reader.specs.Rules.{sample_limit}
@@ -121,13 +123,13 @@ err-err c d x e f = cc
 ok-no-err : (r : Sampled) (d : VcdFault) (x : Result Sampled VcdFault) → x ≡ Ok r → x ≡ Err d → ⊥
 ok-no-err r d x e f = cc
 
-one-recording : (name bytes : List ℕ) → Agree (λ (r s : Sampled). r ≡ s) (RecordingReading name bytes) (RecordingReading name bytes)
-one-recording name bytes =
-    agree-told name vcd_diagnostic vcd_diagnostic (λ sampled. reading Zero bytes ≡ Ok sampled) (λ sampled. reading Zero bytes ≡ Ok sampled)
-    (λ fault. reading Zero bytes ≡ Err fault) (λ fault. reading Zero bytes ≡ Err fault) (λ (r s : Sampled). r ≡ s)
-    (λ r s h k. ok-ok r s (reading Zero bytes) h k)
-    (λ c d _ _ h k. ap vcd_diagnostic (err-err c d (reading Zero bytes) h k))
-    (λ r d _ h k. ok-no-err r d (reading Zero bytes) h k) (λ c r _ h k. ok-no-err r c (reading Zero bytes) k h)
+one-recording : (unknown : Unknown) (name bytes : List ℕ) → Agree (λ (r s : Sampled). r ≡ s) (RecordingReading unknown name bytes) (RecordingReading unknown name bytes)
+one-recording unknown name bytes =
+    agree-told name vcd_diagnostic vcd_diagnostic (λ sampled. reading unknown bytes ≡ Ok sampled) (λ sampled. reading unknown bytes ≡ Ok sampled)
+    (λ fault. reading unknown bytes ≡ Err fault) (λ fault. reading unknown bytes ≡ Err fault) (λ (r s : Sampled). r ≡ s)
+    (λ r s h k. ok-ok r s (reading unknown bytes) h k)
+    (λ c d _ _ h k. ap vcd_diagnostic (err-err c d (reading unknown bytes) h k))
+    (λ r d _ h k. ok-no-err r d (reading unknown bytes) h k) (λ c r _ h k. ok-no-err r c (reading unknown bytes) k h)
 
 -- netlists
 
@@ -169,9 +171,9 @@ pub record SameInputs (i j : Inputs) : Type 0 where
   pub trees : tree_node i.tree ≡ tree_node j.tree
   pub recordings : i.recording ≡ j.recording
 
-one-inputs : (unit recording : List ℕ) (files : Contents) → Agree SameInputs (InputsStage unit recording files) (InputsStage unit recording files)
-one-inputs unit recording files =
-    one-both unit recording (RecordingReading recording) with_recording files SameInputs (λ t u r s e same. record { trees = e; recordings = same }) (one-recording recording)
+one-inputs : (unknown : Unknown) (unit recording : List ℕ) (files : Contents) → Agree SameInputs (InputsStage unknown unit recording files) (InputsStage unknown unit recording files)
+one-inputs unknown unit recording files =
+    one-both unit recording (RecordingReading unknown recording) with_recording files SameInputs (λ t u r s e same. record { trees = e; recordings = same }) (one-recording unknown recording)
 
 pub record SameCircuit (i j : Circuit) : Type 0 where
   pub trees : tree_node i.tree ≡ tree_node j.tree
@@ -248,12 +250,15 @@ one-judged name r u v s =
     (λ w d n h k. judged_or_not v d (all-judgeable u v s h.judgeable) (first-fault v d n k))
     (λ c w n h k. judged_or_not v c k.judgeable (same-first u v c s (first-fault u c n h)))
 
-one-verdicts : (name : List ℕ) (i j : Inputs) → SameInputs i j → Agree (Any-two {A = List Verdict}) (VerdictsReading name i) (VerdictsReading name j)
-one-verdicts name i j same =
-    subst (λ (r : Sampled). Agree (Any-two {A = List Verdict}) (VerdictsReading name i) (AndThen (DirectivesReading name j.tree r.names) (JudgeReading name r))) same.recordings
-    (agree-then SameUnit (Any-two {A = List Verdict}) (DirectivesReading name i.tree i.recording.names) (DirectivesReading name j.tree i.recording.names)
-    (JudgeReading name i.recording) (JudgeReading name i.recording)
-    (one-directives name i.recording.names i.tree j.tree same.trees) (one-judged name i.recording))
+one-verdicts : (unknown : Unknown) (unit name : List ℕ) (i j : Inputs) → SameInputs i j
+    → Agree (Any-two {A = List Verdict}) (VerdictsReading unknown unit name i) (VerdictsReading unknown unit name j)
+one-verdicts unknown unit name i j same =
+    subst (λ (r : Sampled). Agree (Any-two {A = List Verdict}) (VerdictsReading unknown unit name i) (AndThen (DirectivesReading unit j.tree r.names) (KnownReading unknown unit name r)))
+    same.recordings
+    (agree-then SameUnit (Any-two {A = List Verdict}) (DirectivesReading unit i.tree i.recording.names) (DirectivesReading unit j.tree i.recording.names)
+    (KnownReading unknown unit name i.recording) (KnownReading unknown unit name i.recording)
+    (one-directives unit i.recording.names i.tree j.tree same.trees)
+    (λ u v s. one-known unknown unit name i.recording u v (Any-two {A = List Verdict}) s (one-judged unit i.recording u v s)))
 
 one-lines : (name : List ℕ) (t u : UnitTree) (names names' : List Name) → SameTree t u → names ≡ names'
     → Agree (Any-two {A = List Line}) (LinesReading name t names) (LinesReading name u names')
@@ -333,12 +338,13 @@ one-made : (seed samples : ℕ) → Agree (Any-two {A = Outcome}) (GeneratedStag
 one-made seed samples a b (v, _, e) (w, _, f) = alike-ok (Any-two {A = Outcome}) _ _ a b e f tt
 
 one-meaning : (meaning : Meaning) (files : Contents) → Agree (Any-two {A = Outcome}) (MeaningStage meaning files) (MeaningStage meaning files)
-one-meaning (wave unit recording) files =
-    one-outcome (Any-two {A = List Verdict}) (WaveStage unit recording) Wave files
-    (one-loaded SameInputs (InputsStage unit recording) (VerdictsReading unit) files (one-inputs unit recording files) (one-verdicts unit))
+one-meaning (wave unit recording unknown) files =
+    let bits = unknown_of unknown in
+    one-outcome (Any-two {A = List Verdict}) (WaveStage unit recording bits) Wave files
+    (one-loaded SameInputs (InputsStage bits unit recording) (VerdictsReading bits unit recording) files (one-inputs bits unit recording files) (one-verdicts bits unit recording))
 one-meaning (show unit names) files =
     one-outcome (Any-two {A = List Line}) (ShowStage unit names) Shown files
-    (one-loaded SameInputs (InputsStage unit names) (λ inputs. LinesReading unit inputs.tree inputs.recording.names) files (one-inputs unit names files)
+    (one-loaded SameInputs (InputsStage Zero unit names) (λ inputs. LinesReading unit inputs.tree inputs.recording.names) files (one-inputs Zero unit names files)
     (λ i j same. one-lines unit i.tree j.tree i.recording.names j.recording.names same.trees (ap (λ (r : Sampled). r.names) same.recordings)))
 one-meaning (show_netlist unit netlist) files =
     one-outcome (Any-two {A = List Line}) (ShowNetlistStage unit netlist) Shown files

@@ -12,7 +12,7 @@ use Rattle.commands.specs.Faults.{of_none, fault_of}
 use Rattle.commands.specs.Generated.{GeneratedStage}
 use Rattle.commands.specs.Provings.{ProveStage}
 use Rattle.commands.specs.Stages.{Then, IsOfFiles}
-use Rattle.commands.specs.Waves.{WaveStage, ShowStage, ShowNetlistStage}
+use Rattle.commands.specs.Waves.{WaveStage, ShowStage, ShowNetlistStage, unknown_of}
 use Rattle.commands.specs.declared.outcome.Fault.{Fault}
 use Rattle.commands.specs.declared.outcome.Line.{Line}
 use Rattle.commands.specs.declared.outcome.Outcome.{Outcome}
@@ -22,7 +22,7 @@ use Rattle.commands.specs.declared.reason.Reason.TheVariants.{Usage, WriteFault,
 use Rattle.vcd_reader.specs.Rules.{sample_limit}
 use Rattle.wave_judge.specs.declared.verdict.Verdict.{Verdict}
 
--- The words are this command: `wave UNIT RECORDING`, `show UNIT NAMES`, `show UNIT NETLIST --netlist`,
+-- The words are this command: `wave UNIT RECORDING` with how unknown bits read, `show UNIT NAMES`, `show UNIT NETLIST --netlist`,
 -- `prove UNIT NETLIST` with its limits and maybe a prefix, `check UNIT NETLIST NUMBER CERTIFICATE` with a number from 1 to
 -- 2^32 - 1, or `gen SEED SAMPLES` with a seed below 2^31 and a number of samples from 1 to the limit on samples.
 abbrev pub IsCommand : List (List ℕ) → Meaning → Type 0
@@ -34,7 +34,7 @@ IsNoCommand words = words_of.IsNoCommand sample_limit words
 
 -- the files that a command names, in the order in which it reads them
 abbrev pub files_of : Meaning → List (List ℕ)
-files_of (wave unit recording) = unit ∷ recording ∷ []
+files_of (wave unit recording unknown) = unit ∷ recording ∷ []
 files_of (show unit names) = unit ∷ names ∷ []
 files_of (show_netlist unit netlist) = unit ∷ netlist ∷ []
 files_of (prove unit netlist limits cert) = unit ∷ netlist ∷ []
@@ -47,8 +47,8 @@ findings_outcome limits found = Findings found.findings found.columns limits.dep
 
 -- what a command gives over contents: an outcome, or the first refusal
 abbrev pub MeaningStage : Meaning → Contents → Result Outcome Fault → Type 0
-MeaningStage (wave unit recording) files result =
-    Then (WaveStage unit recording) (λ verdicts _ outcome. outcome ≡ Ok (Wave verdicts)) files result
+MeaningStage (wave unit recording unknown) files result =
+    Then (WaveStage unit recording (unknown_of unknown)) (λ verdicts _ outcome. outcome ≡ Ok (Wave verdicts)) files result
 MeaningStage (show unit names) files result = Then (ShowStage unit names) (λ lines _ outcome. outcome ≡ Ok (Shown lines)) files result
 MeaningStage (show_netlist unit netlist) files result =
     Then (ShowNetlistStage unit netlist) (λ lines _ outcome. outcome ≡ Ok (Shown lines)) files result
@@ -60,7 +60,7 @@ MeaningStage (gen seed samples) files result = GeneratedStage seed samples resul
 
 -- what is known of a command's outcome whatever the files tell: its kind, and that of `gen` is exact
 abbrev pub MeaningOutcome : Meaning → Outcome → Type 0
-MeaningOutcome (wave unit recording) outcome = (verdicts : List Verdict) × (outcome ≡ Wave verdicts)
+MeaningOutcome (wave unit recording unknown) outcome = (verdicts : List Verdict) × (outcome ≡ Wave verdicts)
 MeaningOutcome (show unit names) outcome = (lines : List Line) × (outcome ≡ Shown lines)
 MeaningOutcome (show_netlist unit netlist) outcome = (lines : List Line) × (outcome ≡ Shown lines)
 MeaningOutcome (prove unit netlist limits cert) outcome =

@@ -10,7 +10,7 @@ use Rattle.commands.specs.declared.reason.Reason.TheVariants.{StatementTooLong, 
 use Rattle.commands.specs.declared.reason.Reason.TheVariants.{CodeSizeDiffers, ScopeNotOpen, BadTime, TimeFalls}
 use Rattle.commands.specs.declared.reason.Reason.TheVariants.{CodeNotDeclared, BadValue, VectorTooLong}
 use Rattle.commands.specs.declared.reason.Reason.TheVariants.{ChangeBeforeDefinitionsEnd, EndsInside, TooManySamples}
-use Rattle.commands.specs.declared.reason.Reason.TheVariants.{TooManySignals, UnknownCommand, BadModel, BadRow}
+use Rattle.commands.specs.declared.reason.Reason.TheVariants.{TooManySignals, UnknownValue, UnknownCommand, BadModel, BadRow}
 use Rattle.commands.specs.declared.reason.Reason.TheVariants.{MixedRows, BadLatch, LatchType, TwoClocks, DrivenTwice}
 use Rattle.commands.specs.declared.reason.Reason.TheVariants.{Undriven, CombinationalCycle, NetlistMissingEnd}
 use Rattle.commands.specs.declared.reason.Reason.TheVariants.{SecondModel, NetlistTooLarge}
@@ -72,6 +72,7 @@ row_of ChangeBeforeDefinitionsEnd = row (codes "V11 ChangeBeforeDefinitionsEnd")
 row_of EndsInside = row (codes "V12 EndsInside") 5 OfText
 row_of TooManySamples = row (codes "V13 TooManySamples") 7 OfText
 row_of TooManySignals = row (codes "V14 TooManySignals") 7 OfText
+row_of UnknownValue = row (codes "V15 UnknownValue") 5 OfText
 row_of UnknownCommand = row (codes "B1 UnknownCommand") 5 OfText
 row_of BadModel = row (codes "B2 BadModel") 5 OfText
 row_of BadRow = row (codes "B3 BadRow") 5 OfText

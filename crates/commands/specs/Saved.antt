@@ -47,7 +47,7 @@ certificates (Some prefix) (Made seed samples bytes verdicts) = []
 
 -- the prefix that a command gives
 abbrev pub prefix_of : Meaning → Option (List ℕ)
-prefix_of (wave unit recording) = None
+prefix_of (wave unit recording unknown) = None
 prefix_of (show unit names) = None
 prefix_of (show_netlist unit netlist) = None
 prefix_of (prove unit netlist limits cert) = cert

@@ -1,8 +1,10 @@
 -- What the commands over a text and a second file give: the verdicts of the text's directives on a recording, and what
 -- the directives mean over the names of a recording or a netlist.
-use Rattle.std.specs.Prelude.{◌≡◌, ℕ, List, All, map, None, Result, Ok, Err}
+use Rattle.std.specs.Prelude.{◌≡◌, ◌⊎◌, ℕ, List, All, map, Option, None, Some, Result, Ok, Err}
 use Rattle.blif_reader.specs.Meaning.{IsReading}
 use Rattle.netlist.specs.Design.{Design}
+use Rattle.command_line.specs.declared.Unknown as words
+use Rattle.command_line.specs.declared.Unknown.TheVariants as word
 use Rattle.psl_base.specs.Shelf.{Contents}
 use Rattle.psl_grammar.specs.declared.tree.UnitTree.{UnitTree}
 use Rattle.psl_elaboration.specs.Answers.{IsUnit, IsLayerFault}
@@ -17,15 +19,19 @@ use Rattle.psl_tree.specs.declared.directive.Directive.{Directive}
 use Rattle.psl_tree.specs.declared.name.Name.{Name}
 use Rattle.psl_tree.specs.Trees.{formula_of}
 use Rattle.commands.specs.Diagnostics.{lex_diagnostic, parse_diagnostic, layer_diagnostic, judge_diagnostic, vcd_diagnostic, blif_diagnostic}
+use Rattle.commands.specs.Faults.{at, fault_in}
 use Rattle.commands.specs.Stages.{AndThen, Then, OfFile, ToldBy}
 use Rattle.commands.specs.declared.inputs.Circuit.{Circuit}
 use Rattle.commands.specs.declared.inputs.Inputs.{Inputs}
 use Rattle.commands.specs.declared.outcome.Fault.{Fault}
 use Rattle.commands.specs.declared.outcome.Line.{Line}
+use Rattle.commands.specs.declared.reason.Reason.TheVariants.{UnknownValue}
 use Rattle.commands.specs.declared.subject.Subject.{Subject}
-use Rattle.vcd_reader.specs.declared.unknown.Unknown.TheVariants.{Zero}
+use Rattle.vcd_reader.specs.declared.unknown.Unknown.{Unknown}
+use Rattle.vcd_reader.specs.declared.unknown.Unknown.TheVariants.{Zero, One, Refuse}
+use Rattle.vcd_reader.specs.FirstUnknown.{IsFirstUnknown}
 use Rattle.vcd_reader.specs.Meaning.{reading}
-use Rattle.vcd_reader.specs.Sampled.{Sampled, letters_of}
+use Rattle.vcd_reader.specs.Sampled.{Sampled, letters_of, place_of_time}
 use Rattle.wave_judge.specs.Faults.{IsJudgeable, IsJudgeFault}
 use Rattle.wave_judge.specs.Judged.{AreVerdicts}
 use Rattle.wave_judge.specs.declared.verdict.Verdict.{Verdict}
@@ -49,18 +55,19 @@ UnitStage name = OfFile (UnitReading name) name
 abbrev pub TextAnd : {A B : Type 0} → List ℕ → (Contents → Result A Fault → Type 0) → (UnitTree → A → B) → Contents → Result B Fault → Type 0
 TextAnd unit Stage both = Then (UnitStage unit) (λ tree. Then Stage (λ value files result. result ≡ Ok (both tree value)))
 
--- the values of a recording, where unknown bits read as 0, or its first fault
-abbrev pub RecordingReading : List ℕ → List ℕ → Result Sampled Fault → Type 0
-RecordingReading name content = ToldBy name vcd_diagnostic (λ sampled. reading Zero content ≡ Ok sampled) (λ fault. reading Zero content ≡ Err fault)
+-- the values of a recording, where unknown bits read so, or its first fault
+abbrev pub RecordingReading : Unknown → List ℕ → List ℕ → Result Sampled Fault → Type 0
+RecordingReading unknown name content =
+    ToldBy name vcd_diagnostic (λ sampled. reading unknown content ≡ Ok sampled) (λ fault. reading unknown content ≡ Err fault)
 
-abbrev pub RecordingStage : List ℕ → Contents → Result Sampled Fault → Type 0
-RecordingStage name = OfFile (RecordingReading name) name
+abbrev pub RecordingStage : Unknown → List ℕ → Contents → Result Sampled Fault → Type 0
+RecordingStage unknown name = OfFile (RecordingReading unknown name) name
 
 abbrev pub with_recording : UnitTree → Sampled → Inputs
 with_recording tree sampled = record { tree = tree; recording = sampled }
 
-abbrev pub InputsStage : List ℕ → List ℕ → Contents → Result Inputs Fault → Type 0
-InputsStage unit recording = TextAnd unit (RecordingStage recording) with_recording
+abbrev pub InputsStage : Unknown → List ℕ → List ℕ → Contents → Result Inputs Fault → Type 0
+InputsStage unknown unit recording = TextAnd unit (RecordingStage unknown recording) with_recording
 
 -- a netlist, or its first fault
 abbrev pub NetlistReading : List ℕ → List ℕ → Result Design Fault → Type 0
@@ -99,9 +106,26 @@ pub record AreJudged (sampled : Sampled) (directives : List Directive) (verdicts
 abbrev pub JudgeReading : List ℕ → Sampled → List Directive → Result (List Verdict) Fault → Type 0
 JudgeReading name sampled directives = ToldBy name (judge_diagnostic directives) (AreJudged sampled directives) (IsJudgeFault directives)
 
+-- the first sample that is refused, or that there is none: under `Refuse` that at which a bit is unknown that the directives test
+abbrev pub IsFirstRefused : Unknown → Sampled → List Directive → Option ℕ → Type 0
+IsFirstRefused Zero sampled directives first = first ≡ None
+IsFirstRefused One sampled directives first = first ≡ None
+IsFirstRefused Refuse sampled directives first = IsFirstUnknown sampled directives first
+
+-- what is told of a sample that is refused, at the first token of its time
+abbrev pub unknown_fault : List ℕ → Sampled → ℕ → Fault
+unknown_fault name sampled sample = fault_in name (at UnknownValue (place_of_time sampled sample))
+
+-- the first sample that is refused, or the verdicts of directives
+abbrev pub KnownReading : Unknown → List ℕ → List ℕ → Sampled → List Directive → Result (List Verdict) Fault → Type 0
+KnownReading unknown unit name sampled directives result =
+    ((sample : ℕ) × IsFirstRefused unknown sampled directives (Some sample) × (result ≡ Err (unknown_fault name sampled sample)))
+    ⊎ (IsFirstRefused unknown sampled directives None × JudgeReading unit sampled directives result)
+
 -- the verdicts of a text on a recording
-abbrev pub VerdictsReading : List ℕ → Inputs → Result (List Verdict) Fault → Type 0
-VerdictsReading name inputs = AndThen (DirectivesReading name inputs.tree inputs.recording.names) (JudgeReading name inputs.recording)
+abbrev pub VerdictsReading : Unknown → List ℕ → List ℕ → Inputs → Result (List Verdict) Fault → Type 0
+VerdictsReading unknown unit name inputs =
+    AndThen (DirectivesReading unit inputs.tree inputs.recording.names) (KnownReading unknown unit name inputs.recording)
 
 -- what a directive means: its formula's canonical text, and how many obligations that has where its clocks are rewritten away
 abbrev pub line_of : List Name → Directive → Line
@@ -118,13 +142,19 @@ abbrev pub LinesReading : List ℕ → UnitTree → List Name → Result (List L
 LinesReading name tree names =
     AndThen (DirectivesReading name tree names) (λ directives result. result ≡ Ok (map (line_of names) directives))
 
--- `wave UNIT RECORDING`
-abbrev pub WaveStage : List ℕ → List ℕ → Contents → Result (List Verdict) Fault → Type 0
-WaveStage unit recording = Then (InputsStage unit recording) (λ inputs files. VerdictsReading unit inputs)
+-- how unknown bits read by the word of `--unknown`
+abbrev pub unknown_of : words.Unknown → Unknown
+unknown_of word.Zero = Zero
+unknown_of word.One = One
+unknown_of word.Refuse = Refuse
+
+-- `wave UNIT RECORDING --unknown WORD`
+abbrev pub WaveStage : List ℕ → List ℕ → Unknown → Contents → Result (List Verdict) Fault → Type 0
+WaveStage unit recording unknown = Then (InputsStage unknown unit recording) (λ inputs files. VerdictsReading unknown unit recording inputs)
 
 -- `show UNIT NAMES`, over the names of a recording
 abbrev pub ShowStage : List ℕ → List ℕ → Contents → Result (List Line) Fault → Type 0
-ShowStage unit names = Then (InputsStage unit names) (λ inputs files. LinesReading unit inputs.tree inputs.recording.names)
+ShowStage unit names = Then (InputsStage Zero unit names) (λ inputs files. LinesReading unit inputs.tree inputs.recording.names)
 
 -- `show UNIT NETLIST --netlist`, over those of a netlist
 abbrev pub ShowNetlistStage : List ℕ → List ℕ → Contents → Result (List Line) Fault → Type 0

@@ -39,11 +39,12 @@ pub fn load_inputs<F: Shelf>(
     files: &mut F,
     unit: &str,
     recording: &str,
+    unknown: Unknown,
 ) -> Result<Inputs, Fault>
-    ensures { IsStage (unit.now ∷ recording.now ∷ []) (InputsStage unit.now recording.now) (F.state files.old) (F.state files.new) result }
+    ensures { IsStage (unit.now ∷ recording.now ∷ []) (InputsStage unknown unit.now recording.now) (F.state files.old) (F.state files.new) result }
 {
     let tree = load_unit(alloc, files, unit)?;
-    let recording = load_recording(alloc, files, recording)?;
+    let recording = load_recording(alloc, files, recording, unknown)?;
     Ok(Inputs { tree, recording })
 }
 
@@ -71,11 +72,16 @@ fn load_netlist<F: Shelf>(alloc: Global, files: &mut F, name: &str) -> Result<Ne
     }
 }
 
-/// The recording in a file. Unknown bits read as 0.
-fn load_recording<F: Shelf>(alloc: Global, files: &mut F, name: &str) -> Result<Recording, Fault>
-    ensures { IsStage (name.now ∷ []) (RecordingStage name.now) (F.state files.old) (F.state files.new) result }
+/// The recording in a file.
+fn load_recording<F: Shelf>(
+    alloc: Global,
+    files: &mut F,
+    name: &str,
+    unknown: Unknown,
+) -> Result<Recording, Fault>
+    ensures { IsStage (name.now ∷ []) (RecordingStage unknown name.now) (F.state files.old) (F.state files.new) result }
 {
-    match read_vcd(alloc, files, name, Unknown::Zero) {
+    match read_vcd(alloc, files, name, unknown) {
         Ok(recording) => Ok(recording),
         Err(fault) => Err(fault_in(alloc, name, vcd_diagnostic(fault))),
     }

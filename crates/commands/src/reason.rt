@@ -77,6 +77,8 @@ pub enum Reason {
     TooManySamples,
     /// A signal past the limit on bits.
     TooManySignals,
+    /// The time of the first sample at which a bit is unknown that some directive tests, where that is refused.
+    UnknownValue,
 
     /// The first word of a line begins with a dot and is no command of a netlist.
     UnknownCommand,

@@ -13,7 +13,7 @@ pub struct Row {
 }
 
 /// The words and the status of each reason, in the order in which these are declared.
-const ROWS: [(&[u8], u8); 54] = [
+const ROWS: [(&[u8], u8); 55] = [
     (b"usage: pslc wave|prove|check|show|gen ARGUMENTS", 2),
     (b"read fault", 3),
     (b"write fault", 4),
@@ -50,6 +50,7 @@ const ROWS: [(&[u8], u8); 54] = [
     (b"V12 EndsInside", 5),
     (b"V13 TooManySamples", 7),
     (b"V14 TooManySignals", 7),
+    (b"V15 UnknownValue", 5),
     (b"B1 UnknownCommand", 5),
     (b"B2 BadModel", 5),
     (b"B3 BadRow", 5),

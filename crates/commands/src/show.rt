@@ -15,12 +15,13 @@ use psl_base::{NoMemory, Shelf, Text};
 use psl_grammar::UnitTree;
 use psl_tree::{Directive, Fl, Names, obligations, print_fl};
 use std::alloc::Global;
+use vcd_reader::Unknown;
 
 /// What the directives of a text mean over the names of a recording, both read from files: `show UNIT NAMES`.
 pub fn show<F: Shelf>(alloc: Global, files: &mut F, unit: &str, names: &str) -> Result<Lines, Fault>
     ensures { IsStage (unit.now ∷ names.now ∷ []) (ShowStage unit.now names.now) (F.state files.old) (F.state files.new) result }
 {
-    let inputs = load_inputs(alloc, files, unit, names)?;
+    let inputs = load_inputs(alloc, files, unit, names, Unknown::Zero)?;
     lines(alloc, &inputs.tree, inputs.recording.names(), unit)
 }
 

@@ -2,6 +2,7 @@ ghost use Rattle.std.specs.Prelude.{◌≡◌, ◌≢◌, ◌⊎◌, ◌<◌, �
 ghost use Rattle.psl_base.specs.Faults.{Rose};
 ghost use Rattle.psl_base.specs.Shelf.{Contents};
 ghost use Rattle.command_line.specs.Commands.{meaning_of};
+ghost use Rattle.command_line.specs.Commands.Meaning.{wave as a_wave};
 ghost use Rattle.command_line.specs.Ranges.{IsInRange};
 ghost use Rattle.commands.specs.Commands.{FirstRefusal, HadToTell, IsCommand, IsOfCommand, IsOutcomeOf, IsNamed, IsNoCommand, findings_outcome};
 ghost use Rattle.commands.specs.Endings.{status_of, Explained, Prints, IsOutOfMemory, IsDeviceStatus};
@@ -24,8 +25,8 @@ use crate::reason::Reason;
 use crate::report::report;
 use crate::saves::saves_of;
 use crate::show::{show, show_netlist};
-use crate::wave::wave;
-use command_line::{Command, Limits, WordsFault, one_command, read_words};
+use crate::wave::{unknown_of, wave};
+use command_line::{Command, Limits, Unknown, WordsFault, one_command, read_words};
 use psl_base::{Shelf, Sink};
 use std::alloc::Global;
 use vcd_reader::SAMPLE_LIMIT;
@@ -132,9 +133,11 @@ fn outcome<F: Shelf>(alloc: Global, files: &mut F, command: Command<'_>) -> Resu
         → IsAnswer (λ (outcome : Outcome). outcome) words (F.state files.old) (F.state files.new) result }
 {
     match command {
-        Command::Wave { unit, recording } => {
-            Ok(Outcome::Wave(wave(alloc, files, unit, recording)?))
-        }
+        Command::Wave {
+            unit,
+            recording,
+            unknown,
+        } => wave_outcome(alloc, files, unit, recording, unknown),
         Command::Show { unit, names } => Ok(Outcome::Shown(show(alloc, files, unit, names)?)),
         Command::ShowNetlist { unit, netlist } => {
             Ok(Outcome::Shown(show_netlist(alloc, files, unit, netlist)?))
@@ -179,6 +182,22 @@ fn prefix_of(command: Command<'_>) -> Option<&str>
         Command::Prove { cert, .. } => cert,
         _ => None,
     }
+}
+
+/// What `wave` finds out.
+fn wave_outcome<F: Shelf>(
+    alloc: Global,
+    files: &mut F,
+    unit: &str,
+    recording: &str,
+    unknown: Unknown,
+) -> Result<Outcome, Fault>
+    ensures showable { IfOk result IsShowable }
+    ensures answer { (words : List (List ℕ)) → IsCommand words (a_wave unit.now recording.now unknown)
+        → IsAnswer (λ (outcome : Outcome). outcome) words (F.state files.old) (F.state files.new) result }
+{
+    let verdicts = wave(alloc, files, unit, recording, unknown_of(unknown))?;
+    Ok(Outcome::Wave(verdicts))
 }
 
 /// The outcome of `prove`.

@@ -1,4 +1,4 @@
-use command_line::{Command, Limits, WordsFault, one_command, plain_words, read_words};
+use command_line::{Command, Limits, Unknown, WordsFault, one_command, plain_words, read_words};
 use std::alloc::{AllocError, Global};
 use std::test::Fail;
 
@@ -21,7 +21,11 @@ fn words_of(alloc: Global, words: &str) -> Result<Vec<String>, AllocError> {
 }
 
 fn wave<'a>(words: &'a str, unit: &'a str, recording: &'a str) -> Row<'a> {
-    let wanted = Command::Wave { unit, recording };
+    let wanted = Command::Wave {
+        unit,
+        recording,
+        unknown: Unknown::Zero,
+    };
     Row { words, wanted }
 }
 

@@ -1,17 +1,9 @@
 use Rattle.std.proofs.lemmas.Result.{err_from_is_err_and}
-use Rattle.commands.proofs.Answering.{wave-answers, wave-refuses, show-answers, show-refuses, netlist-answers, netlist-refuses, proof-answers, proof-refuses, check-answers, check-refuses, gen-answers}
+use Rattle.commands.proofs.Answering.{show-answers, show-refuses, netlist-answers, netlist-refuses, proof-answers, proof-refuses, check-answers, check-refuses, gen-answers}
 use Rattle.commands.proofs.top.outcome.Goals as goal
 
-pub returns-in_ok-wave-in-Wave-clause-answer : goal.returns-in_ok-wave-in-Wave-clause-answer
-returns-in_ok-wave-in-Wave-clause-answer g c words is =
-    wave-answers words c.in-Wave.unit.now c.in-Wave.recording.now (g.F.Shelf.state c.args.files.now) (g.F.Shelf.state c.wave.new.files)
-    _ (rw c.in-Wave.is at is) c.in_ok-wave-in-Wave.ensures
-
-pub returns-in_err-wave-in-Wave-clause-answer : goal.returns-in_err-wave-in-Wave-clause-answer
-returns-in_err-wave-in-Wave-clause-answer g c words is =
-    let p = err_from_is_err_and c.from_residual.result c.from_residual.ensures.1 in
-    rw (p.1, p.2) (wave-refuses words c.in-Wave.unit.now c.in-Wave.recording.now (g.F.Shelf.state c.args.files.now)
-    (g.F.Shelf.state c.wave.new.files) _ (rw c.in-Wave.is at is) c.in_err-wave-in-Wave.ensures)
+pub returns-in-Wave-clause-answer : goal.returns-in-Wave-clause-answer
+returns-in-Wave-clause-answer g c words is = c.wave_outcome.ensures.answer words (rw c.in-Wave.is at is)
 
 pub returns-in_ok-show-in-Show-clause-answer : goal.returns-in_ok-show-in-Show-clause-answer
 returns-in_ok-show-in-Show-clause-answer g c words is =
@@ -20,7 +12,7 @@ returns-in_ok-show-in-Show-clause-answer g c words is =
 
 pub returns-in_err-show-in-Show-clause-answer : goal.returns-in_err-show-in-Show-clause-answer
 returns-in_err-show-in-Show-clause-answer g c words is =
-    let p = err_from_is_err_and c.from_residual-in_err-show-in-Show.result c.from_residual-in_err-show-in-Show.ensures.1 in
+    let p = err_from_is_err_and c.from_residual.result c.from_residual.ensures.1 in
     rw (p.1, p.2) (show-refuses words c.in-Show.unit.now c.in-Show.names.now (g.F.Shelf.state c.args.files.now)
     (g.F.Shelf.state c.show.new.files) _ (rw c.in-Show.is at is) c.in_err-show-in-Show.ensures)
 

@@ -1,17 +1,18 @@
 use Rattle.std.proofs.Common.{[], ◌∷◌}
 use Rattle.std.proofs.lemmas.Result.{err_from_is_err_and}
-use Rattle.commands.proofs.Composing.{reading-of-more, stage-first, stage-reading}
+use Rattle.commands.proofs.Composing.{stage-first, stage-reading}
 use Rattle.commands.proofs.wave.wave.Goals as goal
 use Rattle.commands.specs.Waves.{InputsStage, VerdictsReading}
 
 pub returns-in_err-inputs : goal.returns-in_err-inputs
 returns-in_err-inputs g c =
     let p = err_from_is_err_and c.from_residual.result c.from_residual.ensures.1 in
-    rw (p.1, p.2) (stage-first (c.args.unit.now ∷ c.args.recording.now ∷ []) [] (InputsStage c.args.unit.now c.args.recording.now) (λ inputs files. VerdictsReading c.args.unit.now inputs)
+    rw (p.1, p.2) (stage-first (c.args.unit.now ∷ c.args.recording.now ∷ []) [] (InputsStage c.args.unknown c.args.unit.now c.args.recording.now)
+    (λ inputs files. VerdictsReading c.args.unknown c.args.unit.now c.args.recording.now inputs)
     (g.F.Shelf.state c.args.files.now) (g.F.Shelf.state c.load_inputs.new.files) _ c.in_err-inputs.ensures)
 
 pub returns : goal.returns
 returns g c =
-    stage-reading (c.args.unit.now ∷ c.args.recording.now ∷ []) (InputsStage c.args.unit.now c.args.recording.now) (VerdictsReading c.args.unit.now)
-    (g.F.Shelf.state c.args.files.now) (g.F.Shelf.state c.load_inputs.new.files) c.in_ok-inputs.inputs c.verdicts.result c.in_ok-inputs.ensures
-    (reading-of-more (c.args.unit.now ∷ []) (c.args.recording.now ∷ []) (VerdictsReading c.args.unit.now c.in_ok-inputs.inputs) c.verdicts.result c.verdicts.ensures)
+    stage-reading (c.args.unit.now ∷ c.args.recording.now ∷ []) (InputsStage c.args.unknown c.args.unit.now c.args.recording.now)
+    (VerdictsReading c.args.unknown c.args.unit.now c.args.recording.now)
+    (g.F.Shelf.state c.args.files.now) (g.F.Shelf.state c.load_inputs.new.files) c.in_ok-inputs.inputs c.verdicts.result c.in_ok-inputs.ensures c.verdicts.ensures
