@@ -3,7 +3,8 @@ use Rattle.std.proofs.Common.{◌≡◌, ◌∙◌, ◌<◌, ◌≤◌, ◌^◌,
 use Rattle.command_line.specs.Clap.{Takes}
 use Rattle.command_line.specs.Commands.{AreLimits, AreTaken, AreUnnumbered, IsCommand, IsNoCommand, IsRefused, Meaning, Says, Values, kind_of, most_seed, values_of}
 use Rattle.command_line.specs.Commands.IsRefused.{unnamed, unnumbered, untaken}
-use Rattle.command_line.specs.Commands.Meaning.{wave, gen, show, show_netlist, prove, check}
+use Rattle.command_line.specs.Commands.Meaning.{wave, gen, show, show_netlist, prove, check, replay}
+use Rattle.command_line.specs.Evidences.{IsEvidence, Wanted}
 use Rattle.command_line.specs.Kinds.{app_of, name_of, word_of}
 use Rattle.command_line.specs.Numbers.{IsGiven}
 use Rattle.command_line.specs.Ranges.{IsInRange}
@@ -11,7 +12,7 @@ use Rattle.command_line.specs.declared.Limits.{Limits}
 use Rattle.command_line.specs.declared.Unknown.{Unknown}
 use Rattle.command_line.specs.declared.Unknown.TheVariants.{Zero, One, Refuse}
 use Rattle.command_line.specs.declared.kinds.Kind.{Kind}
-use Rattle.command_line.specs.declared.kinds.Kind.TheVariants.{Wave, Gen, Show, Prove, Check}
+use Rattle.command_line.specs.declared.kinds.Kind.TheVariants.{Wave, Gen, Show, Prove, Check, Replay}
 use Rattle.command_line.proofs.Numbers.{one_number}
 
 some_one : {X : Type 0} (x y : X) → Some x ≡ Some y → x ≡ y
@@ -25,7 +26,7 @@ first_byte [] = 0
 first_byte (x ∷ xs) = x
 
 kind_from : ℕ → Kind
-kind_from byte = if byte == 119 then Wave else (if byte == 103 then Gen else (if byte == 115 then Show else (if byte == 112 then Prove else Check)))
+kind_from byte = if byte == 119 then Wave else (if byte == 103 then Gen else (if byte == 115 then Show else (if byte == 112 then Prove else (if byte == 99 then Check else Replay))))
 
 from_name : (kind : Kind) → kind_from (first_byte (name_of kind)) ≡ kind
 unfolding kind_from
@@ -34,6 +35,7 @@ from_name Gen = refl
 from_name Show = refl
 from_name Prove = refl
 from_name Check = refl
+from_name Replay = refl
 
 one_kind : (words : List (List ℕ)) (a b : Kind) → slice_get words 0 ≡ Some (name_of a) → slice_get words 0 ≡ Some (name_of b) → a ≡ b
 one_kind words a b one two =
@@ -66,6 +68,13 @@ from_word Refuse = refl
 one_unknown : (a b : Unknown) → word_of a ≡ word_of b → a ≡ b
 one_unknown a b same = sym (from_word a) ∙ (ap (λ (word : List ℕ). unknown_from (first_byte word)) same ∙ from_word b)
 
+one_evidence : (values : Values) (a b : Wanted) → IsEvidence values a → IsEvidence values b → a ≡ b
+one_evidence values a b one two =
+    let cert : a.cert ≡ b.cert = sym one.cert ∙ two.cert in
+    let vcd : a.vcd ≡ b.vcd = sym one.vcd ∙ two.vcd in
+    let loops : a.loops ≡ b.loops = one_given _ _ _ _ _ (omega arith) one.loops two.loops in
+    λ i. record { cert = cert i; vcd = vcd i; loops = loops i }
+
 one_said : (most : ℕ) (values : Values) (first second : Meaning) → most < 2 ^ 32 → kind_of first ≡ kind_of second → Says most values first
     → Says most values second → first ≡ second
 one_said most values (wave a b k) (wave c d m) fits same one two =
@@ -84,14 +93,19 @@ one_said most values (prove a b l p) (prove c d m q) fits same one two =
     let unit : a ≡ c = some_one _ _ (sym one.0 ∙ two.0) in
     let netlist : b ≡ d = some_one _ _ (sym one.1 ∙ two.1) in
     let limits : l ≡ m = one_limits values l m one.2 two.2 in
-    let cert : p ≡ q = sym one.3 ∙ two.3 in
-    λ i. prove (unit i) (netlist i) (limits i) (cert i)
+    let evidence : p ≡ q = one_evidence values p q one.3 two.3 in
+    λ i. prove (unit i) (netlist i) (limits i) (evidence i)
 one_said most values (check a b k p) (check c d m q) fits same one two =
     let unit : a ≡ c = some_one _ _ (sym one.0 ∙ two.0) in
     let netlist : b ≡ d = some_one _ _ (sym one.1 ∙ two.1) in
     let number : k ≡ m = one_given _ _ _ _ _ (omega arith) one.2 two.2 in
     let certificate : p ≡ q = some_one _ _ (sym one.3 ∙ two.3) in
     λ i. check (unit i) (netlist i) (number i) (certificate i)
+one_said most values (replay a b r) (replay c d q) fits same one two =
+    let unit : a ≡ c = some_one _ _ (sym one.0 ∙ two.0) in
+    let netlist : b ≡ d = some_one _ _ (sym one.1 ∙ two.1) in
+    let recording : r ≡ q = some_one _ _ (sym one.2 ∙ two.2) in
+    λ i. replay (unit i) (netlist i) (recording i)
 one_said most values first second fits same one two = cc
 
 -- words are one command at most
@@ -115,8 +129,9 @@ not_said most values (wave unit recording unknown) says none = none unknown says
 not_said most values (gen seed samples) says none = none seed samples says.0 says.1
 not_said most values (show unit names) says none = none
 not_said most values (show_netlist unit netlist) says none = none
-not_said most values (prove unit netlist limits cert) says none = none limits says.2
+not_said most values (prove unit netlist limits evidence) says none = none limits evidence says.2 says.3
 not_said most values (check unit netlist number certificate) says none = none number says.2
+not_said most values (replay unit netlist recording) says none = none
 
 -- refused words are no command
 pub no_command : (most : ℕ) (words : List (List ℕ)) → IsRefused most words → IsNoCommand most words
@@ -146,16 +161,21 @@ in_range most values (gen seed samples) says =
     (omega arith, least_given _ _ _ _ says.1, most_given _ _ _ _ says.1)
 in_range most values (show unit names) says = tt
 in_range most values (show_netlist unit netlist) says = tt
-in_range most values (prove unit netlist limits cert) says = record {
-  some_depth = least_given _ _ _ _ says.2.depth;
-  depth = most_given _ _ _ _ says.2.depth;
-  visits = most_given _ _ _ _ says.2.visits;
-  some_steps = least_given _ _ _ _ says.2.steps;
-  steps = most_given _ _ _ _ says.2.steps;
-}
+in_range most values (prove unit netlist limits evidence) says = (
+  record {
+    some_depth = least_given _ _ _ _ says.2.depth;
+    depth = most_given _ _ _ _ says.2.depth;
+    visits = most_given _ _ _ _ says.2.visits;
+    some_steps = least_given _ _ _ _ says.2.steps;
+    steps = most_given _ _ _ _ says.2.steps;
+  },
+  least_given _ _ _ _ says.3.loops,
+  most_given _ _ _ _ says.3.loops,
+)
 in_range most values (check unit netlist number certificate) says =
     let below : number ≤ 4294967295 = most_given _ _ _ _ says.2 in
     (least_given _ _ _ _ says.2, omega arith)
+in_range most values (replay unit netlist recording) says = tt
 
 -- the numbers of a command are in their ranges
 pub numbers_in_range : (most : ℕ) (words : List (List ℕ)) (meaning : Meaning) → IsCommand most words meaning → IsInRange most meaning

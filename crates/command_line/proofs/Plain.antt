@@ -8,15 +8,16 @@ use Rattle.std.proofs.lemmas.Str.Parse.{digit_from_value}
 use Rattle.clap.proofs.OnLiterals.{clap_on_literals}
 use Rattle.command_line.specs.Clap.{Takes, app, given, is_true}
 use Rattle.command_line.specs.Commands.{AreLimits, IsCommand, Values, most_seed}
-use Rattle.command_line.specs.Commands.Meaning.{wave, gen, show, show_netlist, prove, check}
+use Rattle.command_line.specs.Commands.Meaning.{wave, gen, show, show_netlist, prove, check, replay}
+use Rattle.command_line.specs.Evidences.{IsEvidence}
 use Rattle.command_line.specs.Kinds.{word_of}
 use Rattle.command_line.specs.Numbers.{IsGiven}
 use Rattle.command_line.specs.Ranges.{AreInRange}
-use Rattle.command_line.specs.Plain.{ArePlain, IsPlain, limits_of_depth, to_check, usual_limits, with_depth, with_options, with_unknown}
+use Rattle.command_line.specs.Plain.{ArePlain, IsPlain, certificates_in, limits_of_depth, recordings_in, to_check, usual_limits, with_depth, with_options, with_recordings, with_unknown}
 use Rattle.command_line.specs.declared.Limits.{Limits}
 use Rattle.command_line.specs.declared.Unknown.{Unknown}
 use Rattle.command_line.specs.declared.Unknown.TheVariants.{Zero, One, Refuse}
-use Rattle.command_line.specs.declared.kinds.Kind.TheVariants.{Wave, Gen, Show, Prove, Check}
+use Rattle.command_line.specs.declared.kinds.Kind.TheVariants.{Wave, Gen, Show, Prove, Check, Replay}
 use Rattle.command_line.proofs.Runs.{any_then, behind, behind_any, behind_value, ends, run_given, run_taken, start, value_then, word_then}
 
 -- digits do not begin with a hyphen
@@ -43,6 +44,10 @@ usual_depth = refl
 usual_visits : codes "4" ≡ decimal 4
 unfolding digits
 usual_visits = refl
+
+usual_loops : codes "1" ≡ decimal 1
+unfolding digits
+usual_loops = refl
 
 usual_steps : codes "1000000" ≡ decimal 1000000
 unfolding digits
@@ -142,8 +147,12 @@ usual values limits depth visits steps = record {
   steps = given_text 1 10000000 1000000 _ (codes "1000000") steps usual_steps (omega arith) (omega arith);
 }
 
+-- certificates alone
+certified : (values : Values) (cert : Option (List ℕ)) → values (codes "cert") ≡ cert → values (codes "vcd") ≡ None → values (codes "loops") ≡ Some (codes "1") → IsEvidence values (certificates_in cert)
+certified values cert given none loops = record { cert = given; vcd = none; loops = given_text 1 16 1 _ (codes "1") loops usual_loops (omega arith) (omega arith) }
+
 pub plain_prove : (most : ℕ) (unit netlist : List ℕ) → IsPlain unit → IsPlain netlist
-    → IsCommand most (codes "prove" ∷ unit ∷ netlist ∷ []) (prove unit netlist usual_limits None)
+    → IsCommand most (codes "prove" ∷ unit ∷ netlist ∷ []) (prove unit netlist usual_limits (certificates_in None))
 unfolding clap_on_literals app
 plain_prove most a b one two =
     let words = a ∷ b ∷ [] in
@@ -156,12 +165,12 @@ plain_prove most a b one two =
         run_given Prove words end (codes "unit") run,
         run_given Prove words end (codes "netlist") run,
         usual _ usual_limits depth (run_given Prove words end (codes "visits") run) (run_given Prove words end (codes "steps") run),
-        run_given Prove words end (codes "cert") run,
+        certified _ _ (run_given Prove words end (codes "cert") run) (run_given Prove words end (codes "vcd") run) (run_given Prove words end (codes "loops") run),
       ),
     )
 
 pub plain_depth : (most : ℕ) (unit netlist : List ℕ) (depth : ℕ) → IsPlain unit → IsPlain netlist → 1 ≤ depth → depth ≤ 1000
-    → IsCommand most (with_depth unit netlist depth) (prove unit netlist (limits_of_depth depth) None)
+    → IsCommand most (with_depth unit netlist depth) (prove unit netlist (limits_of_depth depth) (certificates_in None))
 unfolding clap_on_literals app
 plain_depth most a b number one two above below =
     let words = a ∷ b ∷ codes "--depth" ∷ decimal number ∷ [] in
@@ -179,12 +188,12 @@ plain_depth most a b number one two above below =
         run_given Prove words end (codes "unit") run,
         run_given Prove words end (codes "netlist") run,
         usual _ (limits_of_depth number) depth (run_given Prove words end (codes "visits") run) (run_given Prove words end (codes "steps") run),
-        run_given Prove words end (codes "cert") run,
+        certified _ _ (run_given Prove words end (codes "cert") run) (run_given Prove words end (codes "vcd") run) (run_given Prove words end (codes "loops") run),
       ),
     )
 
 pub plain_options : (most : ℕ) (unit netlist prefix : List ℕ) (limits : Limits) → ArePlain unit netlist prefix → AreInRange limits
-    → IsCommand most (with_options unit netlist limits prefix) (prove unit netlist limits (Some prefix))
+    → IsCommand most (with_options unit netlist limits prefix) (prove unit netlist limits (certificates_in (Some prefix)))
 unfolding clap_on_literals app
 plain_options most a b prefix limits plain range =
     let steps = decimal limits.steps in
@@ -232,7 +241,7 @@ plain_options most a b prefix limits plain range =
           visits = given_number 0 16 limits.visits _ (run_given Prove words end (codes "visits") run) (omega arith) range.visits;
           steps = given_number 1 10000000 limits.steps _ (run_given Prove words end (codes "steps") run) range.some_steps range.steps;
         },
-        run_given Prove words end (codes "cert") run,
+        certified _ _ (run_given Prove words end (codes "cert") run) (run_given Prove words end (codes "vcd") run) (run_given Prove words end (codes "loops") run),
       ),
     )
 
@@ -268,3 +277,53 @@ wave_behind most unit recording = (record { named = refl; taken = refl }, (refl,
 pub show_behind : (most : ℕ) (unit names : List ℕ) → IsCommand most (codes "show" ∷ codes "--" ∷ unit ∷ names ∷ []) (show unit names)
 unfolding clap_on_literals Takes given app
 show_behind most unit names = (record { named = refl; taken = refl }, (refl, refl, refl))
+
+pub plain_recordings : (most : ℕ) (unit netlist vcd : List ℕ) (loops : ℕ) → ArePlain unit netlist vcd → 1 ≤ loops → loops ≤ 16
+    → IsCommand most (with_recordings unit netlist vcd loops) (prove unit netlist usual_limits (recordings_in vcd loops))
+unfolding clap_on_literals app
+plain_recordings most a b prefix number plain some most_loops =
+    let loops = decimal number in
+    let on_loop = loops ∷ [] in
+    let on_loops = codes "--loops" ∷ on_loop in
+    let on_prefix = prefix ∷ on_loops in
+    let on_vcd = codes "--vcd" ∷ on_prefix in
+    let words = a ∷ b ∷ on_vcd in
+    let w1 = behind Prove start a in
+    let w2 = behind Prove w1 b in
+    let w3 = behind_any Prove w2 (codes "--vcd") in
+    let w4 = behind_value Prove w3 (codes "vcd") prefix in
+    let w5 = behind_any Prove w4 (codes "--loops") in
+    let end = behind_value Prove w5 (codes "loops") loops in
+    let run = word_then Prove start.held 1 end a (b ∷ on_vcd) plain.0 refl
+    (word_then Prove w1.held 2 end b on_vcd plain.1 refl
+    (any_then Prove w2 end (codes "--vcd") on_prefix refl
+    (value_then Prove w3.held 3 end (codes "vcd") prefix on_loops plain.2
+    (any_then Prove w4 end (codes "--loops") on_loop refl
+    (value_then Prove w5.held 3 end (codes "loops") loops [] (plain_decimal number (omega arith)) (ends Prove end)))))) in
+    let depth = given_text 1 1000 20 _ (codes "20") (run_given Prove words end (codes "depth") run) usual_depth (omega arith) (omega arith) in (
+      record { named = refl; taken = run_taken Prove words end run refl },
+      (
+        run_given Prove words end (codes "unit") run,
+        run_given Prove words end (codes "netlist") run,
+        usual _ usual_limits depth (run_given Prove words end (codes "visits") run) (run_given Prove words end (codes "steps") run),
+        record {
+          cert = run_given Prove words end (codes "cert") run;
+          vcd = run_given Prove words end (codes "vcd") run;
+          loops = given_number 1 16 number _ (run_given Prove words end (codes "loops") run) some most_loops;
+        },
+      ),
+    )
+
+pub plain_replay : (most : ℕ) (unit netlist recording : List ℕ) → ArePlain unit netlist recording
+    → IsCommand most (codes "replay" ∷ unit ∷ netlist ∷ recording ∷ []) (replay unit netlist recording)
+unfolding clap_on_literals app
+plain_replay most a b c plain =
+    let words = a ∷ b ∷ c ∷ [] in
+    let w1 = behind Replay start a in
+    let w2 = behind Replay w1 b in
+    let end = behind Replay w2 c in
+    let run = word_then Replay start.held 1 end a (b ∷ c ∷ []) plain.0 refl
+    (word_then Replay w1.held 2 end b (c ∷ []) plain.1 refl (word_then Replay w2.held 3 end c [] plain.2 refl (ends Replay end))) in (
+      record { named = refl; taken = run_taken Replay words end run refl },
+      (run_given Replay words end (codes "unit") run, run_given Replay words end (codes "netlist") run, run_given Replay words end (codes "recording") run),
+    )

@@ -13,7 +13,7 @@ use Rattle.command_line.specs.Chains.{HasRequired, IsMadeOf}
 use Rattle.command_line.specs.Clap.{IsSimple, app, given}
 use Rattle.command_line.specs.Kinds.{app_of, name_of, rules_of}
 use Rattle.command_line.specs.declared.kinds.Kind.{Kind}
-use Rattle.command_line.specs.declared.kinds.Kind.TheVariants.{Wave, Gen, Show, Prove, Check}
+use Rattle.command_line.specs.declared.kinds.Kind.TheVariants.{Wave, Gen, Show, Prove, Check, Replay}
 use Rattle.command_line.proofs.Chains.{app_made, are_fit, required_found}
 
 pub is_simple_kind : (kind : Kind) → IsSimple (app_of kind)
@@ -23,6 +23,7 @@ is_simple_kind Gen = refl
 is_simple_kind Show = refl
 is_simple_kind Prove = refl
 is_simple_kind Check = refl
+is_simple_kind Replay = refl
 
 fit : (kind : Kind) → are_fit (rules_of kind) ≡ true
 fit Wave = refl
@@ -30,6 +31,7 @@ fit Gen = refl
 fit Show = refl
 fit Prove = refl
 fit Check = refl
+fit Replay = refl
 
 fit_args : (kind : Kind) (args : List Arg) → map rule_of args ≡ rules_of kind → are_fit (map rule_of args) ≡ true
 fit_args kind args told = ap are_fit told ∙ fit kind

@@ -1,10 +1,11 @@
 -- The commands, and what the words after the program's name say.
-use Rattle.std.specs.Prelude.{◌≡◌, ◌≢◌, ℕ, true, false, List, Option, Some, codes, option_map, slice_get}
+use Rattle.std.specs.Prelude.{◌≡◌, ◌≢◌, ℕ, true, false, List, Option, Some, codes, slice_get}
 use Rattle.command_line.specs.Clap.{Takes, given, is_true}
+use Rattle.command_line.specs.Evidences.{IsEvidence, Wanted, evidence_of}
 use Rattle.command_line.specs.Kinds.{app_of, name_of, word_of}
 use Rattle.command_line.specs.Numbers.{IsGiven}
 use Rattle.command_line.specs.declared.Command.{Command}
-use Rattle.command_line.specs.declared.Command.TheVariants.{Wave, Gen, Show, ShowNetlist, Prove, Check}
+use Rattle.command_line.specs.declared.Command.TheVariants.{Wave, Gen, Show, ShowNetlist, Prove, Check, Replay}
 use Rattle.command_line.specs.declared.Limits.{Limits}
 use Rattle.command_line.specs.declared.Unknown.{Unknown}
 use Rattle.command_line.specs.declared.commands.TheConstants.{MOST_SEED, MOST_DEPTH, MOST_VISITS, MOST_STEPS}
@@ -18,16 +19,18 @@ pub data Meaning : Type 0 where
   gen : ℕ → ℕ → Meaning
   show : List ℕ → List ℕ → Meaning
   show_netlist : List ℕ → List ℕ → Meaning
-  prove : List ℕ → List ℕ → Limits → Option (List ℕ) → Meaning
+  prove : List ℕ → List ℕ → Limits → Wanted → Meaning
   check : List ℕ → List ℕ → ℕ → List ℕ → Meaning
+  replay : List ℕ → List ℕ → List ℕ → Meaning
 
 abbrev pub kind_of : Meaning → Kind
 kind_of (wave unit recording unknown) = kind.Wave
 kind_of (gen seed samples) = kind.Gen
 kind_of (show unit names) = kind.Show
 kind_of (show_netlist unit netlist) = kind.Show
-kind_of (prove unit netlist limits cert) = kind.Prove
+kind_of (prove unit netlist limits evidence) = kind.Prove
 kind_of (check unit netlist number certificate) = kind.Check
+kind_of (replay unit netlist recording) = kind.Replay
 
 -- the largest seed
 abbrev pub most_seed : ℕ
@@ -47,10 +50,10 @@ pub record AreLimits (values : Values) (limits : Limits) : Type 0 where
   pub visits : IsGiven 0 MOST_VISITS (values (codes "visits")) limits.visits
   pub steps : IsGiven 1 MOST_STEPS (values (codes "steps")) limits.steps
 
--- What values say: `wave UNIT RECORDING` with how unknown bits read, `gen SEED SAMPLES`, `show UNIT NAMES`, `show UNIT NAMES --netlist`,
--- `prove UNIT NETLIST` with its limits and maybe a prefix, or `check UNIT NETLIST NUMBER CERTIFICATE`. A seed is at
--- most 2^31 - 1, of samples there is one at least and at most the limit, and the number of an assertion is from 1 to
--- 2^32 - 1.
+-- What values say: `wave UNIT RECORDING` with how unknown bits read, `gen SEED SAMPLES`, `show UNIT NAMES`,
+-- `show UNIT NAMES --netlist`, `prove UNIT NETLIST` with its limits and files, `check UNIT NETLIST NUMBER CERTIFICATE`, or
+-- `replay UNIT NETLIST RECORDING`. A seed is at most 2^31 - 1, of samples there is one at least and at most the limit, and
+-- the number of an assertion is from 1 to 2^32 - 1.
 abbrev pub Says : ℕ → Values → Meaning → Type 0
 Says most values (wave unit recording unknown) =
     (values (codes "unit") ≡ Some unit) × (values (codes "recording") ≡ Some recording)
@@ -63,12 +66,14 @@ Says most values (show unit names) =
 Says most values (show_netlist unit netlist) =
     (values (codes "unit") ≡ Some unit) × (values (codes "names") ≡ Some netlist)
     × (is_true (values (codes "netlist")) ≡ true)
-Says most values (prove unit netlist limits cert) =
+Says most values (prove unit netlist limits evidence) =
     (values (codes "unit") ≡ Some unit) × (values (codes "netlist") ≡ Some netlist) × AreLimits values limits
-    × (values (codes "cert") ≡ cert)
+    × IsEvidence values evidence
 Says most values (check unit netlist number certificate) =
     (values (codes "unit") ≡ Some unit) × (values (codes "netlist") ≡ Some netlist)
     × IsGiven 1 MOST_NUMBER (values (codes "number")) number × (values (codes "certificate") ≡ Some certificate)
+Says most values (replay unit netlist recording) =
+    (values (codes "unit") ≡ Some unit) × (values (codes "netlist") ≡ Some netlist) × (values (codes "recording") ≡ Some recording)
 
 -- The words are those of such a command: the first is its name, and `clap` takes those after it.
 pub record AreTaken (kind : Kind) (words : List (List ℕ)) : Type 0 where
@@ -94,8 +99,9 @@ AreUnnumbered most values kind.Wave = (unknown : Unknown) → IsUnknown (values 
 AreUnnumbered most values kind.Gen = (seed samples : ℕ)
     → IsGiven 0 most_seed (values (codes "seed")) seed → IsGiven 1 most (values (codes "samples")) samples → ⊥
 AreUnnumbered most values kind.Show = ⊥
-AreUnnumbered most values kind.Prove = (limits : Limits) → AreLimits values limits → ⊥
+AreUnnumbered most values kind.Prove = (limits : Limits) (evidence : Wanted) → AreLimits values limits → IsEvidence values evidence → ⊥
 AreUnnumbered most values kind.Check = (number : ℕ) → IsGiven 1 MOST_NUMBER (values (codes "number")) number → ⊥
+AreUnnumbered most values kind.Replay = ⊥
 
 -- Why words are refused: the first is no command's name, `clap` does not take those after it, or one of them is no
 -- number in its range or none of the words that may stand there.
@@ -112,8 +118,9 @@ meaning_of (Wave unit recording unknown) = wave unit.now recording.now unknown
 meaning_of (Gen seed samples) = gen seed samples
 meaning_of (Show unit names) = show unit.now names.now
 meaning_of (ShowNetlist unit netlist) = show_netlist unit.now netlist.now
-meaning_of (Prove unit netlist limits cert) = prove unit.now netlist.now limits (option_map (λ s. s.now) cert)
+meaning_of (Prove unit netlist limits evidence) = prove unit.now netlist.now limits (evidence_of evidence)
 meaning_of (Check unit netlist number certificate) = check unit.now netlist.now number certificate.now
+meaning_of (Replay unit netlist recording) = replay unit.now netlist.now recording.now
 
 -- a command of such words was read, and is what their values say
 abbrev pub IsRead : ℕ → Values → Kind → Command → Type 0

@@ -1,5 +1,6 @@
 -- Words that `clap` reads as they stand.
-use Rattle.std.specs.Prelude.{◌≢◌, ℕ, List, [], ◌∷◌, codes, decimal, slice_index}
+use Rattle.std.specs.Prelude.{◌≢◌, ℕ, List, [], ◌∷◌, Option, None, Some, codes, decimal, slice_index}
+use Rattle.command_line.specs.Evidences.{Wanted}
 use Rattle.command_line.specs.Kinds.{word_of}
 use Rattle.command_line.specs.declared.Limits.{Limits}
 use Rattle.command_line.specs.declared.Unknown.{Unknown}
@@ -31,6 +32,19 @@ abbrev pub with_options : List ℕ → List ℕ → Limits → List ℕ → List
 with_options unit netlist limits prefix =
     codes "prove" ∷ codes "--cert" ∷ prefix ∷ codes "--steps" ∷ decimal limits.steps ∷ codes "--visits"
     ∷ decimal limits.visits ∷ unit ∷ codes "--depth" ∷ decimal limits.depth ∷ netlist ∷ []
+
+-- certificates alone, where there is a prefix for them
+abbrev pub certificates_in : Option (List ℕ) → Wanted
+certificates_in cert = record { cert = cert; vcd = None; loops = 1 }
+
+-- recordings alone
+abbrev pub recordings_in : List ℕ → ℕ → Wanted
+recordings_in vcd loops = record { cert = None; vcd = Some vcd; loops = loops }
+
+-- `prove UNIT NETLIST --vcd PREFIX --loops N`
+abbrev pub with_recordings : List ℕ → List ℕ → List ℕ → ℕ → List (List ℕ)
+with_recordings unit netlist prefix loops =
+    codes "prove" ∷ unit ∷ netlist ∷ codes "--vcd" ∷ prefix ∷ codes "--loops" ∷ decimal loops ∷ []
 
 -- `check UNIT NETLIST NUMBER CERTIFICATE`
 abbrev pub to_check : List ℕ → List ℕ → ℕ → List ℕ → List (List ℕ)

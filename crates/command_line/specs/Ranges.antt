@@ -1,7 +1,7 @@
 -- The ranges of the numbers of commands.
 use Rattle.std.specs.Prelude.{◌≤◌, ◌<◌, ◌^◌, ℕ}
 use Rattle.command_line.specs.Commands.{Meaning}
-use Rattle.command_line.specs.Commands.Meaning.{wave, gen, show, show_netlist, prove, check}
+use Rattle.command_line.specs.Commands.Meaning.{wave, gen, show, show_netlist, prove, check, replay}
 use Rattle.command_line.specs.declared.Limits.{Limits}
 
 -- limits that `prove` takes
@@ -18,5 +18,6 @@ IsInRange most (wave unit recording unknown) = Unit {0}
 IsInRange most (gen seed samples) = (seed < 2 ^ 31) × (1 ≤ samples) × (samples ≤ most)
 IsInRange most (show unit names) = Unit {0}
 IsInRange most (show_netlist unit netlist) = Unit {0}
-IsInRange most (prove unit netlist limits cert) = AreInRange limits
+IsInRange most (prove unit netlist limits evidence) = AreInRange limits × (1 ≤ evidence.loops) × (evidence.loops ≤ 16)
 IsInRange most (check unit netlist number certificate) = (1 ≤ number) × (number < 2 ^ 32)
+IsInRange most (replay unit netlist recording) = Unit {0}

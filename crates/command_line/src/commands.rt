@@ -5,12 +5,13 @@ ghost use Rattle.std.specs.Prelude.{◌≡◌, ◌≤◌, ℕ, codes, IfOk, IfEr
 ghost use Rattle.clap.specs.Words.{first_value, found_of};
 ghost use Rattle.command_line.specs.Chains.{HasRequired};
 ghost use Rattle.command_line.specs.Commands.{AreLimits, AreUnnumbered, IsRead, IsUnknown};
+ghost use Rattle.command_line.specs.Evidences.{IsEvidence, Wanted, evidence_of};
 ghost use Rattle.command_line.specs.Kinds.{rules_of};
 
 use crate::kinds::{Kind, unknown_named};
 use crate::number::number_of;
 use crate::parsing::{is_set, word};
-use crate::{Command, Limits, Unknown, WordsFault};
+use crate::{Command, Evidence, Limits, Unknown, WordsFault};
 use clap::ArgMatches;
 
 /// The largest seed.
@@ -28,6 +29,9 @@ const MOST_VISITS: u32 = 16;
 /// The largest number of steps.
 const MOST_STEPS: u32 = 10_000_000;
 
+/// How often a loop is written at most.
+const MOST_LOOPS: u32 = 16;
+
 /// The command that the values of its words say.
 pub fn read_values<'a>(
     kind: Kind,
@@ -44,6 +48,7 @@ pub fn read_values<'a>(
         Kind::Show => Ok(show(matches)),
         Kind::Prove => prove(matches),
         Kind::Check => check(matches),
+        Kind::Replay => Ok(replay(matches)),
     }
 }
 
@@ -101,11 +106,14 @@ fn prove<'a>(matches: &ArgMatches<'a>) -> Result<Command<'a>, WordsFault>
     let Some(limits) = limits_of(matches) else {
         return Err(WordsFault::Usage);
     };
+    let Some(evidence) = evidence_of(matches) else {
+        return Err(WordsFault::Usage);
+    };
     Ok(Command::Prove {
         unit: word(matches, "unit"),
         netlist: word(matches, "netlist"),
         limits,
-        cert: matches.get_str("cert"),
+        evidence,
     })
 }
 
@@ -132,6 +140,31 @@ fn unknown_of(matches: &ArgMatches) -> Option<Unknown>
     ensures none { IsNone result → (unknown : Unknown) → IsUnknown (first_value (found_of matches.now) (codes "unknown")) unknown → ⊥ }
 {
     unknown_named(matches.get_str("unknown")?)
+}
+
+/// `replay UNIT NETLIST RECORDING`
+fn replay<'a>(matches: &ArgMatches<'a>) -> Command<'a>
+    requires { HasRequired (rules_of Kind.Replay) (first_value (found_of matches.now)) }
+    ensures { (most : ℕ) → IsRead most (first_value (found_of matches.now)) Kind.Replay result }
+{
+    Command::Replay {
+        unit: word(matches, "unit"),
+        netlist: word(matches, "netlist"),
+        recording: word(matches, "recording"),
+    }
+}
+
+/// The files of evidence that the options of `prove` say.
+fn evidence_of<'a>(matches: &ArgMatches<'a>) -> Option<Evidence<'a>>
+    ensures some { IfSome result (λ evidence. IsEvidence (first_value (found_of matches.now)) (evidence_of evidence)) }
+    ensures none { IsNone result → (evidence : Wanted) → IsEvidence (first_value (found_of matches.now)) evidence → ⊥ }
+{
+    let loops = number_of(matches, "loops", 1, MOST_LOOPS)?;
+    Some(Evidence {
+        cert: matches.get_str("cert"),
+        vcd: matches.get_str("vcd"),
+        loops,
+    })
 }
 
 /// The limits that the options of `prove` say.

@@ -17,6 +17,7 @@ pub enum Kind {
     Show,
     Prove,
     Check,
+    Replay,
 }
 
 /// The command of this name.
@@ -30,6 +31,7 @@ pub fn kind_named(name: &str) -> Option<Kind>
         "show" => Some(Kind::Show),
         "prove" => Some(Kind::Prove),
         "check" => Some(Kind::Check),
+        "replay" => Some(Kind::Replay),
         _ => None,
     }
 }
@@ -70,12 +72,19 @@ pub fn args_of<'a>(alloc: Global, kind: Kind) -> Result<Vec<Arg<'a>>, AllocError
             option(alloc, "visits", "4"),
             option(alloc, "steps", "1000000"),
             optional(alloc, "cert"),
+            optional(alloc, "vcd"),
+            option(alloc, "loops", "1"),
         ]?,
         Kind::Check => vec![in alloc;
             required(alloc, "unit"),
             required(alloc, "netlist"),
             required(alloc, "number"),
             required(alloc, "certificate"),
+        ]?,
+        Kind::Replay => vec![in alloc;
+            required(alloc, "unit"),
+            required(alloc, "netlist"),
+            required(alloc, "recording"),
         ]?,
     };
     Ok(args)

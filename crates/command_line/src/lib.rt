@@ -4,9 +4,9 @@
 
 ghost use Rattle.std.specs.Prelude.{◌≡◌, ◌∷◌, ◌<◌, ◌≤◌, ◌^◌, [], codes, decimal, ℕ, List, map, IfOk, IfErr, string_bytes};
 ghost use Rattle.command_line.specs.Commands.{IsCommand, IsNoCommand, IsRefused, Meaning, meaning_of, most_seed};
-ghost use Rattle.command_line.specs.Commands.Meaning.{wave as a_wave, gen as a_gen, show as a_show, show_netlist as a_netlist, prove as a_proof, check as a_check};
+ghost use Rattle.command_line.specs.Commands.Meaning.{wave as a_wave, gen as a_gen, show as a_show, show_netlist as a_netlist, prove as a_proof, check as a_check, replay as a_replay};
 ghost use Rattle.command_line.specs.Ranges.{AreInRange, IsInRange};
-ghost use Rattle.command_line.specs.Plain.{ArePlain, IsPlain, limits_of_depth, to_check, usual_limits, with_depth, with_options, with_unknown};
+ghost use Rattle.command_line.specs.Plain.{ArePlain, IsPlain, certificates_in, limits_of_depth, recordings_in, to_check, usual_limits, with_depth, with_options, with_recordings, with_unknown};
 
 mod commands;
 mod kinds;
@@ -47,13 +47,12 @@ pub enum Command<'a> {
         netlist: &'a str,
     },
 
-    /// Proves the assertions of a text of a netlist, or finds runs that violate them. The certificate of
-    /// a proof of assertion N is to be written to the name `PREFIX.N.cert`, where `cert` has a PREFIX.
+    /// Proves the assertions of a text of a netlist, or finds runs that violate them.
     Prove {
         unit: &'a str,
         netlist: &'a str,
         limits: Limits,
-        cert: Option<&'a str>,
+        evidence: Evidence<'a>,
     },
 
     /// Checks the certificate of an assertion of a text, which are numbered from 1, over a netlist.
@@ -63,6 +62,26 @@ pub enum Command<'a> {
         number: u32,
         certificate: &'a str,
     },
+
+    /// Tells whether a recording is a path of a netlist, and judges the assertions of a text on it.
+    Replay {
+        unit: &'a str,
+        netlist: &'a str,
+        recording: &'a str,
+    },
+}
+
+/// The files in which `prove` leaves what it found.
+#[derive(Clone, Copy, Debug, PartialEq, Eq)]
+pub struct Evidence<'a> {
+    /// The certificate of a proof of assertion N is to be written to the name `PREFIX.N.cert`, where there is a PREFIX.
+    pub cert: Option<&'a str>,
+
+    /// The recording of a run that violates assertion N is to be written to the name `PREFIX.N.vcd`, where there is one.
+    pub vcd: Option<&'a str>,
+
+    /// How often the loop of a run is written in its recording, from 1 to 16.
+    pub loops: u32,
 }
 
 /// How a bit of a recording reads that is neither 0 nor 1.
@@ -116,7 +135,7 @@ impl From<AllocError> for WordsFault {
 /// The command that the words after the program's name say; `most_samples` is the limit on samples.
 ///
 /// # Errors
-/// `Usage` where the words are no command: the first is none of `wave`, `gen`, `show`, `prove` and `check`,
+/// `Usage` where the words are no command: the first is none of `wave`, `gen`, `show`, `prove`, `check` and `replay`,
 /// `clap` refuses those after it, a number is not in its decimal form or not in its range, or the word for unknown bits is
 /// none of `zero`, `one` and `refuse`.
 pub fn read_words<'a>(
@@ -158,9 +177,14 @@ pub fn plain_words()
     ensures unknown { (most : ℕ) (unit recording : List ℕ) (unknown : Unknown) → IsPlain unit → IsPlain recording → IsCommand most (with_unknown unit recording unknown) (a_wave unit recording unknown) }
     ensures show { (most : ℕ) (unit names : List ℕ) → IsPlain unit → IsPlain names → IsCommand most (codes "show" ∷ unit ∷ names ∷ []) (a_show unit names) }
     ensures netlist { (most : ℕ) (unit netlist : List ℕ) → IsPlain unit → IsPlain netlist → IsCommand most (codes "show" ∷ unit ∷ netlist ∷ codes "--netlist" ∷ []) (a_netlist unit netlist) }
-    ensures prove { (most : ℕ) (unit netlist : List ℕ) → IsPlain unit → IsPlain netlist → IsCommand most (codes "prove" ∷ unit ∷ netlist ∷ []) (a_proof unit netlist usual_limits None) }
-    ensures depth { (most : ℕ) (unit netlist : List ℕ) (depth : ℕ) → IsPlain unit → IsPlain netlist → 1 ≤ depth → depth ≤ 1000 → IsCommand most (with_depth unit netlist depth) (a_proof unit netlist (limits_of_depth depth) None) }
-    ensures options { (most : ℕ) (unit netlist cert : List ℕ) (limits : Limits) → ArePlain unit netlist cert → AreInRange limits → IsCommand most (with_options unit netlist limits cert) (a_proof unit netlist limits (Some cert)) }
+    ensures prove { (most : ℕ) (unit netlist : List ℕ) → IsPlain unit → IsPlain netlist → IsCommand most (codes "prove" ∷ unit ∷ netlist ∷ []) (a_proof unit netlist usual_limits (certificates_in None)) }
+    ensures depth { (most : ℕ) (unit netlist : List ℕ) (depth : ℕ) → IsPlain unit → IsPlain netlist → 1 ≤ depth → depth ≤ 1000
+        → IsCommand most (with_depth unit netlist depth) (a_proof unit netlist (limits_of_depth depth) (certificates_in None)) }
+    ensures options { (most : ℕ) (unit netlist cert : List ℕ) (limits : Limits) → ArePlain unit netlist cert → AreInRange limits
+        → IsCommand most (with_options unit netlist limits cert) (a_proof unit netlist limits (certificates_in (Some cert))) }
+    ensures recordings { (most : ℕ) (unit netlist vcd : List ℕ) (loops : ℕ) → ArePlain unit netlist vcd → 1 ≤ loops → loops ≤ 16
+        → IsCommand most (with_recordings unit netlist vcd loops) (a_proof unit netlist usual_limits (recordings_in vcd loops)) }
+    ensures replay { (most : ℕ) (unit netlist recording : List ℕ) → ArePlain unit netlist recording → IsCommand most (codes "replay" ∷ unit ∷ netlist ∷ recording ∷ []) (a_replay unit netlist recording) }
     ensures check { (most : ℕ) (unit netlist proof : List ℕ) (number : ℕ) → ArePlain unit netlist proof → 1 ≤ number → number < 2 ^ 32 → IsCommand most (to_check unit netlist number proof) (a_check unit netlist number proof) }
     ensures wave_behind { (most : ℕ) (unit recording : List ℕ) → IsCommand most (codes "wave" ∷ codes "--" ∷ unit ∷ recording ∷ []) (a_wave unit recording Unknown.Zero) }
     ensures show_behind { (most : ℕ) (unit names : List ℕ) → IsCommand most (codes "show" ∷ codes "--" ∷ unit ∷ names ∷ []) (a_show unit names) }

@@ -1,20 +1,22 @@
 -- From the stage of a command, or from words that are none, to the answer of a run.
-use Rattle.std.proofs.Common.{◌≡◌, refl, sym, ◌∙◌, ap, subst, ℕ, List, [], ◌∷◌, Option, Some, inl, inr}
+use Rattle.std.proofs.Common.{◌≡◌, refl, sym, ◌∙◌, ap, subst, ℕ, List, [], ◌∷◌, Some, inl, inr}
 use Rattle.std.specs.Prelude.{◌≢◌, ◌⊎◌, Result, Ok, Err, IfOk, IfErr}
 use Rattle.command_line.specs.Commands.{Meaning}
-use Rattle.command_line.specs.Commands.Meaning.{wave, show, show_netlist, gen, prove, check}
+use Rattle.command_line.specs.Commands.Meaning.{wave, show, show_netlist, gen, prove, check, replay}
+use Rattle.command_line.specs.Evidences.{Wanted}
 use Rattle.command_line.specs.declared.Unknown.{Unknown}
 use Rattle.command_line.specs.declared.Limits.{Limits}
 use Rattle.psl_base.specs.Shelf.{Contents, ShelfState}
 use Rattle.commands.proofs.Staging.{cause-moved, same_state, none-unread}
 use Rattle.certificate.specs.declared.answer.CertAnswer.{CertAnswer}
 use Rattle.commands.specs.Checks.{CheckStage}
-use Rattle.commands.specs.Commands.{CommandStage, FirstRefusal, IsCommand, IsNoCommand, IsNamed, IsOfCommand, IsOutcomeOf, MeaningStage, MeaningOutcome, files_of, findings_outcome}
+use Rattle.commands.specs.Commands.{CommandStage, FirstRefusal, IsCommand, IsNoCommand, IsNamed, IsOfCommand, IsOutcomeOf, MeaningStage, MeaningOutcome, files_of, findings_outcome, replayed_outcome}
 use Rattle.commands.specs.Endings.{Explained, IsUnwritten}
 use Rattle.commands.specs.Faults.{of_none}
 use Rattle.commands.specs.Generated.{GeneratedStage}
 use Rattle.commands.specs.Planning.{IsAnswer}
 use Rattle.commands.specs.Provings.{ProveStage}
+use Rattle.commands.specs.Replays.{ReplayStage}
 use Rattle.commands.specs.Rows.{OfWords, OfReading, OfWriting, OfMemory, cause_of}
 use Rattle.commands.specs.Stages.{Then, OfTold, Gives, IsOfFiles, IsOfFilesOrMemory, IsStage, SpeaksOfFile}
 use Rattle.commands.specs.Waves.{WaveStage, ShowStage, ShowNetlistStage, unknown_of}
@@ -24,6 +26,7 @@ use Rattle.commands.specs.declared.outcome.Line.{Line}
 use Rattle.commands.specs.declared.outcome.Outcome.{Outcome}
 use Rattle.commands.specs.declared.outcome.Outcome.TheVariants.{Nothing, Wave, Checked, Shown, Made}
 use Rattle.commands.specs.declared.prove.Found.{Found}
+use Rattle.commands.specs.declared.replayed.Replayed.{Replayed}
 use Rattle.commands.specs.declared.reason.Reason.TheVariants.{Usage, ReadFault, WriteFault, NoMemory}
 use Rattle.wave_judge.specs.declared.verdict.Verdict.{Verdict}
 
@@ -183,15 +186,15 @@ pub netlist-refuses : (words : List (List ℕ)) (unit netlist : List ℕ) (old n
 netlist-refuses words unit netlist old new fault is s =
     stage-refuses words (show_netlist unit netlist) is old new (ShowNetlistStage unit netlist) Shown (λ files result h. h) fault s
 
-pub proof-answers : (words : List (List ℕ)) (unit netlist : List ℕ) (limits : Limits) (cert : Option (List ℕ)) (old new : ShelfState) (found : Found) → IsCommand words (prove unit netlist limits cert)
-    → IsStage (unit ∷ netlist ∷ []) (ProveStage unit netlist limits) old new (Ok found) → IsAnswer itself words old new (Ok (findings_outcome limits found))
-proof-answers words unit netlist limits cert old new found is s =
-    stage-answers words (prove unit netlist limits cert) is old new (ProveStage unit netlist limits) (findings_outcome limits) (λ files result h. h) found (found, refl) (λ e. cc) s
+pub proof-answers : (words : List (List ℕ)) (unit netlist : List ℕ) (limits : Limits) (wanted : Wanted) (old new : ShelfState) (found : Found) → IsCommand words (prove unit netlist limits wanted)
+    → IsStage (unit ∷ netlist ∷ []) (ProveStage unit netlist limits wanted) old new (Ok found) → IsAnswer itself words old new (Ok (findings_outcome limits found))
+proof-answers words unit netlist limits wanted old new found is s =
+    stage-answers words (prove unit netlist limits wanted) is old new (ProveStage unit netlist limits wanted) (findings_outcome limits) (λ files result h. h) found (found, refl) (λ e. cc) s
 
-pub proof-refuses : (words : List (List ℕ)) (unit netlist : List ℕ) (limits : Limits) (cert : Option (List ℕ)) (old new : ShelfState) (fault : Fault) → IsCommand words (prove unit netlist limits cert)
-    → IsStage (unit ∷ netlist ∷ []) (ProveStage unit netlist limits) old new (Err fault) → IsAnswer itself words old new (Err fault)
-proof-refuses words unit netlist limits cert old new fault is s =
-    stage-refuses words (prove unit netlist limits cert) is old new (ProveStage unit netlist limits) (findings_outcome limits) (λ files result h. h) fault s
+pub proof-refuses : (words : List (List ℕ)) (unit netlist : List ℕ) (limits : Limits) (wanted : Wanted) (old new : ShelfState) (fault : Fault) → IsCommand words (prove unit netlist limits wanted)
+    → IsStage (unit ∷ netlist ∷ []) (ProveStage unit netlist limits wanted) old new (Err fault) → IsAnswer itself words old new (Err fault)
+proof-refuses words unit netlist limits wanted old new fault is s =
+    stage-refuses words (prove unit netlist limits wanted) is old new (ProveStage unit netlist limits wanted) (findings_outcome limits) (λ files result h. h) fault s
 
 pub check-answers : (words : List (List ℕ)) (unit netlist : List ℕ) (number : ℕ) (certificate : List ℕ) (old new : ShelfState) (answer : CertAnswer)
     → IsCommand words (check unit netlist number certificate)
@@ -205,6 +208,16 @@ pub check-refuses : (words : List (List ℕ)) (unit netlist : List ℕ) (number 
     → IsStage (unit ∷ netlist ∷ certificate ∷ []) (CheckStage unit netlist number certificate) old new (Err fault) → IsAnswer itself words old new (Err fault)
 check-refuses words unit netlist number certificate old new fault is s =
     stage-refuses words (check unit netlist number certificate) is old new (CheckStage unit netlist number certificate) (Checked number) (λ files result h. h) fault s
+
+pub replay-answers : (words : List (List ℕ)) (unit netlist recording : List ℕ) (old new : ShelfState) (found : Replayed) → IsCommand words (replay unit netlist recording)
+    → IsStage (unit ∷ netlist ∷ recording ∷ []) (ReplayStage unit netlist recording) old new (Ok found) → IsAnswer itself words old new (Ok (replayed_outcome found))
+replay-answers words unit netlist recording old new found is s =
+    stage-answers words (replay unit netlist recording) is old new (ReplayStage unit netlist recording) replayed_outcome (λ files result h. h) found (found, refl) (λ e. cc) s
+
+pub replay-refuses : (words : List (List ℕ)) (unit netlist recording : List ℕ) (old new : ShelfState) (fault : Fault) → IsCommand words (replay unit netlist recording)
+    → IsStage (unit ∷ netlist ∷ recording ∷ []) (ReplayStage unit netlist recording) old new (Err fault) → IsAnswer itself words old new (Err fault)
+replay-refuses words unit netlist recording old new fault is s =
+    stage-refuses words (replay unit netlist recording) is old new (ReplayStage unit netlist recording) replayed_outcome (λ files result h. h) fault s
 
 made-some : (seed samples : ℕ) (outcome : Outcome) → GeneratedStage seed samples (Ok outcome) → outcome ≢ Nothing
 made-some seed samples outcome (verdicts, are, e) is =

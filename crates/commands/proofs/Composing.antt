@@ -96,6 +96,15 @@ module _ (names more : List (List ℕ)) (among : (fault : Fault) → IsOfFiles n
     kept = s.kept;
   }
 
+  -- the same of a reading
+  pub reading-among : {A : Type 0} (Reading : Result A Fault → Type 0) (result : Result A Fault) → IsReading names Reading result → IsReading more Reading result
+  reading-among Reading (Ok a) r = record { gives = r.gives; refuses = tt }
+  reading-among Reading (Err fault) r = record { gives = tt; refuses = by r.refuses }
+    where
+      by : TextFails names (λ f. Reading (Err f)) fault → TextFails more (λ f. Reading (Err f)) fault
+      by (inl e) = inl e
+      by (inr t) = inr record { cause = t.cause; file = among fault t.file; refusal = t.refusal }
+
 -- the value of a stage is made into another
 pub stage-value : {A B : Type 0} (names : List (List ℕ)) (First : Contents → Result A Fault → Type 0) (value : A → B) (old new : ShelfState) (a : A)
     → IsStage names First old new (Ok a) → IsStage names (Then First (λ a files result. result ≡ Ok (value a))) old new (Ok (value a))

@@ -11,12 +11,15 @@ pub mod OneAnswer
 pub mod Pieces
 pub mod Reasons
 pub mod Recordings
+pub mod Replaying
 pub mod SameChecks
 pub mod SameOwed
 pub mod SameUnits
 pub mod Saving
 pub mod Sources
 pub mod Staging
+pub mod Thirds
+pub mod Traces
 pub mod Unknowns
 pub mod Valuations
 pub mod Written

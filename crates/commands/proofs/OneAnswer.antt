@@ -9,7 +9,8 @@ use Rattle.psl_base.specs.Shelf.{Contents}
 use Rattle.psl_base.specs.declared.place.Place.{Place}
 use Rattle.command_line.proofs.Meanings.{one_meaning}
 use Rattle.command_line.specs.Commands.{Meaning}
-use Rattle.command_line.specs.Commands.Meaning.{wave, show, show_netlist, gen, prove, check}
+use Rattle.command_line.specs.Commands.Meaning.{wave, show, show_netlist, gen, prove, check, replay}
+use Rattle.command_line.specs.Evidences.{Wanted}
 use Rattle.command_line.specs.declared.Limits.{Limits}
 use Rattle.findings.proofs.Faults.{one_fault as one_size_fault, not_both as within_or_not}
 use Rattle.psl_grammar.specs.declared.tree.UnitTree.{UnitTree}
@@ -43,13 +44,14 @@ use Rattle.commands.proofs.Unknowns.{one-known}
 use Rattle.commands.specs.Diagnostics.{lex_diagnostic, parse_diagnostic, layer_diagnostic, judge_diagnostic, vcd_diagnostic, blif_diagnostic}
 use Rattle.certificate.specs.declared.answer.CertAnswer.{CertAnswer}
 use Rattle.commands.specs.Checks.{CertReading, CertStage, CheckStage}
-use Rattle.commands.specs.Commands.{CommandStage, FirstRefusal, MeaningStage, findings_outcome}
-use Rattle.commands.specs.Faults.{of_none}
+use Rattle.commands.specs.Commands.{CommandStage, FirstRefusal, MeaningStage, findings_outcome, replayed_outcome}
+use Rattle.commands.specs.Faults.{missing_in, of_none}
 use Rattle.commands.specs.Generated.{GeneratedStage}
 use Rattle.commands.specs.Provings.{FoundReading, ProveStage, size_fault}
+use Rattle.commands.specs.Replays.{ReplayReading, ReplayStage, ReplayedReading, replayed_of}
 use Rattle.commands.specs.Stages.{AndThen, OfFile, Then}
 use Rattle.commands.specs.Waves.{TokensReading, TreeReading, UnitReading, UnitStage, TextAnd, DirectivesReading}
-use Rattle.commands.specs.Waves.{RecordingReading, InputsStage, with_recording, NetlistReading, CircuitStage, with_netlist}
+use Rattle.commands.specs.Waves.{RecordingReading, RecordingStage, InputsStage, with_recording, NetlistReading, CircuitStage, with_netlist}
 use Rattle.commands.specs.Waves.{AreJudged, JudgeReading, KnownReading, VerdictsReading, WaveStage, unknown_of}
 use Rattle.commands.specs.Waves.{LinesReading, ShowStage, ShowNetlistStage, line_of}
 use Rattle.commands.specs.Waves.{SubjectReading, SubjectStage, subject_of}
@@ -62,8 +64,12 @@ use Rattle.commands.specs.declared.outcome.Outcome.TheVariants.{Wave, Checked, S
 use Rattle.commands.specs.declared.prove.Found.{Found}
 use Rattle.commands.specs.declared.reason.Reason.{Reason}
 use Rattle.commands.specs.declared.reason.Reason.TheVariants.{Usage, NoMemory}
+use Rattle.commands.specs.declared.replayed.Replayed.{Replayed}
 use Rattle.commands.specs.declared.subject.Subject.{Subject}
 use Rattle.vcd_reader.specs.declared.unknown.Unknown.{Unknown}
+use Rattle.replay.specs.Recorded.{first_missing}
+use Rattle.replay.specs.declared.answer.Replay.{Replay}
+use Rattle.trace.specs.Trace.{first_text}
 use Rattle.vcd_reader.specs.declared.unknown.Unknown.TheVariants.{Zero}
 use Rattle.vcd_reader.specs.Meaning.{reading}
 use Rattle.vcd_reader.specs.Rules.{sample_limit}
@@ -288,22 +294,22 @@ one-subject unit netlist files =
     agree-then SameCircuit SameSubject (CircuitStage unit netlist files) (CircuitStage unit netlist files) (SubjectReading unit) (SubjectReading unit)
     (one-circuit unit netlist files) (one-directives-of unit)
 
-one-found-of : (unit netlist : List ℕ) (limits : Limits) (design : Design) (u v : List Directive) → SameUnit u v
-    → Agree (Any-two {A = Found}) (FoundReading unit netlist limits (record { netlist = design; directives = u }))
-    (FoundReading unit netlist limits (record { netlist = design; directives = v }))
-one-found-of unit netlist limits design u v s (Ok a) (Ok b) h k = tt
-one-found-of unit netlist limits design u v s (Ok a) (Err g) h (c, first, _) =
+one-found-of : (unit netlist : List ℕ) (limits : Limits) (wanted : Wanted) (design : Design) (u v : List Directive) → SameUnit u v
+    → Agree (Any-two {A = Found}) (FoundReading unit netlist limits wanted (record { netlist = design; directives = u }))
+    (FoundReading unit netlist limits wanted (record { netlist = design; directives = v }))
+one-found-of unit netlist limits wanted design u v s (Ok a) (Ok b) h k = tt
+one-found-of unit netlist limits wanted design u v s (Ok a) (Err g) h (c, first, _) =
     absurd (within_or_not design limits.depth v c (are-within design limits.depth u v s h.0) first)
-one-found-of unit netlist limits design u v s (Err f) (Ok b) (c, first, _) k =
+one-found-of unit netlist limits wanted design u v s (Err f) (Ok b) (c, first, _) k =
     absurd (within_or_not design limits.depth v c k.0 (same-first-refused design limits.depth u v s c first))
-one-found-of unit netlist limits design u v s (Err f) (Err g) (c, first, e) (d, first', e') =
+one-found-of unit netlist limits wanted design u v s (Err f) (Err g) (c, first, e) (d, first', e') =
     e ∙ ap (size_fault unit netlist) (one_size_fault design limits.depth v c d (same-first-refused design limits.depth u v s c first) first') ∙ sym e'
 
-one-found : (unit netlist : List ℕ) (limits : Limits) (i j : Subject) → SameSubject i j
-    → Agree (Any-two {A = Found}) (FoundReading unit netlist limits i) (FoundReading unit netlist limits j)
-one-found unit netlist limits i j same =
-    subst (λ (d : Design). Agree (Any-two {A = Found}) (FoundReading unit netlist limits i) (FoundReading unit netlist limits (record { netlist = d; directives = j.directives }))) same.netlists
-    (one-found-of unit netlist limits i.netlist i.directives j.directives same.directives)
+one-found : (unit netlist : List ℕ) (limits : Limits) (wanted : Wanted) (i j : Subject) → SameSubject i j
+    → Agree (Any-two {A = Found}) (FoundReading unit netlist limits wanted i) (FoundReading unit netlist limits wanted j)
+one-found unit netlist limits wanted i j same =
+    subst (λ (d : Design). Agree (Any-two {A = Found}) (FoundReading unit netlist limits wanted i) (FoundReading unit netlist limits wanted (record { netlist = d; directives = j.directives }))) same.netlists
+    (one-found-of unit netlist limits wanted i.netlist i.directives j.directives same.directives)
 
 -- certificates
 
@@ -319,6 +325,60 @@ one-cert : (unit netlist : List ℕ) (number : ℕ) (certificate : List ℕ) (fi
 one-cert unit netlist number certificate files i j same =
     agree-content (Any-two {A = CertAnswer}) (CertReading unit netlist number i) (CertReading unit netlist number j) certificate (files certificate)
     (one-checked unit netlist number i j same)
+
+-- replays
+
+one-name : (names : List Name) (first : Option ℕ) (a b : ℕ) (x y : List ℕ) → first ≡ Some a → first ≡ Some b → x ≡ first_text names a → y ≡ first_text names b → x ≡ y
+one-name names first a b x y p q e d =
+    let same : a ≡ b = cc in e ∙ ap (first_text names) same ∙ sym d
+
+some-or-none : (first : Option ℕ) (signal : ℕ) → first ≡ None → first ≡ Some signal → ⊥
+some-or-none first signal p q = cc
+
+one-replay : (name : List ℕ) (design : Design) (recording : Sampled)
+    → Agree (Any-two {A = Replay}) (ReplayReading name design recording) (ReplayReading name design recording)
+one-replay name design recording (Ok a) (Ok b) h k = tt
+one-replay name design recording (Ok a) (Err g) h (_, (signal, is, _), _) = absurd (some-or-none (first_missing design recording) signal h.none is)
+one-replay name design recording (Err f) (Ok b) (_, (signal, is, _), _) k = absurd (some-or-none (first_missing design recording) signal k.none is)
+one-replay name design recording (Err f) (Err g) (x, (a, p, e), is) (y, (b, q, d), are) =
+    is ∙ ap (missing_in name) (one-name design.names (first_missing design recording) a b x y p q e d) ∙ sym are
+
+one-replayed-of : (unit name : List ℕ) (t u : UnitTree) (design : Design) (recording : Sampled) → SameTree t u
+    → Agree (Any-two {A = Replayed}) (ReplayedReading unit name (record { tree = t; netlist = design }) recording)
+    (ReplayedReading unit name (record { tree = u; netlist = design }) recording)
+one-replayed-of unit name t u design recording same =
+    agree-then SameUnit (Any-two {A = Replayed}) (DirectivesReading unit t recording.names) (DirectivesReading unit u recording.names) rest rest
+    (one-directives unit recording.names t u same)
+    (λ v w s. agree-then (Any-two {A = Replay}) (Any-two {A = Replayed}) (ReplayReading name design recording) (ReplayReading name design recording)
+    (λ answer. last answer v) (λ answer. last answer w) (one-replay name design recording)
+    (λ a b _. agree-then (Any-two {A = List Verdict}) (Any-two {A = Replayed}) (JudgeReading unit recording v) (JudgeReading unit recording w)
+    (λ verdicts result. result ≡ Ok (replayed_of recording a verdicts)) (λ verdicts result. result ≡ Ok (replayed_of recording b verdicts)) (one-judged unit recording v w s)
+    (λ c d _ x y h k. alike-ok (Any-two {A = Replayed}) (replayed_of recording a c) (replayed_of recording b d) x y h k tt)))
+  where
+    last : Replay → List Directive → Result Replayed Fault → Type 0
+    last answer directives = AndThen (JudgeReading unit recording directives) (λ verdicts result. result ≡ Ok (replayed_of recording answer verdicts))
+
+    rest : List Directive → Result Replayed Fault → Type 0
+    rest directives = AndThen (ReplayReading name design recording) (λ answer. last answer directives)
+
+one-replayed : (unit name : List ℕ) (i j : Circuit) (r s : Sampled) → SameCircuit i j → r ≡ s
+    → Agree (Any-two {A = Replayed}) (ReplayedReading unit name i r) (ReplayedReading unit name j s)
+one-replayed unit name i j r s same recordings =
+    subst (λ (x : Sampled). Agree (Any-two {A = Replayed}) (ReplayedReading unit name i r) (ReplayedReading unit name j x)) recordings
+    (subst (λ (d : Design). Agree (Any-two {A = Replayed}) (ReplayedReading unit name i r) (ReplayedReading unit name (record { tree = j.tree; netlist = d }) r)) same.netlists
+    (one-replayed-of unit name i.tree j.tree i.netlist r same.trees))
+
+one-replayed-stage : (unit netlist name : List ℕ) (files : Contents)
+    → Agree (Any-two {A = Replayed}) (ReplayStage unit netlist name files) (ReplayStage unit netlist name files)
+one-replayed-stage unit netlist name files =
+    agree-then SameCircuit (Any-two {A = Replayed}) (CircuitStage unit netlist files) (CircuitStage unit netlist files) (λ i. behind i) (λ j. behind j) (one-circuit unit netlist files)
+    (λ i j same. agree-then (λ (r s : Sampled). r ≡ s) (Any-two {A = Replayed}) (RecordingStage Zero name files) (RecordingStage Zero name files)
+    (ReplayedReading unit name i) (ReplayedReading unit name j)
+    (agree-content (λ (r s : Sampled). r ≡ s) (RecordingReading Zero name) (RecordingReading Zero name) name (files name) (one-recording Zero name))
+    (λ r s e. one-replayed unit name i j r s same e))
+  where
+    behind : Circuit → Result Replayed Fault → Type 0
+    behind circuit = Then (RecordingStage Zero name) (λ recording _. ReplayedReading unit name circuit recording) files
 
 -- commands: the stage of one gives one fault, or outcomes
 
@@ -350,14 +410,16 @@ one-meaning (show_netlist unit netlist) files =
     one-outcome (Any-two {A = List Line}) (ShowNetlistStage unit netlist) Shown files
     (one-loaded SameCircuit (CircuitStage unit netlist) (λ circuit. LinesReading unit circuit.tree circuit.netlist.names) files (one-circuit unit netlist files)
     (λ i j same. one-lines unit i.tree j.tree i.netlist.names j.netlist.names same.trees (ap (λ (d : Design). d.names) same.netlists)))
-one-meaning (prove unit netlist limits cert) files =
-    one-outcome (Any-two {A = Found}) (ProveStage unit netlist limits) (findings_outcome limits) files
-    (one-loaded SameSubject (SubjectStage unit netlist) (FoundReading unit netlist limits) files (one-subject unit netlist files) (one-found unit netlist limits))
+one-meaning (prove unit netlist limits wanted) files =
+    one-outcome (Any-two {A = Found}) (ProveStage unit netlist limits wanted) (findings_outcome limits) files
+    (one-loaded SameSubject (SubjectStage unit netlist) (FoundReading unit netlist limits wanted) files (one-subject unit netlist files) (one-found unit netlist limits wanted))
 one-meaning (check unit netlist number certificate) files =
     one-outcome (Any-two {A = CertAnswer}) (CheckStage unit netlist number certificate) (Checked number) files
     (agree-then SameSubject (Any-two {A = CertAnswer}) (SubjectStage unit netlist files) (SubjectStage unit netlist files)
     (λ i. CertStage unit netlist number certificate i files) (λ j. CertStage unit netlist number certificate j files)
     (one-subject unit netlist files) (one-cert unit netlist number certificate files))
+one-meaning (replay unit netlist name) files =
+    one-outcome (Any-two {A = Replayed}) (ReplayStage unit netlist name) replayed_outcome files (one-replayed-stage unit netlist name files)
 one-meaning (gen seed samples) files = one-made seed samples
 
 -- words are one command at most

@@ -8,10 +8,11 @@ use Rattle.psl_base.specs.Sink.{SinkState, AddsPart}
 use Rattle.saving.specs.Saves.{NewFile, SavesAll, SavesPart, file_of, with_files}
 use Rattle.saving.specs.declared.Save.{Save}
 use Rattle.command_line.specs.Commands.{Meaning}
+use Rattle.command_line.specs.Evidences.{Wanted}
 use Rattle.commands.specs.Commands.{IsCommand}
 use Rattle.commands.specs.Endings.{EndsFaulted, EndsWith}
 use Rattle.commands.specs.Faults.{of_none}
-use Rattle.commands.specs.Saved.{AreToWrite, FailsPlanned, FailsToWrite, HasSaved, IsSaved, IsSavedBy, Writes, WritingFails, certificates, of_command, of_nothing, prefix_of, unprinted, unsaved}
+use Rattle.commands.specs.Saved.{AreToWrite, FailsPlanned, FailsToWrite, HasSaved, IsSaved, IsSavedBy, Writes, WritingFails, files_of_outcome, of_command, of_nothing, unprinted, unsaved, wanted_of}
 use Rattle.commands.specs.declared.finish.Planned.{Planned}
 use Rattle.commands.specs.declared.outcome.Fault.{Fault}
 use Rattle.commands.specs.declared.outcome.Outcome.{Outcome}
@@ -111,10 +112,10 @@ module _ (saves : List Save) (text : List ℕ) (old new : ShelfState) (out out' 
   failed-text (unprinted all part) = inl part
 
 -- what is planned to be written is what the command asks for
-pub planned-to-write : (words : List (List ℕ)) (meaning : Meaning) (outcome : Outcome) (planned : Result Planned Fault) (prefix : Option (List ℕ))
-    → IsCommand words meaning → prefix ≡ prefix_of meaning → IfOk planned (λ made. made.outcome ≡ outcome)
-    → IfOk planned (λ made. map file_of made.saves ≡ certificates prefix outcome)
+pub planned-to-write : (words : List (List ℕ)) (meaning : Meaning) (outcome : Outcome) (planned : Result Planned Fault) (wanted : Wanted)
+    → IsCommand words meaning → wanted ≡ wanted_of meaning → IfOk planned (λ made. made.outcome ≡ outcome)
+    → IfOk planned (λ made. map file_of made.saves ≡ files_of_outcome wanted outcome)
     → IfOk planned (λ made. AreToWrite words made.outcome (map file_of made.saves))
-planned-to-write words meaning outcome (Ok made) prefix is same found saves =
-    of_command meaning is (saves ∙ ap (λ (p : Option (List ℕ)). certificates p outcome) same ∙ ap (certificates (prefix_of meaning)) (sym found))
-planned-to-write words meaning outcome (Err f) prefix is same found saves = tt
+planned-to-write words meaning outcome (Ok made) wanted is same found saves =
+    of_command meaning is (saves ∙ ap (λ (w : Wanted). files_of_outcome w outcome) same ∙ ap (files_of_outcome (wanted_of meaning)) (sym found))
+planned-to-write words meaning outcome (Err f) wanted is same found saves = tt

@@ -12,6 +12,7 @@ use Rattle.certificate.specs.declared.answer.CertAnswer.TheVariants.{Passed}
 use Rattle.certificate.specs.declared.certificate.Certificate.{Certificate}
 use Rattle.certificate.specs.declared.header.Asked.{Asked}
 use Rattle.certificate.specs.declared.header.Version.TheVariants.{Two}
+use Rattle.command_line.specs.Evidences.{Wanted}
 use Rattle.command_line.specs.declared.Limits.{Limits}
 use Rattle.findings.specs.Assertions.{assertions}
 use Rattle.findings.specs.Entries.{AreEntries, IsEntry, IsPassedFor}
@@ -27,7 +28,7 @@ use Rattle.commands.proofs.SameChecks.{SameFound, moved-cause, cause-of, fault-o
 use Rattle.commands.proofs.SameOwed.{same-violation}
 use Rattle.commands.proofs.SameUnits.{SameUnit}
 use Rattle.commands.specs.Checks.{CertReading, CheckStage}
-use Rattle.commands.specs.Provings.{ProveStage, options_of}
+use Rattle.commands.specs.Provings.{ProveStage, options_of, recordings_in}
 use Rattle.commands.specs.Stages.{AndThen, OfContent}
 use Rattle.commands.specs.Waves.{CircuitStage, NetlistReading, NetlistStage, SubjectReading, SubjectStage, UnitReading, UnitStage, with_netlist}
 use Rattle.commands.specs.declared.outcome.Fault.{Fault}
@@ -61,13 +62,13 @@ module _ (unit netlist : List ℕ) (files later : Contents) (units : later unit 
 
 -- one of the findings
 
-entry-at : (design : Design) (unit : List Directive) (options : Options) (some : List Directive) (entries : List FindingEntry) (place : ℕ) (entry : FindingEntry)
-    → AreEntries design unit options some entries → slice_get entries place ≡ Some entry → (a : Directive) × IsEntry design unit options a entry
-entry-at design unit options some [] place entry are is = absurd (let wrong : None ≡ Some entry = is in cc)
-entry-at design unit options [] (e ∷ es) place entry are is = absurd are
-entry-at design unit options (a ∷ more) (e ∷ es) zero entry are is =
-    let same : e ≡ entry = cc in (a, subst (IsEntry design unit options a) same are.0)
-entry-at design unit options (a ∷ more) (e ∷ es) (suc place) entry are is = entry-at design unit options more es place entry are.1 is
+entry-at : (design : Design) (unit : List Directive) (options : Options) (wanted : Option (List ℕ × ℕ)) (some : List Directive) (entries : List FindingEntry) (place : ℕ) (entry : FindingEntry)
+    → AreEntries design unit options wanted some entries → slice_get entries place ≡ Some entry → (a : Directive) × IsEntry design unit options wanted a entry
+entry-at design unit options wanted some [] place entry are is = absurd (let wrong : None ≡ Some entry = is in cc)
+entry-at design unit options wanted [] (e ∷ es) place entry are is = absurd are
+entry-at design unit options wanted (a ∷ more) (e ∷ es) zero entry are is =
+    let same : e ≡ entry = cc in (a, subst (IsEntry design unit options wanted a) same are.0)
+entry-at design unit options wanted (a ∷ more) (e ∷ es) (suc place) entry are is = entry-at design unit options wanted more es place entry are.1 is
 
 -- the formulas of one number are the same
 
@@ -108,7 +109,7 @@ of-content : (unit netlist certificate : List ℕ) (i j : Subject) (number : ℕ
 of-content unit netlist certificate i j number evidence result same passed few (inl (many, _)) = absurd (omega arith)
 of-content unit netlist certificate i j number evidence result same passed few (inr (_, is)) = passed-by unit netlist i j number evidence result same passed is
 
-module _ (unit netlist certificate : List ℕ) (limits : Limits) (files later : Contents) (found : Found) (place : ℕ) (entry : FindingEntry) (evidence : Certificate)
+module _ (unit netlist certificate : List ℕ) (limits : Limits) (wanted : Wanted) (files later : Contents) (found : Found) (place : ℕ) (entry : FindingEntry) (evidence : Certificate)
     (here : slice_get found.findings place ≡ Some entry) (proved : entry.finding ≡ Proved evidence)
     (units : later unit ≡ files unit) (netlists : later netlist ≡ files netlist) (written : later certificate ≡ Some (cert_text Two evidence))
     (few : length (cert_text Two evidence) ≤ file_limit) where
@@ -121,9 +122,9 @@ module _ (unit netlist certificate : List ℕ) (limits : Limits) (files later : 
       (one-subject unit netlist files (Ok subject) (Ok other) is (subject-moved unit netlist files later units netlists (Ok other) given)) passed few
       (subst (λ (o : Option (List ℕ)). OfContent (CertReading unit netlist entry.number other) certificate o result) written read)
 
-  pub written-passes : ProveStage unit netlist limits files (Ok found) → (result : Result CertAnswer Fault)
+  pub written-passes : ProveStage unit netlist limits wanted files (Ok found) → (result : Result CertAnswer Fault)
       → CheckStage unit netlist entry.number certificate later result → result ≡ Ok Passed
   written-passes (inl (fault, _, e)) result check = absurd (let wrong : Ok found ≡ Err fault = e in cc)
   written-passes (inr (subject, is, about)) result check =
-      let at = entry-at subject.netlist subject.directives (options_of limits) (assertions subject.directives) found.findings place entry about.1.findings here in
+      let at = entry-at subject.netlist subject.directives (options_of limits) (recordings_in wanted) (assertions subject.directives) found.findings place entry about.1.findings here in
       checked subject is (at.1.passed evidence proved) result check

@@ -2,7 +2,7 @@
 use Rattle.std.specs.Prelude.{◌≡◌, ℕ, ◌⊎◌, List, [], ◌∷◌, Option, Some, Result, Ok, Err}
 use Rattle.command_line.specs.Commands as words_of
 use Rattle.command_line.specs.Commands.{Meaning}
-use Rattle.command_line.specs.Commands.Meaning.{wave, show, show_netlist, gen, prove, check}
+use Rattle.command_line.specs.Commands.Meaning.{wave, show, show_netlist, gen, prove, check, replay}
 use Rattle.command_line.specs.declared.Limits.{Limits}
 use Rattle.psl_base.specs.Shelf.{Contents, ShelfState}
 use Rattle.certificate.specs.declared.answer.CertAnswer.{CertAnswer}
@@ -16,15 +16,18 @@ use Rattle.commands.specs.Waves.{WaveStage, ShowStage, ShowNetlistStage, unknown
 use Rattle.commands.specs.declared.outcome.Fault.{Fault}
 use Rattle.commands.specs.declared.outcome.Line.{Line}
 use Rattle.commands.specs.declared.outcome.Outcome.{Outcome}
-use Rattle.commands.specs.declared.outcome.Outcome.TheVariants.{Nothing, Wave, Findings, Checked, Shown}
+use Rattle.commands.specs.declared.outcome.Outcome.TheVariants.{Nothing, Wave, Findings, Checked, Shown, Replayed as OfReplay}
+use Rattle.commands.specs.Replays.{ReplayStage}
 use Rattle.commands.specs.declared.prove.Found.{Found}
+use Rattle.commands.specs.declared.replayed.Replayed.{Replayed}
 use Rattle.commands.specs.declared.reason.Reason.TheVariants.{Usage, WriteFault, NoMemory}
 use Rattle.vcd_reader.specs.Rules.{sample_limit}
 use Rattle.wave_judge.specs.declared.verdict.Verdict.{Verdict}
 
--- The words are this command: `wave UNIT RECORDING` with how unknown bits read, `show UNIT NAMES`, `show UNIT NETLIST --netlist`,
--- `prove UNIT NETLIST` with its limits and maybe a prefix, `check UNIT NETLIST NUMBER CERTIFICATE` with a number from 1 to
--- 2^32 - 1, or `gen SEED SAMPLES` with a seed below 2^31 and a number of samples from 1 to the limit on samples.
+-- The words are this command: `wave UNIT RECORDING` with how unknown bits read, `show UNIT NAMES`,
+-- `show UNIT NETLIST --netlist`, `prove UNIT NETLIST` with its limits and files, `check UNIT NETLIST NUMBER CERTIFICATE` with a
+-- number from 1 to 2^32 - 1, `replay UNIT NETLIST RECORDING`, or `gen SEED SAMPLES` with a seed below 2^31 and a number of samples
+-- from 1 to the limit on samples.
 abbrev pub IsCommand : List (List ℕ) → Meaning → Type 0
 IsCommand words meaning = words_of.IsCommand sample_limit words meaning
 
@@ -37,13 +40,18 @@ abbrev pub files_of : Meaning → List (List ℕ)
 files_of (wave unit recording unknown) = unit ∷ recording ∷ []
 files_of (show unit names) = unit ∷ names ∷ []
 files_of (show_netlist unit netlist) = unit ∷ netlist ∷ []
-files_of (prove unit netlist limits cert) = unit ∷ netlist ∷ []
+files_of (prove unit netlist limits evidence) = unit ∷ netlist ∷ []
 files_of (check unit netlist number certificate) = unit ∷ netlist ∷ certificate ∷ []
 files_of (gen seed samples) = []
+files_of (replay unit netlist recording) = unit ∷ netlist ∷ recording ∷ []
 
 -- the outcome of `prove`
 abbrev pub findings_outcome : Limits → Found → Outcome
 findings_outcome limits found = Findings found.findings found.columns limits.depth limits.visits
+
+-- the outcome of `replay`
+abbrev pub replayed_outcome : Replayed → Outcome
+replayed_outcome found = OfReplay found.replay found.samples found.verdicts
 
 -- what a command gives over contents: an outcome, or the first refusal
 abbrev pub MeaningStage : Meaning → Contents → Result Outcome Fault → Type 0
@@ -52,10 +60,12 @@ MeaningStage (wave unit recording unknown) files result =
 MeaningStage (show unit names) files result = Then (ShowStage unit names) (λ lines _ outcome. outcome ≡ Ok (Shown lines)) files result
 MeaningStage (show_netlist unit netlist) files result =
     Then (ShowNetlistStage unit netlist) (λ lines _ outcome. outcome ≡ Ok (Shown lines)) files result
-MeaningStage (prove unit netlist limits cert) files result =
-    Then (ProveStage unit netlist limits) (λ found _ outcome. outcome ≡ Ok (findings_outcome limits found)) files result
+MeaningStage (prove unit netlist limits evidence) files result =
+    Then (ProveStage unit netlist limits evidence) (λ found _ outcome. outcome ≡ Ok (findings_outcome limits found)) files result
 MeaningStage (check unit netlist number certificate) files result =
     Then (CheckStage unit netlist number certificate) (λ answer _ outcome. outcome ≡ Ok (Checked number answer)) files result
+MeaningStage (replay unit netlist recording) files result =
+    Then (ReplayStage unit netlist recording) (λ found _ outcome. outcome ≡ Ok (replayed_outcome found)) files result
 MeaningStage (gen seed samples) files result = GeneratedStage seed samples result
 
 -- what is known of a command's outcome whatever the files tell: its kind, and that of `gen` is exact
@@ -63,10 +73,11 @@ abbrev pub MeaningOutcome : Meaning → Outcome → Type 0
 MeaningOutcome (wave unit recording unknown) outcome = (verdicts : List Verdict) × (outcome ≡ Wave verdicts)
 MeaningOutcome (show unit names) outcome = (lines : List Line) × (outcome ≡ Shown lines)
 MeaningOutcome (show_netlist unit netlist) outcome = (lines : List Line) × (outcome ≡ Shown lines)
-MeaningOutcome (prove unit netlist limits cert) outcome =
+MeaningOutcome (prove unit netlist limits evidence) outcome =
     (found : Found) × (outcome ≡ findings_outcome limits found)
 MeaningOutcome (check unit netlist number certificate) outcome =
     (answer : CertAnswer) × (outcome ≡ Checked number answer)
+MeaningOutcome (replay unit netlist recording) outcome = (found : Replayed) × (outcome ≡ replayed_outcome found)
 MeaningOutcome (gen seed samples) outcome = GeneratedStage seed samples (Ok outcome)
 
 -- what the words give over contents: an outcome, or the first refusal

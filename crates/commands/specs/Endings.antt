@@ -16,8 +16,10 @@ use Rattle.commands.specs.Stages.{OfTold, HasCause}
 use Rattle.commands.specs.Text.{text_of, line_of}
 use Rattle.commands.specs.declared.outcome.Fault.{Fault}
 use Rattle.commands.specs.declared.outcome.Outcome.{Outcome}
-use Rattle.commands.specs.declared.outcome.Outcome.TheVariants.{Nothing, Wave, Findings, Checked, Shown, Made}
+use Rattle.commands.specs.declared.outcome.Outcome.TheVariants.{Nothing, Wave, Findings, Checked, Shown, Made, Replayed}
 use Rattle.commands.specs.declared.reason.Reason.TheVariants.{WriteFault, NoMemory}
+use Rattle.replay.specs.declared.answer.Replay.{Replay}
+use Rattle.replay.specs.declared.answer.Replay.TheVariants as replays
 use Rattle.wave_judge.specs.declared.verdict.Verdict.{Verdict}
 
 -- a cover may be neutral no
@@ -56,12 +58,18 @@ abbrev pub answer_status : CertAnswer → ℕ
 answer_status Passed = 0
 answer_status (Refused reason line) = 1
 
+-- 0 where the recording is a path and each assert and assume is neutral yes, else 1
+abbrev pub replay_status : Replay → List Verdict → ℕ
+replay_status replays.Path verdicts = verdicts_status verdicts
+replay_status (replays.Leaves sample signal name) verdicts = 1
+
 abbrev pub outcome_status : Outcome → ℕ
 outcome_status Nothing = 0
 outcome_status (Wave verdicts) = verdicts_status verdicts
 outcome_status (Findings entries columns depth visits) = findings_status entries
 outcome_status (Checked number answer) = answer_status answer
 outcome_status (Shown lines) = 0
+outcome_status (Replayed answer samples verdicts) = replay_status answer verdicts
 outcome_status (Made seed samples bytes verdicts) = verdicts_status verdicts
 
 -- the status of a run, from what it found out or from its fault

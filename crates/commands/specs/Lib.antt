@@ -6,6 +6,7 @@ pub mod Faults
 pub mod Generated
 pub mod Planning
 pub mod Provings
+pub mod Replays
 pub mod Rows
 pub mod Saved
 pub mod Stages

@@ -1,5 +1,6 @@
 -- What `prove UNIT NETLIST` gives: a finding for each assertion of the text on the netlist.
-use Rattle.std.specs.Prelude.{◌≡◌, ℕ, List, Result, Ok, Err}
+use Rattle.std.specs.Prelude.{◌≡◌, ℕ, List, Option, Result, Ok, Err, option_map}
+use Rattle.command_line.specs.Evidences.{Wanted}
 use Rattle.command_line.specs.declared.Limits.{Limits}
 use Rattle.findings.specs.Columns.{AreColumns}
 use Rattle.findings.specs.Entries.{AreFindings}
@@ -29,20 +30,24 @@ size_fault unit netlist (sizes.AutomatonTooLarge place) = fault_in unit (at reas
 size_fault unit netlist sizes.UnrollTooLarge = fault_in netlist (whole reasons.UnrollTooLarge)
 size_fault unit netlist sizes.NoMemory = of_none reasons.NoMemory
 
+-- which recordings are wanted
+abbrev pub recordings_in : Wanted → Option (List ℕ × ℕ)
+recordings_in wanted = option_map (λ (prefix : List ℕ). (prefix, wanted.loops)) wanted.vcd
+
 -- what is found out of the assertions of a text, and the names of the signals whose values are shown of a run
-pub record IsFound (design : Design) (limits : Limits) (directives : List Directive) (found : Found) : Type 0 where
-  pub findings : AreFindings design directives (options_of limits) found.findings
+pub record IsFound (design : Design) (limits : Limits) (wanted : Wanted) (directives : List Directive) (found : Found) : Type 0 where
+  pub findings : AreFindings design directives (options_of limits) (recordings_in wanted) found.findings
   pub columns : AreColumns design found.columns
 
 -- the same where all assertions are within the limits; or the first that is too large
-abbrev pub FoundReading : List ℕ → List ℕ → Limits → Subject → Result Found Fault → Type 0
-FoundReading unit netlist limits subject (Ok found) =
-    AreWithin subject.netlist limits.depth subject.directives × IsFound subject.netlist limits subject.directives found
-FoundReading unit netlist limits subject (Err fault) =
+abbrev pub FoundReading : List ℕ → List ℕ → Limits → Wanted → Subject → Result Found Fault → Type 0
+FoundReading unit netlist limits wanted subject (Ok found) =
+    AreWithin subject.netlist limits.depth subject.directives × IsFound subject.netlist limits wanted subject.directives found
+FoundReading unit netlist limits wanted subject (Err fault) =
     (cause : SizeFault) × IsFirstRefused subject.netlist limits.depth subject.directives cause
     × (fault ≡ size_fault unit netlist cause)
 
 -- `prove UNIT NETLIST`
-abbrev pub ProveStage : List ℕ → List ℕ → Limits → Contents → Result Found Fault → Type 0
-ProveStage unit netlist limits =
-    Then (SubjectStage unit netlist) (λ subject files. FoundReading unit netlist limits subject)
+abbrev pub ProveStage : List ℕ → List ℕ → Limits → Wanted → Contents → Result Found Fault → Type 0
+ProveStage unit netlist limits wanted =
+    Then (SubjectStage unit netlist) (λ subject files. FoundReading unit netlist limits wanted subject)

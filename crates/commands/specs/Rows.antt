@@ -5,7 +5,7 @@ use Rattle.commands.specs.declared.reason.Reason.TheVariants.{Usage, ReadFault, 
 use Rattle.commands.specs.declared.reason.Reason.TheVariants.{Unended, NumberTooLarge, Syntax, Kind, UnknownName}
 use Rattle.commands.specs.declared.reason.Reason.TheVariants.{Ambiguous, DeclaredTwice, EmptyRange, ConstantTooWide}
 use Rattle.commands.specs.declared.reason.Reason.TheVariants.{TooLarge, SereTooLarge, AutomatonTooLarge, UnrollTooLarge}
-use Rattle.commands.specs.declared.reason.Reason.TheVariants.{FormulaTooLarge, NestedTooDeep}
+use Rattle.commands.specs.declared.reason.Reason.TheVariants.{FormulaTooLarge, MissingSignal, NestedTooDeep}
 use Rattle.commands.specs.declared.reason.Reason.TheVariants.{StatementTooLong, UnknownKeyword, MissingEnd, BadVar}
 use Rattle.commands.specs.declared.reason.Reason.TheVariants.{CodeSizeDiffers, ScopeNotOpen, BadTime, TimeFalls}
 use Rattle.commands.specs.declared.reason.Reason.TheVariants.{CodeNotDeclared, BadValue, VectorTooLong}
@@ -36,7 +36,7 @@ abbrev row : List ℕ → ℕ → Cause → Row
 row words status cause = record { words = words; status = status; cause = cause }
 
 abbrev pub row_of : Reason → Row
-row_of Usage = row (codes "usage: pslc wave|prove|check|show|gen ARGUMENTS") 2 OfWords
+row_of Usage = row (codes "usage: pslc wave|prove|check|show|gen|replay ARGUMENTS") 2 OfWords
 row_of ReadFault = row (codes "read fault") 3 OfReading
 row_of WriteFault = row (codes "write fault") 4 OfWriting
 row_of TooLong = row (codes "TooLong") 7 OfText
@@ -57,6 +57,7 @@ row_of AutomatonTooLarge = row (codes "14 AutomatonTooLarge") 7 OfText
 row_of UnrollTooLarge = row (codes "15 UnrollTooLarge") 7 OfText
 row_of NestedTooDeep = row (codes "16 NestedTooDeep") 7 OfText
 row_of StatementTooLong = row (codes "17 StatementTooLong") 7 OfText
+row_of MissingSignal = row (codes "18 MissingSignal") 5 OfText
 row_of FormulaTooLarge = row (codes "19 FormulaTooLarge") 7 OfText
 row_of UnknownKeyword = row (codes "V1 UnknownKeyword") 5 OfText
 row_of MissingEnd = row (codes "V2 MissingEnd") 5 OfText

@@ -1,11 +1,15 @@
--- The files that a run writes: the certificates of what it proved.
+-- The files that a run writes: the certificates of what it proved, and the recordings of runs that violate assertions.
 use Rattle.std.specs.Prelude.{◌≡◌, ◌⊎◌, ℕ, List, [], ◌∷◌, ◌++◌, map, Option, None, Some, Result, Ok, Err, codes, decimal}
 use Rattle.std.specs.List.{flat_map}
 use Rattle.certificate.specs.Printed.{cert_text}
+use Rattle.certificate.specs.declared.certificate.Certificate.{Certificate}
 use Rattle.certificate.specs.declared.header.Version.TheVariants.{Two}
 use Rattle.command_line.specs.Commands.{Meaning}
-use Rattle.command_line.specs.Commands.Meaning.{wave, show, show_netlist, gen, prove, check}
+use Rattle.command_line.specs.Evidences.{Wanted}
+use Rattle.command_line.specs.Commands.Meaning.{wave, show, show_netlist, gen, prove, check, replay}
 use Rattle.findings.specs.declared.entry.FindingEntry.{FindingEntry}
+use Rattle.findings.specs.declared.recording.Recorded.{Recorded}
+use Rattle.findings.specs.declared.recording.Recorded.TheVariants.{Judged, TooLong}
 use Rattle.prover.specs.declared.finding.Finding.{Finding}
 use Rattle.prover.specs.declared.finding.Finding.TheVariants as findings
 use Rattle.psl_base.specs.Shelf.{ShelfState, OnlyReads}
@@ -16,47 +20,66 @@ use Rattle.commands.specs.Faults.{of_none}
 use Rattle.commands.specs.declared.finish.Planned.{Planned}
 use Rattle.commands.specs.declared.outcome.Fault.{Fault}
 use Rattle.commands.specs.declared.outcome.Outcome.{Outcome}
-use Rattle.commands.specs.declared.outcome.Outcome.TheVariants.{Nothing, Wave, Findings, Checked, Shown, Made}
+use Rattle.commands.specs.declared.outcome.Outcome.TheVariants.{Nothing, Wave, Findings, Checked, Shown, Made, Replayed}
 use Rattle.commands.specs.declared.reason.Reason.TheVariants.{WriteFault}
 
--- the file of a certificate: `PREFIX.NUMBER.cert`, with the lines of the second version
-abbrev pub cert_name : List ℕ → ℕ → List ℕ
-cert_name prefix number = prefix ++ codes "." ++ decimal number ++ codes ".cert"
+-- the name of a file of evidence: `PREFIX.NUMBER.cert`, or with another ending
+abbrev pub file_name : List ℕ → ℕ → List ℕ → List ℕ
+file_name prefix number ending = prefix ++ codes "." ++ decimal number ++ ending
 
-abbrev pub files_of_finding : List ℕ → ℕ → Finding → List NewFile
-files_of_finding prefix number (findings.Proved certificate) =
-    record { name = cert_name prefix number; content = cert_text Two certificate } ∷ []
-files_of_finding prefix number (findings.Violated run) = []
-files_of_finding prefix number (findings.Depth paths) = []
-files_of_finding prefix number (findings.Steps query log) = []
-files_of_finding prefix number (findings.LogFull query log) = []
-files_of_finding prefix number (findings.Large query) = []
+-- the file of a certificate, with the lines of the second version, where there is a prefix
+abbrev pub certificate_files : Option (List ℕ) → ℕ → Certificate → List NewFile
+certificate_files None number certificate = []
+certificate_files (Some prefix) number certificate =
+    record { name = file_name prefix number (codes ".cert"); content = cert_text Two certificate } ∷ []
 
-abbrev pub files_of_entry : List ℕ → FindingEntry → List NewFile
-files_of_entry prefix entry = files_of_finding prefix entry.number entry.finding
+-- the file of a recording, where there is a prefix
+abbrev pub recording_files : Option (List ℕ) → ℕ → List ℕ → List NewFile
+recording_files None number text = []
+recording_files (Some prefix) number text = record { name = file_name prefix number (codes ".vcd"); content = text } ∷ []
 
--- the files of an outcome's certificates, in order, where a prefix is given
-abbrev pub certificates : Option (List ℕ) → Outcome → List NewFile
-certificates None outcome = []
-certificates (Some prefix) Nothing = []
-certificates (Some prefix) (Wave verdicts) = []
-certificates (Some prefix) (Findings entries columns depth visits) = flat_map (files_of_entry prefix) entries
-certificates (Some prefix) (Checked number answer) = []
-certificates (Some prefix) (Shown lines) = []
-certificates (Some prefix) (Made seed samples bytes verdicts) = []
+abbrev pub recorded_files : Option (List ℕ) → ℕ → Option Recorded → List NewFile
+recorded_files prefix number None = []
+recorded_files prefix number (Some TooLong) = []
+recorded_files prefix number (Some (Judged name samples verdict text)) = recording_files prefix number text
 
--- the prefix that a command gives
-abbrev pub prefix_of : Meaning → Option (List ℕ)
-prefix_of (wave unit recording unknown) = None
-prefix_of (show unit names) = None
-prefix_of (show_netlist unit netlist) = None
-prefix_of (prove unit netlist limits cert) = cert
-prefix_of (check unit netlist number certificate) = None
-prefix_of (gen seed samples) = None
+abbrev pub files_of_finding : Wanted → ℕ → Finding → Option Recorded → List NewFile
+files_of_finding wanted number (findings.Proved certificate) recorded = certificate_files wanted.cert number certificate
+files_of_finding wanted number (findings.Violated run) recorded = recorded_files wanted.vcd number recorded
+files_of_finding wanted number (findings.Depth paths) recorded = []
+files_of_finding wanted number (findings.Steps query log) recorded = []
+files_of_finding wanted number (findings.LogFull query log) recorded = []
+files_of_finding wanted number (findings.Large query) recorded = []
+
+abbrev pub files_of_entry : Wanted → FindingEntry → List NewFile
+files_of_entry wanted entry = files_of_finding wanted entry.number entry.finding entry.recorded
+
+-- the files of an outcome's evidence, in the order of the assertions
+abbrev pub files_of_outcome : Wanted → Outcome → List NewFile
+files_of_outcome wanted Nothing = []
+files_of_outcome wanted (Wave verdicts) = []
+files_of_outcome wanted (Findings entries columns depth visits) = flat_map (files_of_entry wanted) entries
+files_of_outcome wanted (Checked number answer) = []
+files_of_outcome wanted (Shown lines) = []
+files_of_outcome wanted (Made seed samples bytes verdicts) = []
+files_of_outcome wanted (Replayed answer samples verdicts) = []
+
+-- the files that a command is to leave
+abbrev no_files : Wanted
+no_files = record { cert = None; vcd = None; loops = 1 }
+
+abbrev pub wanted_of : Meaning → Wanted
+wanted_of (wave unit recording unknown) = no_files
+wanted_of (show unit names) = no_files
+wanted_of (show_netlist unit netlist) = no_files
+wanted_of (prove unit netlist limits evidence) = evidence
+wanted_of (check unit netlist number certificate) = no_files
+wanted_of (gen seed samples) = no_files
+wanted_of (replay unit netlist recording) = no_files
 
 -- these are the files that a run with this outcome is to write, by its words
 pub data AreToWrite (words : List (List ℕ)) (outcome : Outcome) (files : List NewFile) : Type 0 where
-  of_command : (meaning : Meaning) → IsCommand words meaning → files ≡ certificates (prefix_of meaning) outcome → AreToWrite words outcome files
+  of_command : (meaning : Meaning) → IsCommand words meaning → files ≡ files_of_outcome (wanted_of meaning) outcome → AreToWrite words outcome files
   of_nothing : outcome ≡ Nothing → files ≡ [] → AreToWrite words outcome files
 
 -- some of them could not be written

@@ -8,6 +8,8 @@ use Rattle.certificate.specs.declared.answer.CertReason.TheVariants as certs
 use Rattle.clauses.specs.Logs.{lemmas}
 use Rattle.findings.specs.Columns.{ShowColumns}
 use Rattle.findings.specs.declared.entry.FindingEntry.{FindingEntry}
+use Rattle.findings.specs.declared.recording.Recorded.{Recorded}
+use Rattle.findings.specs.declared.recording.Recorded.TheVariants.{Judged, TooLong}
 use Rattle.netlist.specs.Valuations.{bit}
 use Rattle.netlist.specs.declared.run.Run.{Run}
 use Rattle.prover.specs.declared.finding.Finding.{Finding}
@@ -20,7 +22,9 @@ use Rattle.commands.specs.Rows.{fault_words}
 use Rattle.commands.specs.declared.outcome.Fault.{Fault}
 use Rattle.commands.specs.declared.outcome.Line.{Line}
 use Rattle.commands.specs.declared.outcome.Outcome.{Outcome}
-use Rattle.commands.specs.declared.outcome.Outcome.TheVariants.{Nothing, Wave, Findings, Checked, Shown, Made}
+use Rattle.commands.specs.declared.outcome.Outcome.TheVariants.{Nothing, Wave, Findings, Checked, Shown, Made, Replayed}
+use Rattle.replay.specs.declared.answer.Replay.{Replay}
+use Rattle.replay.specs.declared.answer.Replay.TheVariants as replays
 use Rattle.wave_judge.specs.Levels.{level_of}
 use Rattle.wave_judge.specs.declared.verdict.Level.{Level}
 use Rattle.wave_judge.specs.declared.verdict.Level.TheVariants.{HoldsStrongly, Holds, Pending, Fails}
@@ -54,15 +58,24 @@ label_part (Some label) = codes " " ++ label
 abbrev pub head : Kind → ℕ → Option (List ℕ) → List ℕ
 head kind number label = kind_word kind ++ codes " " ++ decimal number ++ label_part label ++ codes ": "
 
--- a verdict's line
-abbrev pub verdict_line : Verdict → List ℕ
-verdict_line verdict =
-    head verdict.kind verdict.number verdict.label
-    ++ level_words (level_of verdict.weak verdict.neutral verdict.strong)
+-- in which views a verdict holds
+abbrev pub answers_line : Verdict → List ℕ
+answers_line verdict =
+    level_words (level_of verdict.weak verdict.neutral verdict.strong)
     ++ codes " (weak " ++ answer_word verdict.weak
     ++ codes ", neutral " ++ answer_word verdict.neutral
     ++ codes ", strong " ++ answer_word verdict.strong
     ++ codes ")" ++ line_feed
+
+-- a verdict's line
+abbrev pub verdict_line : Verdict → List ℕ
+verdict_line verdict = head verdict.kind verdict.number verdict.label ++ answers_line verdict
+
+-- the line that says where a recording leaves a netlist, if it does
+abbrev pub replay_line : Replay → ℕ → List ℕ
+replay_line replays.Path samples = codes "replay: path samples " ++ decimal samples ++ line_feed
+replay_line (replays.Leaves sample signal name) samples =
+    codes "replay: leaves at sample " ++ decimal sample ++ codes " signal " ++ name ++ line_feed
 
 -- the line of what a directive means
 abbrev pub meaning_line : Line → List ℕ
@@ -114,9 +127,19 @@ finding_text columns depth visits (findings.Steps query log) = steps_line (lemma
 finding_text columns depth visits (findings.LogFull query log) = codes "undecided log" ++ line_feed
 finding_text columns depth visits (findings.Large query) = codes "undecided formula" ++ line_feed
 
+-- what is recorded of a run: the name of the file, how many samples it has and what it says of the assertion
+abbrev pub judged_lines : List ℕ → ℕ → Verdict → List ℕ
+judged_lines name samples verdict =
+    codes "  recording " ++ name ++ codes " samples " ++ decimal samples ++ (line_feed ++ codes "  judged ") ++ answers_line verdict
+
+abbrev pub recorded_lines : Option Recorded → List ℕ
+recorded_lines None = []
+recorded_lines (Some TooLong) = codes "  recording too long" ++ line_feed
+recorded_lines (Some (Judged name samples verdict text)) = judged_lines name samples verdict
+
 abbrev pub entry_text : List Name → ℕ → ℕ → FindingEntry → List ℕ
 entry_text columns depth visits entry =
-    head Assert entry.number entry.label ++ finding_text columns depth visits entry.finding
+    head Assert entry.number entry.label ++ finding_text columns depth visits entry.finding ++ recorded_lines entry.recorded
 
 -- the code and the name of a reason for which a certificate is refused
 abbrev pub reason_words : CertReason → List ℕ
@@ -150,6 +173,7 @@ text_of (Wave verdicts) = flat_map verdict_line verdicts
 text_of (Findings entries columns depth visits) = flat_map (entry_text columns depth visits) entries
 text_of (Checked number answer) = checked_line number answer
 text_of (Shown lines) = flat_map meaning_line lines
+text_of (Replayed answer samples verdicts) = replay_line answer samples ++ flat_map verdict_line verdicts
 text_of (Made seed samples bytes verdicts) = made_line seed samples bytes ++ flat_map verdict_line verdicts
 
 -- a name, perhaps with a place, and what is said of it
@@ -160,4 +184,4 @@ about (Some file) (Some place) words = file ++ codes ":" ++ decimal place.line +
 
 -- a fault's line
 abbrev pub line_of : Fault → List ℕ
-line_of fault = codes "pslc: " ++ about fault.file fault.place (fault_words fault.reason) ++ line_feed
+line_of fault = codes "pslc: " ++ about fault.file fault.place (fault_words fault.reason) ++ label_part fault.signal ++ line_feed

@@ -3,7 +3,7 @@ ghost use Rattle.std.specs.Prelude.{◌≡◌, ◌≢◌, ◌⊎◌, ◌≤◌, 
 ghost use Rattle.psl_base.specs.Places.{file_limit};
 ghost use Rattle.commands.specs.Checks as checks;
 ghost use Rattle.commands.specs.Diagnostics as spec;
-ghost use Rattle.commands.specs.Faults.{at, whole, fault_in, of_none};
+ghost use Rattle.commands.specs.Faults.{at, whole, fault_in, missing_in, of_none};
 ghost use Rattle.commands.specs.Provings as provings;
 
 use crate::outcome::Fault;
@@ -27,6 +27,7 @@ pub fn of_none(reason: Reason) -> Fault
         reason,
         file: None,
         place: None,
+        signal: None,
     }
 }
 
@@ -53,6 +54,22 @@ pub fn fault_in(alloc: Global, name: &str, diagnostic: Diagnostic) -> Fault
             reason: diagnostic.reason,
             file: Some(file),
             place: diagnostic.place,
+            signal: None,
+        },
+        Err(_) => of_none(Reason::NoMemory),
+    }
+}
+
+/// The fault of a recording that does not have a signal; or want of memory, where the file's name cannot be kept.
+pub fn missing_in(alloc: Global, name: &str, signal: Text) -> Fault
+    ensures { (result ≡ of_none Reason.NoMemory) ⊎ (result ≡ missing_in name.now signal) }
+{
+    match Text::from_slice(alloc, name.as_bytes()) {
+        Ok(file) => Fault {
+            reason: Reason::MissingSignal,
+            file: Some(file),
+            place: None,
+            signal: Some(signal),
         },
         Err(_) => of_none(Reason::NoMemory),
     }

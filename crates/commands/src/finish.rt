@@ -4,7 +4,7 @@ ghost use Rattle.std.specs.Result.{ForOk, ForErr};
 ghost use Rattle.psl_base.specs.Faults.{Rose};
 ghost use Rattle.psl_base.specs.Shelf.{OnlyWrites};
 ghost use Rattle.psl_base.specs.Sink.{AddsAll, SinkState};
-ghost use Rattle.commands.specs.Endings.{status_of, answer_status, outcome_status, findings_status, verdicts_status, is_proved, is_violated, passes, may_be_no, IsUnwritten, IsToTell, Prints, AddsSome, EndsWith, EndsFaulted};
+ghost use Rattle.commands.specs.Endings.{status_of, answer_status, outcome_status, findings_status, replay_status, verdicts_status, is_proved, is_violated, passes, may_be_no, IsUnwritten, IsToTell, Prints, AddsSome, EndsWith, EndsFaulted};
 ghost use Rattle.commands.specs.Faults.{of_none, fault_of};
 ghost use Rattle.commands.specs.Saved.{FailsPlanned, HasSaved, WritingFails};
 ghost use Rattle.commands.specs.Text.{text_of, line_of};
@@ -20,6 +20,7 @@ use findings::FindingEntry;
 use prover::Finding;
 use psl_base::{Bytes, Failed, Shelf, Sink, put_all};
 use psl_tree::Kind;
+use replay::Replay;
 use saving::{Save, Saves, save_all};
 use std::alloc::Global;
 use wave_judge::Verdict;
@@ -158,9 +159,19 @@ fn status_of_outcome(outcome: &Outcome) -> u8
         Outcome::Nothing | Outcome::Shown(_) => 0,
         Outcome::Checked(_, answer) => status_of_answer(*answer),
         Outcome::Findings { findings, .. } => status_of_findings(findings.as_slice()),
+        Outcome::Replayed(replay, _, verdicts) => status_of_replay(replay, verdicts.as_slice()),
         Outcome::Wave(verdicts) | Outcome::Made(_, _, _, verdicts) => {
             status_of_verdicts(verdicts.as_slice())
         }
+    }
+}
+
+fn status_of_replay(replay: &Replay, verdicts: &[Verdict]) -> u8
+    ensures { result ≡ replay_status replay.now verdicts.now }
+{
+    match replay {
+        Replay::Path => status_of_verdicts(verdicts),
+        Replay::Leaves(_, _, _) => 1,
     }
 }
 

@@ -1,4 +1,5 @@
 ghost use Rattle.std.specs.Prelude.{◌≡◌, ◌≤◌, ◌∷◌, [], length, IfOk, IfErr};
+ghost use Rattle.findings.specs.Traceable.{HasTraces};
 ghost use Rattle.psl_base.specs.Places.{file_limit};
 ghost use Rattle.psl_base.specs.Shelf.{OnlyReads, IsContent};
 ghost use Rattle.commands.specs.Stages.{IsStage, IsReading, IsCounted, LoadFails};
@@ -11,7 +12,7 @@ use crate::faults::{
 use crate::outcome::Fault;
 use crate::reason::Reason;
 use blif_reader::read_blif;
-use netlist::Netlist;
+use netlist::{Netlist, soundness_law};
 use psl_base::{Bytes, FILE_LIMIT, ReadAllFault, Shelf, read_all};
 use psl_grammar::UnitTree;
 use psl_lexer::{Tokens, lex};
@@ -55,7 +56,8 @@ pub fn load_circuit<F: Shelf>(
     unit: &str,
     netlist: &str,
 ) -> Result<Circuit, Fault>
-    ensures { IsStage (unit.now ∷ netlist.now ∷ []) (CircuitStage unit.now netlist.now) (F.state files.old) (F.state files.new) result }
+    ensures stage { IsStage (unit.now ∷ netlist.now ∷ []) (CircuitStage unit.now netlist.now) (F.state files.old) (F.state files.new) result }
+    ensures traces { IfOk result (λ circuit. HasTraces circuit.netlist) }
 {
     let tree = load_unit(alloc, files, unit)?;
     let netlist = load_netlist(alloc, files, netlist)?;
@@ -64,16 +66,20 @@ pub fn load_circuit<F: Shelf>(
 
 /// The netlist in a file.
 fn load_netlist<F: Shelf>(alloc: Global, files: &mut F, name: &str) -> Result<Netlist, Fault>
-    ensures { IsStage (name.now ∷ []) (NetlistStage name.now) (F.state files.old) (F.state files.new) result }
+    ensures stage { IsStage (name.now ∷ []) (NetlistStage name.now) (F.state files.old) (F.state files.new) result }
+    ensures traces { IfOk result HasTraces }
 {
     match read_blif(alloc, files, name) {
-        Ok(netlist) => Ok(netlist),
+        Ok(netlist) => {
+            soundness_law(&netlist);
+            Ok(netlist)
+        }
         Err(fault) => Err(fault_in(alloc, name, blif_diagnostic(fault))),
     }
 }
 
 /// The recording in a file.
-fn load_recording<F: Shelf>(
+pub(crate) fn load_recording<F: Shelf>(
     alloc: Global,
     files: &mut F,
     name: &str,

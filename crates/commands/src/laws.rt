@@ -4,6 +4,7 @@ ghost use Rattle.certificate.specs.Printed.{cert_text};
 ghost use Rattle.certificate.specs.declared.answer.CertAnswer.{CertAnswer};
 ghost use Rattle.certificate.specs.declared.certificate.Certificate.{Certificate};
 ghost use Rattle.certificate.specs.declared.header.Version.TheVariants.{Two};
+ghost use Rattle.command_line.specs.Evidences.{Wanted};
 ghost use Rattle.command_line.specs.declared.Limits.{Limits};
 ghost use Rattle.commands.specs.Checks.{CheckStage};
 ghost use Rattle.commands.specs.Commands.{FirstRefusal};
@@ -23,9 +24,9 @@ pub fn one_refusal()
 /// A law of the definitions: what `prove` writes of a proof is passed by `check`. Where a file has the text of the certificate
 /// of a proved assertion, and is no longer than a file may be, `check` passes it for the same text, netlist and number.
 pub fn written_law()
-    ensures { (unit netlist certificate : List ℕ) (limits : Limits) (files later : Contents) (found : Found) (place : ℕ)
+    ensures { (unit netlist certificate : List ℕ) (limits : Limits) (wanted : Wanted) (files later : Contents) (found : Found) (place : ℕ)
         (entry : FindingEntry) (evidence : Certificate) (result : Result CertAnswer Fault)
-        → ProveStage unit netlist limits files (Ok found) → slice_get found.findings place ≡ Some entry
+        → ProveStage unit netlist limits wanted files (Ok found) → slice_get found.findings place ≡ Some entry
         → entry.finding ≡ Proved evidence → later unit ≡ files unit → later netlist ≡ files netlist
         → later certificate ≡ Some (cert_text Two evidence) → length (cert_text Two evidence) ≤ file_limit
         → CheckStage unit netlist entry.number certificate later result → result ≡ Ok CertAnswer.Passed }

@@ -13,6 +13,7 @@ mod laws;
 mod outcome;
 mod prove;
 mod reason;
+mod replayed;
 mod report;
 mod rows;
 mod saves;

@@ -3,6 +3,7 @@ use certificate::CertAnswer;
 use findings::Findings;
 use psl_base::{Items, Place, Text};
 use psl_tree::{Kind, Names};
+use replay::Replay;
 use wave_judge::Verdicts;
 
 /// What a run found out.
@@ -26,6 +27,8 @@ pub enum Outcome {
     /// `gen`: the seed, how many samples the made recording has, how many bytes its text has, and the
     /// verdicts on it.
     Made(u64, u32, u64, Verdicts),
+    /// `replay`: where a recording leaves a netlist, if it does; how many samples it has; and the verdicts on it.
+    Replayed(Replay, u32, Verdicts),
 }
 
 /// What a directive means.
@@ -52,6 +55,8 @@ pub struct Fault {
     pub file: Option<Text>,
     /// The place in the file.
     pub place: Option<Place>,
+    /// The name of a signal that a recording does not have.
+    pub signal: Option<Text>,
 }
 
 /// How a run ended: the status of the process, what was found out, and the fault if there was one.

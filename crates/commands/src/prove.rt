@@ -1,31 +1,36 @@
-ghost use Rattle.std.specs.Prelude.{◌∷◌, [], All, IfOk};
+ghost use Rattle.std.specs.Prelude.{◌≡◌, ◌≤◌, ◌∷◌, [], All, IfOk};
+ghost use Rattle.command_line.specs.Evidences.{evidence_of};
 ghost use Rattle.command_line.specs.Ranges.{AreInRange};
-ghost use Rattle.commands.specs.Provings.{FoundReading, IsFound, ProveStage};
+ghost use Rattle.commands.specs.Provings.{FoundReading, IsFound, ProveStage, recordings_in};
 ghost use Rattle.commands.specs.Stages.{IsStage, IsReading};
 ghost use Rattle.findings.specs.Assertions.{AreNumbered};
 ghost use Rattle.findings.specs.Columns.{ShowColumns};
+ghost use Rattle.findings.specs.Recordings.{wanted_of};
 ghost use Rattle.findings.specs.Sizes.{AreWithin};
+ghost use Rattle.findings.specs.Traceable.{AreTraceable, HasTraces};
 ghost use Rattle.psl_tree.specs.Atoms.{AtomsOfFormula};
+ghost use Rattle.psl_tree.specs.Counts.{formula_size};
 ghost use Rattle.psl_tree.specs.Names.{AtomInRange};
 ghost use Rattle.psl_tree.specs.Trees.{formula_of};
 
 use crate::faults::size_fault;
 use crate::outcome::Fault;
 use crate::subject::{Subject, load_subject};
-use command_line::Limits;
-use findings::{Findings, check_all, columns, prove_all};
+use command_line::{Evidence, Limits};
+use findings::{Findings, Recordings, check_all, columns, prove_all};
 use netlist::{Netlist, soundness_law};
 use prover::Options;
 use psl_base::{NoMemory, Shelf};
 use psl_tree::{Names, Unit};
 use std::alloc::Global;
 
-/// What the words of `prove` ask for: the names of the files, and how far a proof is sought.
+/// What the words of `prove` ask for: the names of the files, how far a proof is sought, and which files are to be left.
 #[derive(Clone, Copy)]
 pub struct Request<'a> {
     pub unit: &'a str,
     pub netlist: &'a str,
     pub limits: Limits,
+    pub evidence: Evidence<'a>,
 }
 
 /// What is found out of a text's assertions, and what is shown of it.
@@ -39,9 +44,10 @@ pub struct Found {
 /// Proves the assertions of a text of a netlist, both read from files, or finds runs that violate them:
 /// `prove UNIT NETLIST`.
 pub fn prove<F: Shelf>(alloc: Global, files: &mut F, request: Request<'_>) -> Result<Found, Fault>
-    requires { AreInRange request.limits }
+    requires range { AreInRange request.limits }
+    requires loops { request.evidence.loops ≤ 16 }
     ensures stage { IsStage (request.entry.unit.now ∷ request.entry.netlist.now ∷ [])
-        (ProveStage request.entry.unit.now request.entry.netlist.now request.entry.limits) (F.state files.old) (F.state files.new) result }
+        (ProveStage request.entry.unit.now request.entry.netlist.now request.entry.limits (evidence_of request.entry.evidence)) (F.state files.old) (F.state files.new) result }
     ensures shown { IfOk result (λ found. ShowColumns found.columns found.findings) }
 {
     let subject = load_subject(alloc, files, request.unit, request.netlist)?;
@@ -53,14 +59,17 @@ fn prove_subject(alloc: Global, subject: &Subject, request: Request<'_>) -> Resu
     requires range { AreInRange request.limits }
     requires in_range { All (λ directive. AtomsOfFormula (AtomInRange subject.now.netlist.names) (formula_of directive.formula)) subject.now.directives }
     requires numbered { AreNumbered subject.now.directives }
+    requires small { All (λ directive. formula_size (formula_of directive.formula) ≤ 4096) subject.now.directives }
+    requires traces { HasTraces subject.now.netlist }
+    requires loops { request.evidence.loops ≤ 16 }
     ensures reading { IsReading (request.entry.unit.now ∷ request.entry.netlist.now ∷ [])
-        (FoundReading request.entry.unit.now request.entry.netlist.now request.entry.limits subject.now) result }
+        (FoundReading request.entry.unit.now request.entry.netlist.now request.entry.limits (evidence_of request.entry.evidence) subject.now) result }
     ensures shown { IfOk result (λ found. ShowColumns found.columns found.findings) }
 {
     let (directives, netlist) = (&subject.directives, &subject.netlist);
     match check_all(alloc, directives, netlist, request.limits.depth) {
         Ok(()) => {
-            let found = find(alloc, directives, netlist, request.limits)?;
+            let found = find(alloc, directives, netlist, request)?;
             Ok(found)
         }
         Err(fault) => Err(size_fault(alloc, request.unit, request.netlist, fault)),
@@ -72,22 +81,37 @@ fn find(
     alloc: Global,
     directives: &Unit,
     netlist: &Netlist,
-    limits: Limits,
+    request: Request<'_>,
 ) -> Result<Found, NoMemory>
-    requires range { AreInRange limits }
-    requires within { AreWithin netlist.now limits.depth directives.now }
+    requires range { AreInRange request.limits }
+    requires within { AreWithin netlist.now request.limits.depth directives.now }
     requires in_range { All (λ directive. AtomsOfFormula (AtomInRange netlist.now.names) (formula_of directive.formula)) directives.now }
     requires numbered { AreNumbered directives.now }
-    ensures found { IfOk result (IsFound netlist.now limits directives.now) }
+    requires traceable { AreTraceable netlist.now directives.now (recordings_in (evidence_of request.evidence)) }
+    ensures found { IfOk result (IsFound netlist.now request.entry.limits (evidence_of request.entry.evidence) directives.now) }
     ensures shown { IfOk result (λ found. ShowColumns found.columns found.findings) }
 {
     soundness_law(netlist);
     let options = Options {
-        depth: limits.depth,
-        visits: limits.visits,
-        steps: limits.steps,
+        depth: request.limits.depth,
+        visits: request.limits.visits,
+        steps: request.limits.steps,
     };
-    let findings = prove_all(alloc, directives, netlist, options)?;
+    let recordings = recordings_of(request.evidence);
+    let findings = prove_all(alloc, directives, netlist, options, recordings)?;
     let columns = columns(alloc, netlist)?;
     Ok(Found { findings, columns })
+}
+
+/// Which recordings are wanted.
+fn recordings_of(evidence: Evidence<'_>) -> Option<Recordings<'_>>
+    ensures { wanted_of result ≡ recordings_in (evidence_of evidence.entry) }
+{
+    match evidence.vcd {
+        Some(prefix) => Some(Recordings {
+            prefix,
+            loops: evidence.loops,
+        }),
+        None => None,
+    }
 }

@@ -46,6 +46,8 @@ pub enum Reason {
     NestedTooDeep,
     /// The 2,049th token of a statement.
     StatementTooLong,
+    /// An input or a latch of a netlist that is not one signal of one bit in a recording.
+    MissingSignal,
     /// A netlist and an assertion of which a certificate's formula of the base or of the induction is too large.
     FormulaTooLarge,
 

@@ -1,6 +1,6 @@
 ghost use Rattle.std.specs.Prelude.{◌≡◌, ◌++◌, IfOk, OnOk};
 ghost use Rattle.std.specs.List.{flat_map};
-ghost use Rattle.commands.specs.Text.{text_of, line_of, made_line, meaning_line, verdict_line, head, label_part, kind_word, level_words, answer_word, about, IsShowable};
+ghost use Rattle.commands.specs.Text.{text_of, line_of, made_line, meaning_line, replay_line, answers_line, verdict_line, head, label_part, kind_word, level_words, answer_word, about, IsShowable};
 
 use crate::checked::add_checked;
 use crate::outcome::{Fault, Line, Outcome};
@@ -8,6 +8,7 @@ use crate::rows::row_of;
 use crate::shown::Shown;
 use psl_base::{Bytes, NoMemory, Place, Text, add_bytes, add_number};
 use psl_tree::Kind;
+use replay::Replay;
 use std::alloc::Global;
 use wave_judge::{Level, Verdict, level};
 
@@ -40,6 +41,10 @@ pub fn report(alloc: Global, outcome: &Outcome) -> Result<Bytes, NoMemory>
             add_made(&mut text, *seed, *samples, *bytes)?;
             add_verdicts(&mut text, verdicts.as_slice())?;
         }
+        Outcome::Replayed(replay, samples, verdicts) => {
+            add_replay(&mut text, replay, *samples)?;
+            add_verdicts(&mut text, verdicts.as_slice())?;
+        }
     }
     Ok(Bytes::from_vec(text))
 }
@@ -56,6 +61,7 @@ pub fn fault_line(alloc: Global, fault: &Fault) -> Result<Bytes, NoMemory>
         &fault.place,
         row_of(fault.reason).words,
     )?;
+    add_label(&mut line, &fault.signal)?;
     add_bytes(&mut line, b"\n")?;
     Ok(Bytes::from_vec(line))
 }
@@ -96,6 +102,26 @@ fn add_made(text: &mut Vec<u8>, seed: u64, samples: u32, bytes: u64) -> Result<(
     add_bytes(text, b"\n")
 }
 
+/// The line that says where a recording leaves a netlist, if it does.
+fn add_replay(text: &mut Vec<u8>, replay: &Replay, samples: u32) -> Result<(), NoMemory>
+    ensures { OnOk result (text.new.items ≡ text.old.items ++ replay_line replay.now samples) }
+{
+    match replay {
+        Replay::Path => {
+            add_bytes(text, b"replay: path samples ")?;
+            add_number(text, samples as u64)?;
+            add_bytes(text, b"\n")
+        }
+        Replay::Leaves(sample, _, name) => {
+            add_bytes(text, b"replay: leaves at sample ")?;
+            add_number(text, *sample as u64)?;
+            add_bytes(text, b" signal ")?;
+            add_bytes(text, name.as_slice())?;
+            add_bytes(text, b"\n")
+        }
+    }
+}
+
 fn add_meanings(text: &mut Vec<u8>, lines: &[Line]) -> Result<(), NoMemory>
     ensures { OnOk result (text.new.items ≡ text.old.items ++ flat_map meaning_line lines.now) }
 {
@@ -128,6 +154,13 @@ fn add_verdict(text: &mut Vec<u8>, verdict: &Verdict) -> Result<(), NoMemory>
     ensures { OnOk result (text.new.items ≡ text.old.items ++ verdict_line verdict.now) }
 {
     add_head(text, verdict.kind, verdict.number, &verdict.label)?;
+    add_answers(text, verdict)
+}
+
+/// Adds in which views a verdict holds.
+pub(crate) fn add_answers(text: &mut Vec<u8>, verdict: &Verdict) -> Result<(), NoMemory>
+    ensures { OnOk result (text.new.items ≡ text.old.items ++ answers_line verdict.now) }
+{
     add_bytes(text, level_text(level(verdict)))?;
     add_bytes(text, b" (weak ")?;
     add_bytes(text, answer(verdict.weak))?;
@@ -154,6 +187,7 @@ pub(crate) fn add_head(
     add_bytes(text, b": ")
 }
 
+/// A blank and a label or a name, where there is one.
 fn add_label(text: &mut Vec<u8>, label: &Option<Text>) -> Result<(), NoMemory>
     ensures { OnOk result (text.new.items ≡ text.old.items ++ label_part label.now) }
 {

@@ -13,8 +13,8 @@ pub struct Row {
 }
 
 /// The words and the status of each reason, in the order in which these are declared.
-const ROWS: [(&[u8], u8); 55] = [
-    (b"usage: pslc wave|prove|check|show|gen ARGUMENTS", 2),
+const ROWS: [(&[u8], u8); 56] = [
+    (b"usage: pslc wave|prove|check|show|gen|replay ARGUMENTS", 2),
     (b"read fault", 3),
     (b"write fault", 4),
     (b"TooLong", 7),
@@ -35,6 +35,7 @@ const ROWS: [(&[u8], u8); 55] = [
     (b"15 UnrollTooLarge", 7),
     (b"16 NestedTooDeep", 7),
     (b"17 StatementTooLong", 7),
+    (b"18 MissingSignal", 5),
     (b"19 FormulaTooLarge", 7),
     (b"V1 UnknownKeyword", 5),
     (b"V2 MissingEnd", 5),

@@ -1,26 +1,29 @@
 ghost use Rattle.std.specs.Prelude.{◌≡◌, ◌++◌, map, string_bytes, IfOk, OnOk};
 ghost use Rattle.std.specs.List.{flat_map};
 ghost use Rattle.std.specs.Option.{option_map};
-ghost use Rattle.commands.specs.Saved.{cert_name, certificates, files_of_entry};
+ghost use Rattle.command_line.specs.Evidences.{evidence_of};
+ghost use Rattle.commands.specs.Saved.{certificate_files, file_name, files_of_entry, files_of_outcome, recorded_files, recording_files};
 ghost use Rattle.saving.specs.Saves.{file_of};
 
 use crate::outcome::Outcome;
+use certificate::Certificate;
 use certificate_text::print_cert;
-use findings::FindingEntry;
+use command_line::Evidence;
+use findings::{FindingEntry, Recorded};
 use itoa::Buffer;
 use prover::Finding;
-use psl_base::NoMemory;
+use psl_base::{Bytes, NoMemory};
 use saving::{Save, Saves};
 use std::alloc::{AllocError, Global};
 
-/// The files that are to be written of an outcome: the certificate of each assertion that was proved, in order, where a
-/// prefix of their names is given.
-pub fn saves_of(alloc: Global, prefix: Option<&str>, outcome: &Outcome) -> Result<Saves, NoMemory>
-    ensures { IfOk result (λ saves. map file_of saves ≡ certificates (option_map (λ s. s.now) prefix.entry) outcome.now) }
+/// The files of evidence that are to be written of an outcome, in the order of the assertions: the certificate of each one
+/// that was proved, and the recording of each one that is violated, where prefixes of their names are given.
+pub fn saves_of(alloc: Global, evidence: Evidence<'_>, outcome: &Outcome) -> Result<Saves, NoMemory>
+    ensures { IfOk result (λ saves. map file_of saves ≡ files_of_outcome (evidence_of evidence.entry) outcome.now) }
 {
-    match (prefix, outcome) {
-        (Some(prefix), Outcome::Findings { findings, .. }) => {
-            saves_of_findings(alloc, prefix, findings.as_slice())
+    match outcome {
+        Outcome::Findings { findings, .. } => {
+            saves_of_findings(alloc, evidence, findings.as_slice())
         }
         _ => Ok(Saves::new(alloc)),
     }
@@ -28,49 +31,100 @@ pub fn saves_of(alloc: Global, prefix: Option<&str>, outcome: &Outcome) -> Resul
 
 fn saves_of_findings(
     alloc: Global,
-    prefix: &str,
+    evidence: Evidence<'_>,
     entries: &[FindingEntry],
 ) -> Result<Saves, NoMemory>
-    ensures { IfOk result (λ saves. map file_of saves ≡ flat_map (files_of_entry prefix.now) entries.now) }
+    ensures { IfOk result (λ saves. map file_of saves ≡ flat_map (files_of_entry (evidence_of evidence.entry)) entries.now) }
 {
     let mut saves = Saves::new(alloc);
     for entry in entries {
-        add_certificate(alloc, &mut saves, prefix, entry)?;
+        add_evidence(alloc, &mut saves, evidence, entry)?;
     }
     Ok(saves)
 }
 
-/// Adds the file of a finding's certificate, where it has one.
-fn add_certificate(
+/// Adds the file of a finding's evidence, where it has one.
+fn add_evidence(
     alloc: Global,
     saves: &mut Saves,
-    prefix: &str,
+    evidence: Evidence<'_>,
     entry: &FindingEntry,
 ) -> Result<(), NoMemory>
-    ensures { OnOk result (map file_of saves.new ≡ map file_of saves.old ++ files_of_entry prefix.now entry.now) }
+    ensures { OnOk result (map file_of saves.new ≡ map file_of saves.old ++ files_of_entry (evidence_of evidence.entry) entry.now) }
 {
     match &entry.finding {
         Finding::Proved(certificate) => {
-            let name = cert_name(alloc, prefix, entry.number)?;
-            let content = print_cert(alloc, certificate)?;
-            saves.push(Save { name, content })
+            add_certificate(alloc, saves, evidence.cert, entry.number, certificate)
         }
-        Finding::Violated(_)
-        | Finding::Depth(_)
-        | Finding::Steps(_, _)
-        | Finding::LogFull(_, _)
-        | Finding::Large(_) => Ok(()),
+        Finding::Violated(_) => {
+            add_recorded(alloc, saves, evidence.vcd, entry.number, &entry.recorded)
+        }
+        Finding::Depth(_) | Finding::Steps(_, _) | Finding::LogFull(_, _) | Finding::Large(_) => Ok(
+            (),
+        ),
     }
 }
 
-/// The name of a certificate's file.
-fn cert_name(alloc: Global, prefix: &str, number: u32) -> Result<String, AllocError>
-    ensures { IfOk result (λ name. string_bytes name ≡ cert_name prefix.now number) }
+/// Adds the file of a certificate, where there is a prefix for it.
+fn add_certificate(
+    alloc: Global,
+    saves: &mut Saves,
+    prefix: Option<&str>,
+    number: u32,
+    certificate: &Certificate,
+) -> Result<(), NoMemory>
+    ensures { OnOk result (map file_of saves.new ≡ map file_of saves.old ++ certificate_files (option_map (λ s. s.now) prefix.entry) number certificate.now) }
+{
+    let Some(prefix) = prefix else {
+        return Ok(());
+    };
+    let name = file_name(alloc, prefix, number, ".cert")?;
+    let content = print_cert(alloc, certificate)?;
+    saves.push(Save { name, content })
+}
+
+/// Adds the file of what is recorded of a run, where that is not too long and there is a prefix for it.
+fn add_recorded(
+    alloc: Global,
+    saves: &mut Saves,
+    prefix: Option<&str>,
+    number: u32,
+    recorded: &Option<Recorded>,
+) -> Result<(), NoMemory>
+    ensures { OnOk result (map file_of saves.new ≡ map file_of saves.old ++ recorded_files (option_map (λ s. s.now) prefix.entry) number recorded.now) }
+{
+    match recorded {
+        Some(Recorded::Judged { text, .. }) => add_recording(alloc, saves, prefix, number, text),
+        Some(Recorded::TooLong) | None => Ok(()),
+    }
+}
+
+/// Adds the file of a recording, where there is a prefix for it.
+fn add_recording(
+    alloc: Global,
+    saves: &mut Saves,
+    prefix: Option<&str>,
+    number: u32,
+    text: &Bytes,
+) -> Result<(), NoMemory>
+    ensures { OnOk result (map file_of saves.new ≡ map file_of saves.old ++ recording_files (option_map (λ s. s.now) prefix.entry) number text.now) }
+{
+    let Some(prefix) = prefix else {
+        return Ok(());
+    };
+    let name = file_name(alloc, prefix, number, ".vcd")?;
+    let content = text.copy(alloc)?;
+    saves.push(Save { name, content })
+}
+
+/// The name of a file of evidence.
+fn file_name(alloc: Global, prefix: &str, number: u32, ending: &str) -> Result<String, AllocError>
+    ensures { IfOk result (λ name. string_bytes name ≡ file_name prefix.now number ending.now) }
 {
     let mut digits = Buffer::new();
     let mut name = String::from_str(alloc, prefix)?;
     name.push_str(".")?;
     name.push_str(digits.format(number))?;
-    name.push_str(".cert")?;
+    name.push_str(ending)?;
     Ok(name)
 }

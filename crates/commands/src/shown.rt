@@ -1,16 +1,17 @@
 // What is printed of findings.
 ghost use Rattle.std.specs.Prelude.{◌≡◌, ◌++◌, ◌<◌, length, All, OnOk};
 ghost use Rattle.std.specs.List.{flat_map};
-ghost use Rattle.commands.specs.Text.{digit, entry_text, finding_text, lengths_line, run_text, steps_line, valuation_line, valuation_lines, value_part};
+ghost use Rattle.commands.specs.Text.{digit, entry_text, finding_text, judged_lines, lengths_line, recorded_lines, run_text, steps_line, valuation_line, valuation_lines, value_part};
 ghost use Rattle.findings.specs.Columns.{HasColumns, ShowColumns, ShowsColumns};
 ghost use Rattle.netlist.specs.Valuations.{bit};
 
-use crate::report::add_head;
-use findings::FindingEntry;
+use crate::report::{add_answers, add_head};
+use findings::{FindingEntry, Recorded};
 use netlist::Run;
 use prover::Finding;
-use psl_base::{Bits, NoMemory, add_bytes, add_number};
+use psl_base::{Bits, NoMemory, Text, add_bytes, add_number};
 use psl_tree::{Kind, Name};
+use wave_judge::Verdict;
 
 /// By what findings are shown: the signals whose values are shown of a run, and how far a proof was sought.
 #[derive(Clone, Copy)]
@@ -40,7 +41,8 @@ impl<'a> Shown<'a> {
             ++ entry_text self.entry.columns.now self.entry.depth self.entry.visits entry.now) }
     {
         add_head(text, Kind::Assert, entry.number, &entry.label)?;
-        self.add_finding(text, &entry.finding)
+        self.add_finding(text, &entry.finding)?;
+        add_recorded(text, &entry.recorded)
     }
 
     /// Adds what a finding says.
@@ -150,6 +152,41 @@ fn add_steps(text: &mut Vec<u8>, steps: u64) -> Result<(), NoMemory>
     add_bytes(text, b"undecided steps ")?;
     add_number(text, steps)?;
     add_bytes(text, b"\n")
+}
+
+/// Adds the lines of what is recorded of a run, where something is.
+fn add_recorded(text: &mut Vec<u8>, recorded: &Option<Recorded>) -> Result<(), NoMemory>
+    ensures { OnOk result (text.new.items ≡ text.old.items ++ recorded_lines recorded.now) }
+{
+    match recorded {
+        None => Ok(()),
+        Some(Recorded::TooLong) => add_bytes(text, b"  recording too long\n"),
+        Some(
+            Recorded::Judged {
+                name,
+                samples,
+                verdict,
+                text: _,
+            },
+        ) => add_judged(text, name, *samples, verdict),
+    }
+}
+
+/// Adds the lines of a recording that was judged.
+fn add_judged(
+    text: &mut Vec<u8>,
+    name: &Text,
+    samples: u32,
+    verdict: &Verdict,
+) -> Result<(), NoMemory>
+    ensures { OnOk result (text.new.items ≡ text.old.items ++ judged_lines name.now samples verdict.now) }
+{
+    add_bytes(text, b"  recording ")?;
+    add_bytes(text, name.as_slice())?;
+    add_bytes(text, b" samples ")?;
+    add_number(text, samples as u64)?;
+    add_bytes(text, b"\n  judged ")?;
+    add_answers(text, verdict)
 }
 
 /// Adds the value of a column, behind its name.

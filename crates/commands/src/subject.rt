@@ -1,6 +1,8 @@
-ghost use Rattle.std.specs.Prelude.{◌∷◌, [], All, IfOk};
+ghost use Rattle.std.specs.Prelude.{◌≤◌, ◌∷◌, [], All, IfOk};
 ghost use Rattle.findings.specs.Assertions.{AreNumbered};
+ghost use Rattle.findings.specs.Traceable.{HasTraces};
 ghost use Rattle.psl_tree.specs.Atoms.{AtomsOfFormula};
+ghost use Rattle.psl_tree.specs.Counts.{formula_size};
 ghost use Rattle.psl_tree.specs.Names.{AtomInRange};
 ghost use Rattle.psl_tree.specs.Trees.{formula_of};
 ghost use Rattle.commands.specs.Stages.{IsStage, IsReading};
@@ -31,6 +33,8 @@ pub fn load_subject<F: Shelf>(
     ensures stage { IsStage (unit.now ∷ netlist.now ∷ []) (SubjectStage unit.now netlist.now) (F.state files.old) (F.state files.new) result }
     ensures in_range { IfOk result (λ subject. All (λ directive. AtomsOfFormula (AtomInRange subject.netlist.names) (formula_of directive.formula)) subject.directives) }
     ensures numbered { IfOk result (λ subject. AreNumbered subject.directives) }
+    ensures small { IfOk result (λ subject. All (λ directive. formula_size (formula_of directive.formula) ≤ 4096) subject.directives) }
+    ensures traces { IfOk result (λ subject. HasTraces subject.netlist) }
 {
     let circuit = load_circuit(alloc, files, unit, netlist)?;
     subject_of(alloc, circuit, unit)
@@ -38,9 +42,12 @@ pub fn load_subject<F: Shelf>(
 
 /// The same of what was read.
 fn subject_of(alloc: Global, circuit: Circuit, unit: &str) -> Result<Subject, Fault>
+    requires traces { HasTraces circuit.netlist }
     ensures reading { IsReading (unit.now ∷ []) (SubjectReading unit.now circuit) result }
     ensures in_range { IfOk result (λ subject. All (λ directive. AtomsOfFormula (AtomInRange subject.netlist.names) (formula_of directive.formula)) subject.directives) }
     ensures numbered { IfOk result (λ subject. AreNumbered subject.directives) }
+    ensures small { IfOk result (λ subject. All (λ directive. formula_size (formula_of directive.formula) ≤ 4096) subject.directives) }
+    ensures traces { IfOk result (λ subject. HasTraces subject.netlist) }
 {
     let Circuit { tree, netlist } = circuit;
     let directives = directives(alloc, &tree, netlist.names(), unit)?;

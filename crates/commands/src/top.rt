@@ -2,17 +2,17 @@ ghost use Rattle.std.specs.Prelude.{◌≡◌, ◌≢◌, ◌⊎◌, ◌<◌, �
 ghost use Rattle.psl_base.specs.Faults.{Rose};
 ghost use Rattle.psl_base.specs.Shelf.{Contents};
 ghost use Rattle.command_line.specs.Commands.{meaning_of};
-ghost use Rattle.command_line.specs.Commands.Meaning.{wave as a_wave};
+ghost use Rattle.command_line.specs.Commands.Meaning.{wave as a_wave, check as a_check, replay as a_replay};
+ghost use Rattle.command_line.specs.Evidences.{evidence_of};
 ghost use Rattle.command_line.specs.Ranges.{IsInRange};
 ghost use Rattle.commands.specs.Commands.{FirstRefusal, HadToTell, IsCommand, IsOfCommand, IsOutcomeOf, IsNamed, IsNoCommand, findings_outcome};
 ghost use Rattle.commands.specs.Endings.{status_of, Explained, Prints, IsOutOfMemory, IsDeviceStatus};
 ghost use Rattle.commands.specs.Faults.{of_none};
 ghost use Rattle.commands.specs.Planning.{IsAnswer};
-ghost use Rattle.commands.specs.Saved.{AreToWrite, FailsToWrite, IsSavedBy, certificates, prefix_of};
+ghost use Rattle.commands.specs.Saved.{AreToWrite, FailsToWrite, IsSavedBy, files_of_outcome, wanted_of};
 ghost use Rattle.commands.specs.Stages.{OfTold, IsUnread};
 ghost use Rattle.commands.specs.Text.{text_of, IsShowable};
 ghost use Rattle.saving.specs.Saves.{file_of};
-ghost use Rattle.std.specs.Option.{option_map};
 ghost use Rattle.vcd_reader.specs.Rules.{sample_limit};
 
 use crate::check::{Question, check};
@@ -22,16 +22,17 @@ use crate::generated::generate;
 use crate::outcome::{Fault, Outcome, Report};
 use crate::prove::{Found, Request, prove};
 use crate::reason::Reason;
+use crate::replayed::replay_files;
 use crate::report::report;
 use crate::saves::saves_of;
 use crate::show::{show, show_netlist};
 use crate::wave::{unknown_of, wave};
-use command_line::{Command, Limits, Unknown, WordsFault, one_command, read_words};
+use command_line::{Command, Evidence, Limits, Unknown, WordsFault, one_command, read_words};
 use psl_base::{Shelf, Sink};
 use std::alloc::Global;
 use vcd_reader::SAMPLE_LIMIT;
 
-/// Runs the command that the words after the program's name give. It reads files, writes those of certificates where that
+/// Runs the command that the words after the program's name give. It reads files, writes those of evidence where that
 /// is asked for, prints what it finds out on `out` or a fault's line on `err`, and tells how it ended.
 pub fn run<F: Shelf, O: Sink, E: Sink>(
     alloc: Global,
@@ -41,12 +42,12 @@ pub fn run<F: Shelf, O: Sink, E: Sink>(
     err: &mut E,
 ) -> Report
     // The status follows from what was found out and the fault: without one it is 1 exactly where some assert or
-    // assume is neutral no, some assertion is violated or the certificate is refused, else 6 where some assertion is
-    // undecided, else 0.
+    // assume is neutral no, some assertion is violated, the certificate is refused or the recording leaves the netlist,
+    // else 6 where some assertion is undecided, else 0.
     ensures status { result.status ≡ status_of result.outcome result.fault }
 
     // Each fault has its cause; without one, nothing that is told is refused. Writing has failed only where the count of
-    // an output rose, or where the certificate of a proved assertion was to be written and the count of writing rose.
+    // an output rose, or where a certificate or a recording was to be written and the count of writing rose.
     ensures cause { Explained (Rose (O.state out.old).faults (O.state out.new).faults ⊎ (Rose (E.state err.old).faults (E.state err.new).faults
         ⊎ FailsToWrite (map string_bytes words.now) result.outcome (F.state files.old) (F.state files.new)))
         (F.state files.old) (F.state files.new) (FirstRefusal (map string_bytes words.now)) result.fault }
@@ -90,9 +91,10 @@ pub fn run<F: Shelf, O: Sink, E: Sink>(
         → (Rose (O.state out.old).faults (O.state out.new).faults → ⊥) → (Rose (E.state err.old).faults (E.state err.new).faults → ⊥)
         → FirstRefusal (map string_bytes words.now) told result.fault ⊎ IsOutOfMemory result.fault }
 
-    // Where a prefix is given, the certificate of each proved assertion is written to its name, `PREFIX.N.cert`, and every
-    // other content is as before; with a fault of writing the first ones are, and the next may be in part. With any other
-    // fault, and where nothing is to be written, every content is as before.
+    // Where prefixes are given, the certificate of each proved assertion is written to its name, `PREFIX.N.cert`, and the
+    // recording of each violated one that is not too long to its own, `PREFIX.N.vcd`, and every other content is as before;
+    // with a fault of writing the first ones are, in the order of the assertions, and the next may be in part. With any
+    // other fault, and where nothing is to be written, every content is as before.
     ensures saved { IsSavedBy (map string_bytes words.now) result.outcome result.fault (F.state files.old) (F.state files.new) }
 {
     let planned = plan(alloc, words, files);
@@ -107,7 +109,7 @@ fn plan<F: Shelf>(alloc: Global, words: &[String], files: &mut F) -> Result<Plan
 {
     let command = command(alloc, words)?;
     let outcome = outcome(alloc, files, command)?;
-    made(alloc, prefix_of(command), outcome)
+    made(alloc, wanted_of(command), outcome)
 }
 
 /// The command that the words are.
@@ -146,12 +148,13 @@ fn outcome<F: Shelf>(alloc: Global, files: &mut F, command: Command<'_>) -> Resu
             unit,
             netlist,
             limits,
-            cert: _,
+            evidence,
         } => {
             let request = Request {
                 unit,
                 netlist,
                 limits,
+                evidence,
             };
             let found = prove(alloc, files, request)?;
             Ok(findings_outcome(found, limits))
@@ -161,26 +164,27 @@ fn outcome<F: Shelf>(alloc: Global, files: &mut F, command: Command<'_>) -> Resu
             netlist,
             number,
             certificate,
-        } => {
-            let question = Question {
-                unit,
-                netlist,
-                number,
-                certificate,
-            };
-            Ok(Outcome::Checked(number, check(alloc, files, question)?))
-        }
+        } => check_outcome(alloc, files, unit, netlist, number, certificate),
+        Command::Replay {
+            unit,
+            netlist,
+            recording,
+        } => replay_outcome(alloc, files, unit, netlist, recording),
         Command::Gen { seed, samples } => generate(alloc, seed, samples),
     }
 }
 
-/// The prefix of the names of the files that a command writes.
-fn prefix_of(command: Command<'_>) -> Option<&str>
-    ensures { option_map (λ s. s.now) result ≡ prefix_of (meaning_of command.entry) }
+/// The files of evidence that a command is to leave.
+fn wanted_of(command: Command<'_>) -> Evidence<'_>
+    ensures { evidence_of result ≡ wanted_of (meaning_of command.entry) }
 {
     match command {
-        Command::Prove { cert, .. } => cert,
-        _ => None,
+        Command::Prove { evidence, .. } => evidence,
+        _ => Evidence {
+            cert: None,
+            vcd: None,
+            loops: 1,
+        },
     }
 }
 
@@ -200,6 +204,45 @@ fn wave_outcome<F: Shelf>(
     Ok(Outcome::Wave(verdicts))
 }
 
+/// What `check` finds out.
+fn check_outcome<F: Shelf>(
+    alloc: Global,
+    files: &mut F,
+    unit: &str,
+    netlist: &str,
+    number: u32,
+    certificate: &str,
+) -> Result<Outcome, Fault>
+    ensures showable { IfOk result IsShowable }
+    ensures answer { (words : List (List ℕ)) → IsCommand words (a_check unit.now netlist.now number certificate.now)
+        → IsAnswer (λ (outcome : Outcome). outcome) words (F.state files.old) (F.state files.new) result }
+{
+    let question = Question {
+        unit,
+        netlist,
+        number,
+        certificate,
+    };
+    let answer = check(alloc, files, question)?;
+    Ok(Outcome::Checked(number, answer))
+}
+
+/// What `replay` finds out.
+fn replay_outcome<F: Shelf>(
+    alloc: Global,
+    files: &mut F,
+    unit: &str,
+    netlist: &str,
+    recording: &str,
+) -> Result<Outcome, Fault>
+    ensures showable { IfOk result IsShowable }
+    ensures answer { (words : List (List ℕ)) → IsCommand words (a_replay unit.now netlist.now recording.now)
+        → IsAnswer (λ (outcome : Outcome). outcome) words (F.state files.old) (F.state files.new) result }
+{
+    let found = replay_files(alloc, files, unit, netlist, recording)?;
+    Ok(Outcome::Replayed(found.replay, found.samples, found.verdicts))
+}
+
 /// The outcome of `prove`.
 fn findings_outcome(found: Found, limits: Limits) -> Outcome
     ensures { result ≡ findings_outcome limits found }
@@ -212,15 +255,15 @@ fn findings_outcome(found: Found, limits: Limits) -> Outcome
     }
 }
 
-/// An outcome with its files, whose names have this prefix, and its text.
-fn made(alloc: Global, prefix: Option<&str>, outcome: Outcome) -> Result<Planned, Fault>
+/// An outcome with its files of evidence and its text.
+fn made(alloc: Global, evidence: Evidence<'_>, outcome: Outcome) -> Result<Planned, Fault>
     requires { IsShowable outcome }
     ensures outcome { IfOk result (λ made. made.outcome ≡ outcome) }
     ensures text { IfOk result (λ made. made.text ≡ text_of made.outcome) }
-    ensures saves { IfOk result (λ made. map file_of made.saves ≡ certificates (option_map (λ s. s.now) prefix.entry) outcome) }
+    ensures saves { IfOk result (λ made. map file_of made.saves ≡ files_of_outcome (evidence_of evidence.entry) outcome) }
     ensures memory { IfErr result (λ fault. fault ≡ of_none Reason.NoMemory) }
 {
-    let saves = saves_of(alloc, prefix, &outcome)?;
+    let saves = saves_of(alloc, evidence, &outcome)?;
     let text = report(alloc, &outcome)?;
     Ok(Planned {
         outcome,

@@ -83,7 +83,7 @@ fn unknown_fault(alloc: Global, name: &str, recording: &Recording, sample: u32) 
 }
 
 /// The verdicts of directives on a recording.
-fn judged(
+pub(crate) fn judged(
     alloc: Global,
     directives: &Unit,
     recording: &Recording,

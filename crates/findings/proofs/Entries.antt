@@ -1,5 +1,5 @@
 -- One finding more.
-use Rattle.std.proofs.Common.{◌≡◌, ap, subst, sym, ◌∙◌, ℕ, ◌+◌, ◌<◌, true, false, cond, List, [], ◌∷◌, ◌++◌, length, take}
+use Rattle.std.proofs.Common.{◌≡◌, ap, subst, sym, ◌∙◌, ℕ, ◌+◌, ◌<◌, true, false, cond, Option, List, [], ◌∷◌, ◌++◌, length, take}
 use Rattle.std.specs.Prelude.{slice_index_or}
 use Rattle.std.proofs.lemmas.List.{append-nil}
 use Rattle.std.proofs.lemmas.List.Elements.{filter_more}
@@ -11,10 +11,10 @@ use Rattle.findings.specs.Assertions.{assertions}
 use Rattle.findings.specs.Entries.{AreEntries, IsEntry}
 use Rattle.findings.specs.declared.entry.FindingEntry.{FindingEntry}
 
-module _ (design : Design) (unit : List Directive) (options : Options) where
+module _ (design : Design) (unit : List Directive) (options : Options) (wanted : Option (List ℕ × ℕ)) where
   entries-more : (ds : List Directive) (es : List FindingEntry) (d : Directive) (e : FindingEntry)
-      → AreEntries design unit options ds es → IsEntry design unit options d e
-      → AreEntries design unit options (ds ++ d ∷ []) (es ++ e ∷ [])
+      → AreEntries design unit options wanted ds es → IsEntry design unit options wanted d e
+      → AreEntries design unit options wanted (ds ++ d ∷ []) (es ++ e ∷ [])
   entries-more [] [] d e h k = (k, tt)
   entries-more [] (_ ∷ _) d e h k = absurd h
   entries-more (_ ∷ _) [] d e h k = absurd h
@@ -23,10 +23,10 @@ module _ (design : Design) (unit : List Directive) (options : Options) where
   -- the directive at a place is an assertion, and its finding comes behind the others
   pub with-assertion : (ds : List Directive) (place : ℕ) (d : Directive) (es : List FindingEntry) (e : FindingEntry) → place < length ds
       → d ≡ slice_index_or ds place d → is_assertion d.kind ≡ true
-      → AreEntries design unit options (assertions (take place ds)) es → IsEntry design unit options d e
-      → AreEntries design unit options (assertions (take (place + 1) ds)) (es ++ e ∷ [])
+      → AreEntries design unit options wanted (assertions (take place ds)) es → IsEntry design unit options wanted d e
+      → AreEntries design unit options wanted (assertions (take (place + 1) ds)) (es ++ e ∷ [])
   with-assertion ds place d es e lt here is h k =
-      subst (λ all. AreEntries design unit options all (es ++ e ∷ [])) (sym more) (entries-more (assertions (take place ds)) es d e h k)
+      subst (λ all. AreEntries design unit options wanted all (es ++ e ∷ [])) (sym more) (entries-more (assertions (take place ds)) es d e h k)
     where
       more : assertions (take (place + 1) ds) ≡ assertions (take place ds) ++ d ∷ []
       more = filter_more (λ (a : Directive). is_assertion a.kind) ds place d lt
@@ -36,10 +36,10 @@ module _ (design : Design) (unit : List Directive) (options : Options) where
   -- it is none
   pub with-other : (ds : List Directive) (place : ℕ) (d : Directive) (es : List FindingEntry) → place < length ds
       → d ≡ slice_index_or ds place d → is_assertion d.kind ≡ false
-      → AreEntries design unit options (assertions (take place ds)) es
-      → AreEntries design unit options (assertions (take (place + 1) ds)) es
+      → AreEntries design unit options wanted (assertions (take place ds)) es
+      → AreEntries design unit options wanted (assertions (take (place + 1) ds)) es
   with-other ds place d es lt here is h =
-      subst (λ all. AreEntries design unit options all es) (sym more) h
+      subst (λ all. AreEntries design unit options wanted all es) (sym more) h
     where
       more : assertions (take (place + 1) ds) ≡ assertions (take place ds)
       more = filter_more (λ (a : Directive). is_assertion a.kind) ds place d lt

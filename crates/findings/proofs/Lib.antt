@@ -3,4 +3,5 @@ pub mod Entries
 pub mod Faults
 pub mod FirstNames
 pub mod Numbers
+pub mod Recordable
 pub mod Shown

@@ -25,7 +25,7 @@ use Rattle.findings.specs.Entries.{AreEntries, AreFindings}
 use Rattle.findings.specs.declared.entry.FindingEntry.{FindingEntry}
 
 -- the first name of a signal is one of the names
-first-is : (P : Name → Type 0) (names : List Name) (signal : ℕ) (name : Name) → All P names → Some name ≡ first_name names signal → P name
+pub first-is : (P : Name → Type 0) (names : List Name) (signal : ℕ) (name : Name) → All P names → Some name ≡ first_name names signal → P name
 first-is P names signal name all is =
     let at : slice_get names (position_or_len (λ n. n.signal == signal) names) ≡ Some name = sym (is ∙ find_at (λ n. n.signal == signal) names) in
     let place = position_or_len (λ n. n.signal == signal) names in
@@ -43,7 +43,7 @@ columns-within design columns sound are place column lt =
         ∙ ap (λ (os : List (Option Name)). get_or os place None) are
         ∙ get_or-map (first_name design.names) (free_of design) place 0 None (omega (arith, long))
 
-module _ (design : Design) (unit : List Directive) (options : Options) (columns : List Name) (within : All (λ column. column.signal < design.signals) columns) where
+module _ (design : Design) (unit : List Directive) (options : Options) (wanted : Option (List ℕ × ℕ)) (columns : List Name) (within : All (λ column. column.signal < design.signals) columns) where
   has-columns : (valuation : List Bool) → IsValuation design valuation → HasColumns columns valuation
   has-columns valuation is place column lt = subst (λ n. (get_or columns place column).signal < n) (sym is.size) (within place column lt)
 
@@ -62,14 +62,14 @@ module _ (design : Design) (unit : List Directive) (options : Options) (columns 
   finding-shows assertion (findings.LogFull _ _) is = tt
   finding-shows assertion (findings.Large _) is = tt
 
-  entries-show : (ds : List Directive) (es : List FindingEntry) → AreEntries design unit options ds es → ShowColumns columns es
+  entries-show : (ds : List Directive) (es : List FindingEntry) → AreEntries design unit options wanted ds es → ShowColumns columns es
   entries-show [] [] h = All-nil (λ e. ShowsColumns columns e.finding)
   entries-show [] (_ ∷ _) h = absurd h
   entries-show (_ ∷ _) [] h = absurd h
   entries-show (a ∷ ds) (e ∷ es) h =
       All-cons (λ e. ShowsColumns columns e.finding) e es (finding-shows a e.finding h.0.finding) (entries-show ds es h.1)
 
-pub all-shown : (design : Design) (unit : List Directive) (options : Options) (columns : List Name) (entries : List FindingEntry)
-    → IsSound design → AreColumns design columns → AreFindings design unit options entries → ShowColumns columns entries
-all-shown design unit options columns entries sound are h =
-    entries-show design unit options columns (columns-within design columns sound are) (assertions unit) entries h
+pub all-shown : (design : Design) (unit : List Directive) (options : Options) (wanted : Option (List ℕ × ℕ)) (columns : List Name) (entries : List FindingEntry)
+    → IsSound design → AreColumns design columns → AreFindings design unit options wanted entries → ShowColumns columns entries
+all-shown design unit options wanted columns entries sound are h =
+    entries-show design unit options wanted columns (columns-within design columns sound are) (assertions unit) entries h

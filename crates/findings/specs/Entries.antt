@@ -1,5 +1,5 @@
 -- What is found out of the assertions of a text.
-use Rattle.std.specs.Prelude.{◌≡◌, ℕ, List, [], ◌∷◌}
+use Rattle.std.specs.Prelude.{◌≡◌, ℕ, List, [], ◌∷◌, Option}
 use Rattle.cert_check.specs.Claims.{asked_of, queries_of}
 use Rattle.cert_check.specs.Limits.{IsFault}
 use Rattle.cert_check.specs.declared.fault.CertFault.{CertFault}
@@ -15,6 +15,7 @@ use Rattle.prover.specs.declared.finding.Finding.TheVariants.{Proved}
 use Rattle.prover.specs.declared.options.Options.{Options}
 use Rattle.psl_tree.specs.declared.directive.Directive.{Directive}
 use Rattle.findings.specs.Assertions.{assertions}
+use Rattle.findings.specs.Recordings.{IsRecorded}
 use Rattle.findings.specs.declared.entry.FindingEntry.{FindingEntry}
 
 -- The text of a certificate, in either version, is passed for the assertion of a number: no line of it is refused. Nor does
@@ -26,20 +27,22 @@ pub record IsPassedFor (design : Design) (unit : List Directive) (number : ℕ) 
       → IsFault design unit number (cert_text version certificate) fault → fault ≡ NoMemory
 
 -- the finding of an assertion of the text, with its evidence; where it is proved, the certificate is passed
-pub record IsEntry (design : Design) (unit : List Directive) (options : Options) (assertion : Directive) (entry : FindingEntry) : Type 0 where
+pub record IsEntry (design : Design) (unit : List Directive) (options : Options) (wanted : Option (List ℕ × ℕ)) (assertion : Directive)
+    (entry : FindingEntry) : Type 0 where
   pub number : entry.number ≡ assertion.number
   pub label : entry.label ≡ assertion.label
   pub finding : IsFinding design unit assertion options entry.finding
+  pub recorded : IsRecorded design assertion wanted entry.finding entry.recorded
   pub passed : (certificate : Certificate) → entry.finding ≡ Proved certificate
       → IsPassedFor design unit entry.number certificate
 
 -- one for each of some assertions, in order
-abbrev pub AreEntries : Design → List Directive → Options → List Directive → List FindingEntry → Type 0
-AreEntries design unit options [] [] = Unit {0}
-AreEntries design unit options (assertion ∷ assertions) (entry ∷ entries) =
-    IsEntry design unit options assertion entry × AreEntries design unit options assertions entries
-AreEntries design unit options _ _ = ⊥
+abbrev pub AreEntries : Design → List Directive → Options → Option (List ℕ × ℕ) → List Directive → List FindingEntry → Type 0
+AreEntries design unit options wanted [] [] = Unit {0}
+AreEntries design unit options wanted (assertion ∷ assertions) (entry ∷ entries) =
+    IsEntry design unit options wanted assertion entry × AreEntries design unit options wanted assertions entries
+AreEntries design unit options wanted _ _ = ⊥
 
 -- one for each assertion of the text
-abbrev pub AreFindings : Design → List Directive → Options → List FindingEntry → Type 0
-AreFindings design unit options entries = AreEntries design unit options (assertions unit) entries
+abbrev pub AreFindings : Design → List Directive → Options → Option (List ℕ × ℕ) → List FindingEntry → Type 0
+AreFindings design unit options wanted entries = AreEntries design unit options wanted (assertions unit) entries

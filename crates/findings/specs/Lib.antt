@@ -1,4 +1,6 @@
 pub mod Assertions
 pub mod Columns
 pub mod Entries
+pub mod Recordings
 pub mod Sizes
+pub mod Traceable

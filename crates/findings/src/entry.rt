@@ -1,3 +1,4 @@
+use crate::recording::Recorded;
 use prover::Finding;
 use psl_base::{Items, Text};
 
@@ -9,6 +10,8 @@ pub struct FindingEntry {
     /// Its label, where it has one.
     pub label: Option<Text>,
     pub finding: Finding,
+    /// What is recorded of a run that was found, where recordings are wanted.
+    pub recorded: Option<Recorded>,
 }
 
 /// A finding for each assertion of a text, in order.

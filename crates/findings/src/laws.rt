@@ -1,5 +1,5 @@
 // What follows from the definitions alone.
-ghost use Rattle.std.specs.Prelude.{◌≡◌, ◌⊎◌, List, Result, Ok, Err, IfOk, IfErr};
+ghost use Rattle.std.specs.Prelude.{◌≡◌, ◌⊎◌, ℕ, List, Option, Result, Ok, Err, IfOk, IfErr};
 ghost use Rattle.cert_check.specs.Claims.{asked_of, queries_of};
 ghost use Rattle.cert_check.specs.Limits.{IsFault};
 ghost use Rattle.cert_check.specs.declared.fault.CertFault.{CertFault};
@@ -19,9 +19,9 @@ ghost use Rattle.psl_tree.specs.declared.directive.Directive.{Directive};
 /// either version, for the same text, number and netlist, it answers that it is passed, unless memory is refused. What is
 /// said of its result is what `check_cert` says of it.
 pub fn passed_law()
-    ensures passed { (design : Design) (unit : List Directive) (options : Options) (assertion : Directive)
+    ensures passed { (design : Design) (unit : List Directive) (options : Options) (wanted : Option (List ℕ × ℕ)) (assertion : Directive)
         (entry : FindingEntry) (certificate : Certificate) (version : Version) (result : Result CertAnswer CertFault)
-        → IsEntry design unit options assertion entry → entry.finding ≡ Proved certificate
+        → IsEntry design unit options wanted assertion entry → entry.finding ≡ Proved certificate
         → IfOk result (IsAnswer (asked_of unit entry.number) (queries_of design unit entry.number) (cert_text version certificate))
         → IfErr result (IsFault design unit entry.number (cert_text version certificate))
         → (result ≡ Ok CertAnswer.Passed) ⊎ (result ≡ Err CertFault.NoMemory) }

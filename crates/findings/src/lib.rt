@@ -6,10 +6,12 @@ mod entry;
 mod laws;
 mod names;
 mod proving;
+mod recording;
 mod sizes;
 
 pub use entry::{FindingEntry, Findings};
 pub use laws::passed_law;
 pub use names::columns;
 pub use proving::prove_all;
+pub use recording::{Recorded, Recordings};
 pub use sizes::{SizeFault, check_all};

@@ -1,13 +1,16 @@
-ghost use Rattle.std.specs.Prelude.{◌≡◌, ◌≤◌, All, IfOk};
+ghost use Rattle.std.specs.Prelude.{◌≡◌, ◌≤◌, ◌∷◌, [], All, IfOk};
 ghost use Rattle.findings.specs.Assertions.{AreNumbered, IsAssertionOf};
 ghost use Rattle.findings.specs.Entries.{AreFindings, IsEntry};
+ghost use Rattle.findings.specs.Recordings.{wanted_of};
 ghost use Rattle.findings.specs.Sizes.{AreWithin};
+ghost use Rattle.findings.specs.Traceable.{AreTraceable};
 ghost use Rattle.prover.specs.Tasks.{IsProvable};
 ghost use Rattle.psl_tree.specs.Atoms.{AtomsOfFormula};
 ghost use Rattle.psl_tree.specs.Names.{AtomInRange};
 ghost use Rattle.psl_tree.specs.Trees.{formula_of};
 
 use crate::entry::{FindingEntry, Findings};
+use crate::recording::{Recordings, recorded_of};
 use netlist::Netlist;
 use owed::is_assertion;
 use prover::{Options, Task, prove};
@@ -16,12 +19,14 @@ use psl_tree::{Directive, Unit};
 use std::alloc::Global;
 
 /// What is found out of each assertion of a text on a netlist. They are within the limits, and all that the text names
-/// are signals of the netlist. The certificate of one that is proved is passed by the checker.
+/// are signals of the netlist. The certificate of one that is proved is passed by the checker, and a run that violates one is
+/// recorded where recordings are wanted.
 pub fn prove_all(
     alloc: Global,
     unit: &Unit,
     netlist: &Netlist,
     options: Options,
+    recordings: Option<Recordings<'_>>,
 ) -> Result<Findings, NoMemory>
     requires within { AreWithin netlist.now options.depth unit.now }
     requires in_range { All (λ directive. AtomsOfFormula (AtomInRange netlist.now.names) (formula_of directive.formula)) unit.now }
@@ -29,7 +34,8 @@ pub fn prove_all(
     requires depth { 1 ≤ options.depth }
     requires most { options.depth ≤ 1000 }
     requires visits { options.visits ≤ 16 }
-    ensures { IfOk result (AreFindings netlist.now unit.now options) }
+    requires traceable { AreTraceable netlist.now unit.now (wanted_of recordings) }
+    ensures { IfOk result (AreFindings netlist.now unit.now options (wanted_of recordings.entry)) }
 {
     let mut findings = Findings::new(alloc);
     for directive in unit.as_slice() {
@@ -40,23 +46,30 @@ pub fn prove_all(
                 netlist,
                 options,
             };
-            findings.push(entry_of(alloc, task)?)?;
+            findings.push(entry_of(alloc, task, recordings)?)?;
         }
     }
     Ok(findings)
 }
 
-fn entry_of(alloc: Global, task: Task) -> Result<FindingEntry, NoMemory>
+fn entry_of(
+    alloc: Global,
+    task: Task,
+    recordings: Option<Recordings<'_>>,
+) -> Result<FindingEntry, NoMemory>
     requires provable { IsProvable task }
     requires assertion { IsAssertionOf task.unit.now task.assertion.now }
     requires depth { task.options.depth ≤ 1000 }
-    ensures { IfOk result (IsEntry task.entry.netlist.now task.entry.unit.now task.entry.options task.entry.assertion.now) }
+    requires traceable { AreTraceable task.netlist.now (task.assertion.now ∷ []) (wanted_of recordings) }
+    ensures { IfOk result (IsEntry task.entry.netlist.now task.entry.unit.now task.entry.options (wanted_of recordings.entry) task.entry.assertion.now) }
 {
     let finding = prove(alloc, task)?;
+    let recorded = recorded_of(alloc, task, recordings, &finding)?;
     Ok(FindingEntry {
         number: number_of(task.assertion),
         label: copy_of(alloc, &task.assertion.label)?,
         finding,
+        recorded,
     })
 }
 

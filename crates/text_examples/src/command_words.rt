@@ -1,4 +1,6 @@
-use command_line::{Command, Limits, Unknown, WordsFault, one_command, plain_words, read_words};
+use command_line::{
+    Command, Evidence, Limits, Unknown, WordsFault, one_command, plain_words, read_words,
+};
 use std::alloc::{AllocError, Global};
 use std::test::Fail;
 
@@ -61,7 +63,40 @@ fn prove<'a>(
         unit: "u",
         netlist: "n",
         limits,
-        cert,
+        evidence: Evidence {
+            cert,
+            vcd: None,
+            loops: 1,
+        },
+    };
+    Row { words, wanted }
+}
+
+/// `prove` of the files `u` and `n` that leaves recordings.
+fn recordings<'a>(words: &'a str, vcd: Option<&'a str>, loops: u32) -> Row<'a> {
+    let wanted = Command::Prove {
+        unit: "u",
+        netlist: "n",
+        limits: Limits {
+            depth: 20,
+            visits: 4,
+            steps: 1_000_000,
+        },
+        evidence: Evidence {
+            cert: None,
+            vcd,
+            loops,
+        },
+    };
+    Row { words, wanted }
+}
+
+/// `replay` of the files `u`, `n` and `r`.
+fn replay<'a>(words: &'a str) -> Row<'a> {
+    let wanted = Command::Replay {
+        unit: "u",
+        netlist: "n",
+        recording: "r",
     };
     Row { words, wanted }
 }
@@ -148,6 +183,9 @@ fn numbers(rt: HostRuntime) -> Result<(), Fail> {
         check("check u n 1 c", 1),
         check("check u n 4294967295 c", 4294967295),
         check("check u n 17 -- c", 17),
+        replay("replay u n r"),
+        replay("replay -- u n r"),
+        replay("replay u n -- r"),
     ];
     assert_eq!(rt; first_wrong(rt.alloc(), rows.as_slice())?, None);
     Ok(())
@@ -181,6 +219,10 @@ fn options(rt: HostRuntime) -> Result<(), Fail> {
             2,
             Some("u"),
         ),
+        recordings("prove u n --vcd p/q", Some("p/q"), 1),
+        recordings("prove --vcd=-p --loops=16 u n", Some("-p"), 16),
+        recordings("prove u --loops 1 n", None, 1),
+        recordings("prove u n --loops 7", None, 7),
     ];
     assert_eq!(rt; first_wrong(rt.alloc(), rows.as_slice())?, None);
     Ok(())
@@ -254,6 +296,24 @@ fn refused_options(rt: HostRuntime) -> Result<(), Fail> {
 }
 
 #[test]
+fn refused_recordings(rt: HostRuntime) -> Result<(), Fail> {
+    let lines = [
+        "prove u n --vcd",
+        "prove u n --vcd -p",
+        "prove u n --vcd p --vcd p",
+        "prove u n --loops",
+        "prove u n --loops 0",
+        "prove u n --loops 17",
+        "prove u n --loops 01",
+        "prove u n --loops 2 --loops 2",
+        "replay u n r --loops 2",
+        "replay u n r --vcd p",
+    ];
+    assert_eq!(rt; first_taken(rt.alloc(), lines.as_slice())?, None);
+    Ok(())
+}
+
+#[test]
 fn words_that_are_no_command(rt: HostRuntime) -> Result<(), Fail> {
     let lines = [
         "",
@@ -262,6 +322,7 @@ fn words_that_are_no_command(rt: HostRuntime) -> Result<(), Fail> {
         "help",
         "Wave u r",
         "replay u n",
+        "replay u n r r",
         "wave",
         "wave u",
         "wave u r r",

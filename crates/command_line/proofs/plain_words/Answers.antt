@@ -1,4 +1,4 @@
-use Rattle.command_line.proofs.Plain.{plain_check, plain_depth, plain_gen, plain_netlist, plain_options, plain_prove, plain_show, plain_unknown, plain_wave, show_behind, wave_behind}
+use Rattle.command_line.proofs.Plain.{plain_check, plain_depth, plain_gen, plain_netlist, plain_options, plain_prove, plain_recordings, plain_replay, plain_show, plain_unknown, plain_wave, show_behind, wave_behind}
 use Rattle.command_line.proofs.plain_words.Goals as goal
 
 pub returns : goal.returns
@@ -10,6 +10,8 @@ returns c = record {
   prove = plain_prove;
   depth = plain_depth;
   options = plain_options;
+  recordings = plain_recordings;
+  replay = plain_replay;
   check = plain_check;
   wave_behind = wave_behind;
   show_behind = show_behind;

@@ -27,3 +27,6 @@ returns-in-Check-clause-command c =
 pub returns-in-Check-clause-usage : goal.returns-in-Check-clause-usage
 returns-in-Check-clause-usage c =
     rw c.in-Check.is (IfErr-weaker c.check.result _ _ (λ fault is. is c.args.most_samples) c.check.ensures.usage)
+
+pub returns-in-Replay-clause-command : goal.returns-in-Replay-clause-command
+returns-in-Replay-clause-command c = rw c.in-Replay.is (c.replay.ensures c.args.most_samples)

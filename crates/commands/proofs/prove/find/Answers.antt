@@ -1,8 +1,24 @@
+use Rattle.std.proofs.Common.{ℕ, List, Option, subst, sym}
 use Rattle.commands.proofs.prove.find.Goals as goal
 use Rattle.commands.specs.Provings.{options_of}
 use Rattle.findings.proofs.Shown.{all-shown}
+use Rattle.findings.specs.Entries.{AreFindings}
+use Rattle.findings.specs.Recordings.{wanted_of}
+use Rattle.findings.specs.Traceable.{AreTraceable}
+
+pub prove_all-requires-clause-traceable : goal.prove_all-requires-clause-traceable
+prove_all-requires-clause-traceable c =
+    subst (λ (wanted : Option (List ℕ × ℕ)). AreTraceable c.args.netlist.now c.args.directives.now wanted) (sym c.recordings_of-recordings.ensures) c.requires.traceable
+
+pub returns-clause-found : goal.returns-clause-found
+returns-clause-found c = record {
+  findings =
+      subst (λ (wanted : Option (List ℕ × ℕ)). AreFindings c.args.netlist.now c.args.directives.now (options_of c.args.request.limits) wanted c.in_ok-findings.findings)
+      c.recordings_of-recordings.ensures c.in_ok-findings.ensures;
+  columns = c.in_ok-columns.ensures;
+}
 
 pub returns-clause-shown : goal.returns-clause-shown
 returns-clause-shown c =
-    all-shown c.args.netlist.now c.args.directives.now (options_of c.args.limits) c.in_ok-columns.columns c.in_ok-findings.findings
-    c.soundness_law.ensures.sound c.in_ok-columns.ensures c.in_ok-findings.ensures
+    all-shown c.args.netlist.now c.args.directives.now (options_of c.args.request.limits) (wanted_of c.recordings_of-recordings.result) c.in_ok-columns.columns
+    c.in_ok-findings.findings c.soundness_law.ensures.sound c.in_ok-columns.ensures c.in_ok-findings.ensures

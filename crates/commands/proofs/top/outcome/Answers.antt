@@ -1,5 +1,7 @@
+use Rattle.std.proofs.Common.{◌≤◌}
 use Rattle.std.proofs.lemmas.Result.{err_from_is_err_and}
-use Rattle.commands.proofs.Answering.{show-answers, show-refuses, netlist-answers, netlist-refuses, proof-answers, proof-refuses, check-answers, check-refuses, gen-answers}
+use Rattle.command_line.specs.Ranges.{AreInRange}
+use Rattle.commands.proofs.Answering.{show-answers, show-refuses, netlist-answers, netlist-refuses, proof-answers, proof-refuses, gen-answers}
 use Rattle.commands.proofs.top.outcome.Goals as goal
 
 pub returns-in-Wave-clause-answer : goal.returns-in-Wave-clause-answer
@@ -27,6 +29,14 @@ returns-in_err-show_netlist-in-ShowNetlist-clause-answer g c words is =
     rw (p.1, p.2) (netlist-refuses words c.in-ShowNetlist.unit.now c.in-ShowNetlist.netlist.now (g.F.Shelf.state c.args.files.now)
     (g.F.Shelf.state c.show_netlist.new.files) _ (rw c.in-ShowNetlist.is at is) c.in_err-show_netlist-in-ShowNetlist.ensures)
 
+pub prove-requires-clause-range : goal.prove-requires-clause-range
+prove-requires-clause-range g c =
+    let ranges : AreInRange c.in-Prove.limits × (1 ≤ c.in-Prove.evidence.loops) × (c.in-Prove.evidence.loops ≤ 16) = rw c.in-Prove.is at c.requires in ranges.0
+
+pub prove-requires-clause-loops : goal.prove-requires-clause-loops
+prove-requires-clause-loops g c =
+    let ranges : AreInRange c.in-Prove.limits × (1 ≤ c.in-Prove.evidence.loops) × (c.in-Prove.evidence.loops ≤ 16) = rw c.in-Prove.is at c.requires in ranges.2
+
 pub returns-in_ok-found-in-Prove-clause-answer : goal.returns-in_ok-found-in-Prove-clause-answer
 returns-in_ok-found-in-Prove-clause-answer g c words is =
     rw c.findings_outcome.ensures (proof-answers words c.in-Prove.unit.now c.in-Prove.netlist.now c.in-Prove.limits _
@@ -40,18 +50,11 @@ returns-in_err-found-in-Prove-clause-answer g c words is =
     (g.F.Shelf.state c.args.files.now) (g.F.Shelf.state c.prove.new.files)
     _ (rw c.in-Prove.is at is) c.in_err-found-in-Prove.ensures.stage)
 
-pub returns-in_ok-check-in-Check-clause-answer : goal.returns-in_ok-check-in-Check-clause-answer
-returns-in_ok-check-in-Check-clause-answer g c words is =
-    check-answers words c.in-Check.unit.now c.in-Check.netlist.now c.in-Check.number c.in-Check.certificate.now
-    (g.F.Shelf.state c.args.files.now) (g.F.Shelf.state c.check.new.files)
-    _ (rw c.in-Check.is at is) c.in_ok-check-in-Check.ensures
+pub returns-in-Check-clause-answer : goal.returns-in-Check-clause-answer
+returns-in-Check-clause-answer g c words is = c.check_outcome.ensures.answer words (rw c.in-Check.is at is)
 
-pub returns-in_err-check-in-Check-clause-answer : goal.returns-in_err-check-in-Check-clause-answer
-returns-in_err-check-in-Check-clause-answer g c words is =
-    let p = err_from_is_err_and c.from_residual-in_err-check-in-Check.result c.from_residual-in_err-check-in-Check.ensures.1 in
-    rw (p.1, p.2) (check-refuses words c.in-Check.unit.now c.in-Check.netlist.now c.in-Check.number c.in-Check.certificate.now
-    (g.F.Shelf.state c.args.files.now) (g.F.Shelf.state c.check.new.files)
-    _ (rw c.in-Check.is at is) c.in_err-check-in-Check.ensures)
+pub returns-in-Replay-clause-answer : goal.returns-in-Replay-clause-answer
+returns-in-Replay-clause-answer g c words is = c.replay_outcome.ensures.answer words (rw c.in-Replay.is at is)
 
 pub returns-in-Gen-clause-answer : goal.returns-in-Gen-clause-answer
 returns-in-Gen-clause-answer g c words is =

@@ -25,5 +25,5 @@ returns-clause-answer g c =
 
 pub returns-clause-saves : goal.returns-clause-saves
 returns-clause-saves g c =
-    planned-to-write (map string_bytes c.args.words.now) _ c.in_ok-outcome.outcome c.made.result _ c.in_ok-command.ensures.command c.prefix_of.ensures
+    planned-to-write (map string_bytes c.args.words.now) _ c.in_ok-outcome.outcome c.made.result _ c.in_ok-command.ensures.command c.wanted_of.ensures
     c.made.ensures.outcome c.made.ensures.saves

@@ -1,7 +1,13 @@
 use Rattle.std.proofs.Common.{◌≤◌, arith}
 use Rattle.certificate.specs.declared.certificate.Certificate.{Certificate}
 use Rattle.findings.proofs.Certified.{passed-for}
+use Rattle.findings.proofs.Recordable.{recordable}
 use Rattle.findings.proofs.proving.entry_of.Goals as goal
+use Rattle.findings.specs.Recordings.{wanted_of}
+
+pub recorded_of-requires : goal.recorded_of-requires
+recorded_of-requires c =
+    recordable c.args.task (wanted_of c.args.recordings) c.in_ok-finding.finding c.requires.provable c.requires.depth c.requires.traceable c.in_ok-finding.ensures
 
 pub returns : goal.returns
 returns c =
@@ -10,6 +16,7 @@ returns c =
       number = c.number_of.ensures.is;
       label = c.in_ok-copy_of.ensures;
       finding = c.in_ok-finding.ensures;
+      recorded = c.in_ok-recorded.ensures;
       passed = λ (certificate : Certificate) same. rw c.number_of.ensures.is
           (passed-for c.args.task c.requires.provable c.requires.assertion c.requires.depth few c.in_ok-finding.finding c.in_ok-finding.ensures certificate same);
     }

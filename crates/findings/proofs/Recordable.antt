@@ -1,0 +1,99 @@
+-- A run that is found can be recorded, and its trace be judged.
+use Rattle.std.proofs.Common.{◌≡◌, sym, subst, ℕ, ◌+◌, ◌*◌, ◌<◌, ◌≤◌, List, [], ◌∷◌, length, Option, None, Some, inr, arith}
+use Rattle.std.specs.Prelude.{All, slice_index_or}
+use Rattle.std.proofs.lemmas.List.Elements.{All-cons, All-nil}
+use Rattle.std.proofs.lemmas.Nat.{mul-le}
+use Rattle.alternating.specs.Limits.{HasLargeSequence}
+use Rattle.netlist.specs.Design.{Design}
+use Rattle.netlist.specs.declared.run.Run.{Run}
+use Rattle.owed.specs.Owed.{assumptions, conjunction, under}
+use Rattle.prover.specs.Findings.{IsFinding, IsShortest}
+use Rattle.prover.specs.Tasks.{IsProvable}
+use Rattle.prover.specs.declared.finding.Finding.{Finding}
+use Rattle.prover.specs.declared.finding.Finding.TheVariants as findings
+use Rattle.prover.specs.declared.task.Task.{Task}
+use Rattle.psl_meaning.specs.Plain.{plain}
+use Rattle.psl_tree.specs.Counts.{formula_size, obligations_of}
+use Rattle.psl_tree.specs.Trees.{Formula, formula_of}
+use Rattle.psl_tree.specs.declared.counts.TheConstants.{MOST_CONSTRUCTORS, MOST_OBLIGATIONS}
+use Rattle.psl_tree.specs.declared.directive.Directive.{Directive}
+use Rattle.vcd_reader.specs.Rules.{sample_limit}
+use Rattle.wave_judge.specs.Faults.{IsJudgeable}
+use Rattle.findings.specs.Recordings.{CanRecord, Recordable}
+use Rattle.findings.specs.Traceable.{AreTraceable, IsTraceable}
+
+-- a formula that is small enough under assumptions is so alone
+
+alone-small : (assumed : Option Formula) (formula : Formula) → (HasLargeSequence (plain (under assumed formula) None) → ⊥) → HasLargeSequence (plain formula None) → ⊥
+alone-small None formula small large = small large
+alone-small (Some assumed) formula small large = small (inr large)
+
+alone-few : (assumed : Option Formula) (formula : Formula) → obligations_of (plain (under assumed formula) None) ≤ MOST_OBLIGATIONS
+    → obligations_of (plain formula None) ≤ MOST_OBLIGATIONS
+alone-few None formula few = few
+alone-few (Some assumed) formula few =
+    let both : obligations_of (plain assumed None) + (obligations_of (plain formula None) + 1) + 1 + 1 ≤ MOST_OBLIGATIONS = few in
+    omega (arith, both)
+
+can-judge : (task : Task) → IsProvable task → IsJudgeable task.assertion.now
+can-judge task provable =
+    let assumed = conjunction (assumptions task.unit.now) in
+    let formula = formula_of task.assertion.now.formula in
+    record {
+      sequences = alone-small assumed formula provable.sized.sequences;
+      obligations = alone-few assumed formula provable.sized.obligations;
+    }
+
+-- the samples of a short run, its loop 16 times at most, are few
+few-samples : (stem looped loops : ℕ) → stem + looped ≤ 1000 → loops ≤ 16 → stem + loops * looped ≤ sample_limit
+few-samples stem looped loops short few =
+    let most : loops * looped ≤ 16 * looped = mul-le loops looped 16 looped few (omega arith) in
+    omega (arith, short, most)
+
+can-record : (task : Task) (loops : ℕ) (run : Run) → IsProvable task → task.options.depth ≤ 1000
+    → IsTraceable task.netlist.now (task.assertion.now ∷ []) loops
+    → IsShortest task.netlist.now task.unit.now task.assertion.now task.options.depth run → CanRecord task loops run
+can-record task loops run provable depth traceable shortest =
+    let short : length run.stem + length run.loop_part ≤ 1000 = omega (arith, depth, shortest.within) in
+    record {
+      readable = record {
+        is = shortest.is.is;
+        words = traceable.traces.words;
+        signals = traceable.traces.signals;
+        samples = few-samples (length run.stem) (length run.loop_part) loops short traceable.few;
+      };
+      in_range = provable.assertion;
+      small = traceable.small 0 task.assertion.now (omega arith);
+      judgeable = can-judge task provable;
+    }
+
+pub recordable : (task : Task) (wanted : Option (List ℕ × ℕ)) (finding : Finding) → IsProvable task → task.options.depth ≤ 1000
+    → AreTraceable task.netlist.now (task.assertion.now ∷ []) wanted
+    → IsFinding task.netlist.now task.unit.now task.assertion.now task.options finding → Recordable task wanted finding
+recordable task None finding provable depth traceable is = tt
+recordable task (Some (prefix, loops)) (findings.Violated run) provable depth traceable is = can-record task loops run provable depth traceable is
+recordable task (Some (prefix, loops)) (findings.Proved _) provable depth traceable is = tt
+recordable task (Some (prefix, loops)) (findings.Depth _) provable depth traceable is = tt
+recordable task (Some (prefix, loops)) (findings.Steps _ _) provable depth traceable is = tt
+recordable task (Some (prefix, loops)) (findings.LogFull _ _) provable depth traceable is = tt
+recordable task (Some (prefix, loops)) (findings.Large _) provable depth traceable is = tt
+
+-- one directive of a text
+one-small : (unit items : List Directive) (place : ℕ) (d : Directive) → items ≡ unit → place < length items → d ≡ slice_index_or items place d
+    → All (λ directive. formula_size (formula_of directive.formula) ≤ MOST_CONSTRUCTORS) unit
+    → All (λ directive. formula_size (formula_of directive.formula) ≤ MOST_CONSTRUCTORS) (d ∷ [])
+one-small unit items place d same lt here small =
+    let at : formula_size (formula_of d.formula) ≤ MOST_CONSTRUCTORS =
+    subst (λ (e : Directive). formula_size (formula_of e.formula) ≤ MOST_CONSTRUCTORS) (sym here)
+    (subst (All (λ (e : Directive). formula_size (formula_of e.formula) ≤ MOST_CONSTRUCTORS)) (sym same) small place d lt) in
+    All-cons (λ (e : Directive). formula_size (formula_of e.formula) ≤ MOST_CONSTRUCTORS) d [] at
+    (All-nil (λ (e : Directive). formula_size (formula_of e.formula) ≤ MOST_CONSTRUCTORS))
+
+pub one-traceable : (design : Design) (wanted : Option (List ℕ × ℕ)) (unit items : List Directive) (place : ℕ) (d : Directive) → items ≡ unit
+    → place < length items → d ≡ slice_index_or items place d → AreTraceable design unit wanted → AreTraceable design (d ∷ []) wanted
+one-traceable design None unit items place d same lt here traceable = tt
+one-traceable design (Some (prefix, loops)) unit items place d same lt here traceable = record {
+  traces = traceable.traces;
+  small = one-small unit items place d same lt here traceable.small;
+  few = traceable.few;
+}

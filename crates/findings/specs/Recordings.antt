@@ -1,0 +1,53 @@
+-- The recordings of runs that violate assertions.
+use Rattle.std.specs.Prelude.{◌≡◌, ◌<◌, ◌≤◌, ℕ, List, ◌++◌, length, Option, None, Some, codes, decimal, option_map}
+use Rattle.findings.specs.declared.recording.Recorded.{Recorded}
+use Rattle.findings.specs.declared.recording.Recorded.TheVariants.{Judged, TooLong}
+use Rattle.findings.specs.declared.recording.Recordings.{Recordings}
+use Rattle.netlist.specs.Design.{Design}
+use Rattle.netlist.specs.declared.run.Run.{Run}
+use Rattle.prover.specs.declared.finding.Finding.{Finding}
+use Rattle.prover.specs.declared.finding.Finding.TheVariants as findings
+use Rattle.prover.specs.declared.task.Task.{Task}
+use Rattle.psl_base.specs.Places.{file_limit}
+use Rattle.psl_tree.specs.Atoms.{AtomsOfFormula}
+use Rattle.psl_tree.specs.Counts.{formula_size}
+use Rattle.psl_tree.specs.Names.{AtomInRange}
+use Rattle.psl_tree.specs.Trees.{formula_of}
+use Rattle.psl_tree.specs.declared.counts.TheConstants.{MOST_CONSTRUCTORS}
+use Rattle.psl_tree.specs.declared.directive.Directive.{Directive}
+use Rattle.trace.specs.Trace.{trace_text}
+use Rattle.trace_judge.specs.Verdicts.{IsJudgedUpTo, IsReadable}
+use Rattle.wave_judge.specs.Faults.{IsJudgeable}
+
+-- the prefix of the names of recordings, and how often a loop is written; none where no recording is wanted
+abbrev pub wanted_of : Option Recordings → Option (List ℕ × ℕ)
+wanted_of recordings = option_map (λ (wanted : Recordings). (wanted.prefix.now, wanted.loops)) recordings
+
+-- the file of a recording: `PREFIX.NUMBER.vcd`
+abbrev pub recording_name : List ℕ → ℕ → List ℕ
+recording_name prefix number = prefix ++ codes "." ++ decimal number ++ codes ".vcd"
+
+-- what is recorded of a run: its trace, how many samples that has and what it says of the assertion; or that the trace has
+-- more bytes than a file may have
+abbrev pub IsRecordedRun : Design → Directive → List ℕ × ℕ → Run → Recorded → Type 0
+IsRecordedRun design assertion (prefix, loops) run (Judged name samples verdict text) =
+    (name ≡ recording_name prefix assertion.number)
+    × IsJudgedUpTo file_limit design run loops assertion (Some (record { text = text; samples = samples; verdict = verdict }))
+IsRecordedRun design assertion (prefix, loops) run TooLong = file_limit < length (trace_text design run loops)
+
+-- what is recorded of a finding: something just where it is a run and recordings are wanted
+abbrev pub IsRecorded : Design → Directive → Option (List ℕ × ℕ) → Finding → Option Recorded → Type 0
+IsRecorded design assertion (Some wanted) (findings.Violated run) (Some recorded) = IsRecordedRun design assertion wanted run recorded
+IsRecorded design assertion (Some wanted) (findings.Violated run) None = ⊥
+IsRecorded design assertion _ finding recorded = recorded ≡ None
+
+-- a run of a finding, where it is to be recorded, and the assertion: the trace can be read, and the assertion be judged
+pub record CanRecord (task : Task) (loops : ℕ) (run : Run) : Type 0 where
+  pub readable : IsReadable task.netlist.now run loops
+  pub in_range : AtomsOfFormula (AtomInRange task.netlist.now.names) (formula_of task.assertion.now.formula)
+  pub small : formula_size (formula_of task.assertion.now.formula) ≤ MOST_CONSTRUCTORS
+  pub judgeable : IsJudgeable task.assertion.now
+
+abbrev pub Recordable : Task → Option (List ℕ × ℕ) → Finding → Type 0
+Recordable task (Some (prefix, loops)) (findings.Violated run) = CanRecord task loops run
+Recordable task _ _ = Unit {0}
