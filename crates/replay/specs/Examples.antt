@@ -34,7 +34,7 @@ gated = record {
 -- a recording of signals of one bit, by their names and their values at each sample
 abbrev pub recording_of : List (List ℕ) → List (List Truth) → Sampled
 recording_of texts rows =
-    record { names = named_from 0 texts; samples = map letters_of rows; places = []; unknown = unknowns.Zero }
+    record { names = named_from 0 texts; samples = map letters_of rows; times = []; places = []; unknown = unknowns.Zero }
 
 -- the valuations of a list, and then the last one of it for ever
 abbrev pub listed : List Truth → List (List Truth) → ℕ → List Truth
@@ -88,6 +88,7 @@ abbrev pub one_name : List ℕ → ℕ → ℕ → Sampled
 one_name text left right = record {
   names = record { text = text; signal = 0; left = left; right = right } ∷ [];
   samples = [];
+  times = [];
   places = [];
   unknown = unknowns.Zero;
 }

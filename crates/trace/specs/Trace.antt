@@ -57,12 +57,13 @@ name_in names signal = record { text = printed (first_text names signal); signal
 abbrev pub trace_names : Design → List Name
 trace_names design = map (name_in design.names) (range_with_len 0 design.signals)
 
--- what the trace says: at each sample each signal has the value that it has in the valuation; where its samples begin is
--- left to the text
+-- what the trace says: at each sample, whose time is its number, each signal has the value that it has in the valuation; where
+-- its samples begin is left to the text
 abbrev pub trace_sampled : Unknown → Design → Run → ℕ → Sampled
 trace_sampled unknown design run loops = record {
   names = trace_names design;
   samples = map (λ sample. letters_of (valuation_in run sample)) (range_with_len 0 (count_of run loops));
+  times = range_with_len 0 (count_of run loops);
   places = places_in (trace_text design run loops);
   unknown = unknown;
 }

@@ -108,7 +108,7 @@ by_time bytes old time es new false is equal steady few holds =
       few = λ low. holds.few (omega (arith, below));
     }
 
-equal_last : (last : Option ℕ) (time : ℕ) → is_last last time ≡ true → last ≡ Some time
+pub equal_last : (last : Option ℕ) (time : ℕ) → is_last last time ≡ true → last ≡ Some time
 equal_last None time same = absurd (let wrong : false ≡ true = same in cc)
 equal_last (Some l) time same = ap Some (eqb-true l time same)
 

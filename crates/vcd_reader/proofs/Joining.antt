@@ -12,19 +12,22 @@ use Rattle.psl_base.specs.declared.place.Place.{Place}
 use Rattle.vcd_reader.specs.declared.changes.Change.{Change}
 use Rattle.vcd_reader.specs.declared.fault.VcdFault.{VcdFault}
 use Rattle.vcd_reader.specs.declared.fault.VcdFault.TheVariants as vcd
+use Rattle.vcd_reader.proofs.Firsts.{faultless-none, reading-faultless}
 use Rattle.vcd_reader.proofs.Holding.{State, lettered, Holds}
 use Rattle.vcd_reader.proofs.Saying.{walk-said}
 use Rattle.vcd_reader.proofs.Starting.{begun, offsets, run-starts, run-samples, begun-within, places-kept}
 use Rattle.vcd_reader.proofs.Telling.{state_of, state_in, AgreeWhole, defining_agrees}
-use Rattle.vcd_reader.proofs.Values.{kept, latest, last_change-kept, times_upto-get_or}
+use Rattle.vcd_reader.proofs.Times.{times-kept}
+use Rattle.vcd_reader.proofs.Values.{kept, latest, last_change-kept, times_upto-get_or, times-rise}
 use Rattle.vcd_reader.specs.Declarations.{Declared, nothing_declared}
-use Rattle.vcd_reader.specs.Events.{Event, value_at, times_of}
+use Rattle.vcd_reader.specs.Events.{Event, value_at, times_of, never_fall}
 use Rattle.vcd_reader.specs.declared.unknown.Unknown.{Unknown}
+use Rattle.vcd_reader.specs.FirstFault.{IsFaultless}
 use Rattle.vcd_reader.specs.Meaning.{first_fault, events_after, places_after, unless, dump_by, sampled_of, end_of, reading}
-use Rattle.vcd_reader.specs.Rows.{value_of, rows_of, kept_as, IsSound}
+use Rattle.vcd_reader.specs.Rows.{value_of, rows_of, time_at, kept_as, IsSound}
 use Rattle.vcd_reader.specs.Running.{Outcome, changes_after, starts_after, raised, run_to, defining, Halts}
 use Rattle.vcd_reader.specs.Rules.{rule_at, may_end}
-use Rattle.vcd_reader.specs.Sampled.{Sampled, AreAlike}
+use Rattle.vcd_reader.specs.Sampled.{Sampled, AreAlike, time_of_sample}
 use Rattle.vcd_reader.specs.Changes.{latest_change, letters_in}
 use Rattle.vcd_reader.specs.Standing.{Standing, standing_by, Told, nothing_told, Part, Defining, Telling, Open, Ready, declared_after, part_after, opened_after}
 use Rattle.vcd_reader.specs.Told.{IsReadFault}
@@ -94,8 +97,10 @@ pub says_recording : (unknown : Unknown) (bytes : List ℕ) (d : Declared) (told
 says_recording unknown bytes d told changes starts read =
     let found = read_whole bytes _ read in
     ap (λ (fault : Option VcdFault). unless fault (sampled_of unknown (dump_by (tokens bytes)))) found.none
-    ∙ ap (λ (rows : List (List (Option (List ℕ)))). Ok (record { names = (standing_by (tokens bytes)).declared.names; samples = rows; places = places_after [] (tokens bytes); unknown = unknown })) (samples-held bytes (length (standing_by (tokens bytes)).declared.codes) (events_after [] (tokens bytes)) (state_of told changes) found.holds)
-    ∙ ap (λ (places : List Place). Ok (record { names = (standing_by (tokens bytes)).declared.names; samples = rows_of bytes told.samples changes; places = places; unknown = unknown }))
+    ∙ ap (λ (rows : List (List (Option (List ℕ)))). Ok (record { names = (standing_by (tokens bytes)).declared.names; samples = rows; times = times_of (events_after [] (tokens bytes)); places = places_after [] (tokens bytes); unknown = unknown })) (samples-held bytes (length (standing_by (tokens bytes)).declared.codes) (events_after [] (tokens bytes)) (state_of told changes) found.holds)
+    ∙ ap (λ (times : List ℕ). Ok (record { names = (standing_by (tokens bytes)).declared.names; samples = rows_of bytes told.samples changes; times = times; places = places_after [] (tokens bytes); unknown = unknown }))
+    (times-kept bytes ∙ ap (map (time_at bytes)) (sym (starts-read bytes _ read)))
+    ∙ ap (λ (places : List Place). Ok (record { names = (standing_by (tokens bytes)).declared.names; samples = rows_of bytes told.samples changes; times = map (time_at bytes) starts; places = places; unknown = unknown }))
     (places-kept bytes ∙ ap (map (place_at bytes)) (sym (starts-read bytes _ read)))
     ∙ ap (λ (known : Declared). Ok (kept_as known.names bytes told.samples changes starts unknown)) (sym found.declared)
 
@@ -151,6 +156,36 @@ places-counted unknown bytes recording read =
     let rows = length-map (times_of events) (λ time. map (λ signal. value_at events signal time) (range_with_len 0 signals)) in
     let places = ap length (places-kept bytes) ∙ length-map (offsets begins) (place_at bytes) ∙ length-map begins (λ (t : PlacedToken). t.at) in
     sym (ap (λ (r : Sampled). length r.places) found.0) ∙ places ∙ sym found.1 ∙ sym rows ∙ ap (λ (r : Sampled). length r.samples) found.0
+
+-- there is a time for each sample
+pub times-counted : (unknown : Unknown) (bytes : List ℕ) (recording : Sampled) → reading unknown bytes ≡ Ok recording → length recording.times ≡ length recording.samples
+times-counted unknown bytes recording read =
+    let events = events_after [] (tokens bytes) in
+    let signals = length (standing_by (tokens bytes)).declared.codes in
+    let is = (reading-faultless unknown bytes recording read).1 in
+    let rows = length-map (times_of events) (λ time. map (λ signal. value_at events signal time) (range_with_len 0 signals)) in
+    sym (ap (λ (r : Sampled). length r.times) is) ∙ sym rows ∙ ap (λ (r : Sampled). length r.samples) is
+
+-- times do not fall where there is no fault
+steady-run : (bytes : List ℕ) (standing : Standing) (events : List Event) (out : Result Outcome VcdFault) → AgreeWhole bytes (Ok (standing, events)) out → never_fall None events ≡ true
+steady-run bytes standing events (Ok out) agree = agree.1.steady
+steady-run bytes standing events (Err fault) agree = absurd agree
+
+steady-read : (bytes : List ℕ) → IsFaultless (tokens bytes) → never_fall None (events_after [] (tokens bytes)) ≡ true
+steady-read bytes none =
+    let out = defining nothing_declared Ready (all_tokens bytes) in
+    steady-run bytes (standing_by (tokens bytes)) (events_after [] (tokens bytes)) out
+    (subst (λ (fault : Option VcdFault). AgreeWhole bytes (unless fault (standing_by (tokens bytes), events_after [] (tokens bytes))) out) (faultless-none (end_of bytes) (tokens bytes) none) (whole bytes))
+
+-- a later sample has a higher time
+pub later-higher : (unknown : Unknown) (bytes : List ℕ) (recording : Sampled) → reading unknown bytes ≡ Ok recording → (sample later : ℕ) → sample < later → later < length recording.samples →
+    time_of_sample recording sample < time_of_sample recording later
+later-higher unknown bytes recording read sample later lower in_samples =
+    let is = reading-faultless unknown bytes recording read in
+    let times : times_of (events_after [] (tokens bytes)) ≡ recording.times = ap (λ (r : Sampled). r.times) is.1 in
+    let counted = times-counted unknown bytes recording read in
+    subst (λ (all : List ℕ). get_or all sample 0 < get_or all later 0) times
+    (times-rise None (events_after [] (tokens bytes)) sample later (steady-read bytes is.0) lower (omega (arith, in_samples, counted, ap length times)))
 
 -- a fault of the text is none of the shelf
 abbrev IsOfText : VcdFault → Type 0

@@ -12,5 +12,6 @@ mod Shaped
 mod Short
 mod Starting
 mod Telling
+mod Times
 mod Unknowns
 mod Values

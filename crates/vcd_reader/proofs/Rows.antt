@@ -8,8 +8,8 @@ use Rattle.psl_base.specs.Places.{place_at}
 use Rattle.psl_tree.specs.declared.name.Name.{Name}
 use Rattle.vcd_reader.specs.declared.changes.Change.{Change}
 use Rattle.vcd_reader.specs.declared.unknown.Unknown.{Unknown}
-use Rattle.vcd_reader.specs.Rows.{value_of, rows_of, kept_as, AreInside, IsSound}
-use Rattle.vcd_reader.specs.Sampled.{Sampled, value_in, place_of_time}
+use Rattle.vcd_reader.specs.Rows.{value_of, rows_of, time_at, kept_as, AreInside, IsSound}
+use Rattle.vcd_reader.specs.Sampled.{Sampled, value_in, time_of_sample, place_of_time}
 use Rattle.vcd_reader.specs.Changes.{latest_change, letters_in}
 
 pub length-rows_of : (bytes : List ℕ) (samples : ℕ) (changes : List (List Change)) → length (rows_of bytes samples changes) ≡ samples
@@ -48,6 +48,13 @@ pub change-inside : (bytes : List ℕ) (changes : List (List Change)) (signal sa
 change-inside bytes changes signal samples list change inside in_range here latest =
     let each : All (λ change. (0 < change.len) × (change.start + change.len ≤ length bytes)) list = rw here (inside signal list in_range) in
     latest_change-All (λ change. (0 < change.len) × (change.start + change.len ≤ length bytes)) None samples list change (λ no. absurd (let e : None ≡ Some change = no in cc)) each (sym latest)
+
+-- the time of a sample is that of the token with which it begins
+pub time-kept : (recording : Sampled) (names : List Name) (bytes : List ℕ) (samples : ℕ) (changes : List (List Change)) (starts : List ℕ) (unknown : Unknown) (sample start : ℕ) →
+    kept_as names bytes samples changes starts unknown ≡ recording → sample < length starts → start ≡ get_or starts sample 0 → time_at bytes start ≡ time_of_sample recording sample
+time-kept recording names bytes samples changes starts unknown sample start view in_starts here =
+    ap (time_at bytes) here ∙ sym (get_or-map (time_at bytes) starts sample 0 0 in_starts)
+    ∙ ap (λ (r : Sampled). time_of_sample r sample) view
 
 -- the place of a sample's time is that of the token with which it begins
 pub place-kept : (recording : Sampled) (names : List Name) (bytes : List ℕ) (samples : ℕ) (changes : List (List Change)) (starts : List ℕ) (unknown : Unknown) (sample start : ℕ) →

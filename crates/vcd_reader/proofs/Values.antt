@@ -152,3 +152,20 @@ times_upto-get_or last (At other ∷ es) k steady in_range =
       subst (λ (o : Option ℕ). times_upto o (get_or (times_after o es) k 0) es ≡ suc k) (sym is) (times_upto-get_or (Some other) es k parts.1 here),
     ))
     (none_upto other es parts.1) (λ j below. above_last other es j parts.1 below) (λ j below. times_upto-get_or (Some other) es j parts.1 below) in_range
+
+rise_listed : (same : Bool) (other k j : ℕ) (before times : List ℕ) → (same ≡ true → j < length before → get_or before k 0 < get_or before j 0) → ((i : ℕ) → i < length times → other < get_or times i 0) →
+    ((i n : ℕ) → i < n → n < length times → get_or times i 0 < get_or times n 0) → k < j → j < length (cond same before (other ∷ times)) → get_or (cond same before (other ∷ times)) k 0 < get_or (cond same before (other ∷ times)) j 0
+rise_listed true other k j before times again each next lower in_range = again refl in_range
+rise_listed false other k zero before times again each next lower in_range = absurd (omega (arith, lower))
+rise_listed false other zero (suc j) before times again each next lower in_range = each j (omega (arith, in_range))
+rise_listed false other (suc k) (suc j) before times again each next lower in_range = next k j (omega (arith, lower)) (omega (arith, in_range))
+
+-- a later time of the list is higher
+pub times-rise : (last : Option ℕ) (es : List Event) (k j : ℕ) → never_fall last es ≡ true → k < j → j < length (times_after last es) → get_or (times_after last es) k 0 < get_or (times_after last es) j 0
+times-rise last [] k j steady lower in_range = absurd (omega arith)
+times-rise last (Gets signal value ∷ es) k j steady lower in_range = times-rise last es k j steady lower in_range
+times-rise last (At other ∷ es) k j steady lower in_range =
+    let parts = both (falls last other) (never_fall (Some other) es) steady in
+    rise_listed (is_last last other) other k j (times_after last es) (times_after (Some other) es)
+    (λ same below. times-rise last es k j (subst (λ (o : Option ℕ). never_fall o es ≡ true) (sym (last_is last other same)) parts.1) lower below)
+    (λ i below. above_last other es i parts.1 below) (λ i n under below. times-rise (Some other) es i n parts.1 under below) lower in_range

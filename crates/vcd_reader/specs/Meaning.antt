@@ -84,6 +84,7 @@ abbrev pub sampled_of : Unknown → Dump → Sampled
 sampled_of unknown dump = record {
   names = dump.names;
   samples = map (λ time. map (λ signal. value_at dump.events signal time) (range_with_len 0 dump.signals)) (times_of dump.events);
+  times = times_of dump.events;
   places = dump.places;
   unknown = unknown;
 }

@@ -17,6 +17,8 @@ pub record Sampled : Type 0 where
   -- for each sample the value of each signal, in the order of their numbers, as letters from the left;
   -- none where the signal was not given a value yet
   pub samples : List (List (Option (List ℕ)))
+  -- for each sample its time, the number behind `#`
+  pub times : List ℕ
   -- for each sample the place of the first token that lists its time
   pub places : List Place
   -- what an unknown bit reads as
@@ -83,6 +85,10 @@ bit_at recording sample signal bit = bit_of recording.unknown (value_in recordin
 -- whether a bit is unknown at a sample, however it reads
 abbrev pub unknown_at : Sampled → ℕ → ℕ → ℕ → Truth
 unknown_at recording sample signal bit = is_unknown_of (value_in recording sample signal) bit
+
+-- the time of a sample
+abbrev pub time_of_sample : Sampled → ℕ → ℕ
+time_of_sample recording sample = slice_index_or recording.times sample 0
 
 -- the place of the first token that lists a sample's time
 abbrev pub place_of_time : Sampled → ℕ → Place

@@ -33,6 +33,7 @@ abbrev pub example_under : Unknown → Sampled
 example_under unknown = record {
   names = record { text = codes "v"; signal = 0; left = 3; right = 0 } ∷ record { text = codes "b"; signal = 1; left = 0; right = 0 } ∷ record { text = codes "c"; signal = 2; left = 1; right = 0 } ∷ [];
   samples = (Some (codes "x1") ∷ Some (codes "x") ∷ None ∷ []) ∷ (Some (codes "1") ∷ Some (codes "x") ∷ None ∷ []) ∷ [];
+  times = 0 ∷ 7 ∷ [];
   places = record { line = 5; column = 1 } ∷ record { line = 11; column = 1 } ∷ [];
   unknown = unknown;
 }

@@ -5,7 +5,7 @@ ghost use Rattle.vcd_reader.specs.Events.{is_last, falls};
 ghost use Rattle.vcd_reader.specs.Rules.{sample_limit};
 ghost use Rattle.vcd_reader.specs.Running.{Held, telling, nothing_held, changes_with, Goes, GoesOn, Halts};
 ghost use Rattle.vcd_reader.specs.Shapes.{shape_of};
-ghost use Rattle.vcd_reader.specs.Standing.{Ready, Telling, WantsUnreadCode, WantsVectorCode};
+ghost use Rattle.vcd_reader.specs.Standing.{Ready, Telling, WantsUnreadCode, WantsVectorCode, time_of};
 
 use crate::VcdFault;
 use crate::changes::{Change, Changes};
@@ -156,7 +156,7 @@ impl Body {
         if self.in_block {
             return Err(VcdFault::MissingEnd(token.place()));
         }
-        let Some(time) = decimal(u64::MAX, tail(token.text())) else {
+        let Some(time) = time_of(token.text()) else {
             return Err(VcdFault::BadTime(token.place()));
         };
         if falls(self.last, time) {
@@ -268,6 +268,13 @@ fn unread(found: &Definitions, cursor: &mut Cursor) -> Result<(), VcdFault>
         return Err(VcdFault::CodeNotDeclared(code.place()));
     }
     Ok(())
+}
+
+/// The number behind a text's first byte, which is `#`.
+pub fn time_of(text: &[u8]) -> Option<u64>
+    ensures { result ≡ time_of text.now }
+{
+    decimal(u64::MAX, tail(text))
 }
 
 /// What stands behind a text's first byte.

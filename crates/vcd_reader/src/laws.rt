@@ -1,11 +1,11 @@
-ghost use Rattle.std.specs.Prelude.{◌≡◌, ℕ, ◌⊎◌, true, false, length, List, Ok, Err};
+ghost use Rattle.std.specs.Prelude.{◌≡◌, ◌<◌, ℕ, ◌⊎◌, true, false, length, List, Ok, Err};
 ghost use Rattle.psl_base.specs.Tokens.{tokens};
 ghost use Rattle.vcd_reader.specs.Declarations.{Declared};
 ghost use Rattle.vcd_reader.specs.FirstFault.{IsFaultless, IsFirst};
 ghost use Rattle.vcd_reader.specs.Meaning.{dump_by, end_of, reading, sampled_of, unknown_in};
 ghost use Rattle.vcd_reader.specs.Rows.{kept_as};
 ghost use Rattle.vcd_reader.specs.Running.{run_whole};
-ghost use Rattle.vcd_reader.specs.Sampled.{Sampled, bit_at, is_one_under, unknown_at};
+ghost use Rattle.vcd_reader.specs.Sampled.{Sampled, bit_at, is_one_under, time_of_sample, unknown_at};
 ghost use Rattle.vcd_reader.specs.Standing.{Told, Telling};
 ghost use Rattle.vcd_reader.specs.Unknowns.{AreRead};
 ghost use Rattle.vcd_reader.specs.declared.changes.Change.{Change};
@@ -42,6 +42,13 @@ pub fn unknown_law()
 /// A law of the definitions: each sample has a place where its time is listed.
 pub fn places_law()
     ensures { (unknown : Unknown) (bytes : List ℕ) (recording : Sampled) → reading unknown bytes ≡ Ok recording → length recording.places ≡ length recording.samples }
+{}
+
+/// A law of the definitions: each sample has a time, and a later sample a higher one.
+pub fn times_law()
+    ensures each { (unknown : Unknown) (bytes : List ℕ) (recording : Sampled) → reading unknown bytes ≡ Ok recording → length recording.times ≡ length recording.samples }
+    ensures rise { (unknown : Unknown) (bytes : List ℕ) (recording : Sampled) → reading unknown bytes ≡ Ok recording → (sample later : ℕ) → sample < later → later < length recording.samples
+        → time_of_sample recording sample < time_of_sample recording later }
 {}
 
 /// Values worked out by hand: how each letter reads, what stands to the left of a value, and where values are missing.

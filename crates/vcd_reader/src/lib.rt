@@ -21,7 +21,7 @@ mod unknown;
 pub use body::SAMPLE_LIMIT;
 pub use fault::VcdFault;
 pub use laws::{
-    first_fault_law, one_meaning_law, places_law, running_law, unknown_law, values_law,
+    first_fault_law, one_meaning_law, places_law, running_law, times_law, unknown_law, values_law,
 };
 pub use psl_base::Place;
 pub use reading::read_vcd;

@@ -1,11 +1,14 @@
 ghost use Rattle.std.specs.Prelude.{◌≡◌, ◌<◌, ◌≤◌, ◌+◌, length, Any};
+ghost use Rattle.psl_base.specs.Places.{file_limit};
+ghost use Rattle.vcd_reader.specs.Rows.{time_at};
 ghost use Rattle.vcd_reader.specs.Rules.{sample_limit};
-ghost use Rattle.vcd_reader.specs.Sampled.{letter_before, letter_of, says_one, says_zero, says_nothing, is_one_under, reads_one, letter_in, value_in, bit_at, unknown_at, place_of_time, atom_at, AtomInRange, AreAlike};
+ghost use Rattle.vcd_reader.specs.Sampled.{letter_before, letter_of, says_one, says_zero, says_nothing, is_one_under, reads_one, letter_in, value_in, bit_at, unknown_at, time_of_sample, place_of_time, atom_at, AtomInRange, AreAlike};
 ghost use Rattle.vcd_reader.specs.Changes.{letters_in};
 
 use crate::Unknown;
+use crate::body::time_of;
 use crate::changes::{Change, Changes};
-use psl_base::{Bytes, Place, place_of};
+use psl_base::{Bytes, Cursor, Place, place_of};
 use psl_tree::{Atom, Edge, Names};
 use std::marker::Model;
 
@@ -146,6 +149,15 @@ impl Recording {
         }
     }
 
+    /// The time of a sample, counted from 0: the number behind `#`, in units of the recording's time scale.
+    pub fn time(&self, sample: u32) -> u64
+        requires { sample < length self.now.samples }
+        ensures { result ≡ time_of_sample self.now sample }
+    {
+        let start = self.starts[sample as usize] as usize;
+        time_behind(self.bytes.as_slice(), start)
+    }
+
     /// The place of the first token that lists the time of a sample, counted from 0. It counts the text up to there.
     pub fn time_place(&self, sample: u32) -> Place
         requires { sample < length self.now.samples }
@@ -178,6 +190,19 @@ impl Recording {
             None => None,
             Some(change) => Some(letter(letters(self.bytes.as_slice(), change), bit)),
         }
+    }
+}
+
+/// The time that is listed behind so many bytes of a text.
+fn time_behind(bytes: &[u8], start: usize) -> u64
+    requires within { start ≤ length bytes.now }
+    requires limit { length bytes.now ≤ file_limit }
+    ensures { result ≡ time_at bytes.now start }
+{
+    let mut cursor = Cursor::new(&bytes[start..]);
+    match cursor.next() {
+        Some(token) => time_of(token.text()).unwrap_or(0),
+        None => 0,
     }
 }
 

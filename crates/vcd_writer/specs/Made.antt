@@ -27,11 +27,12 @@ made_text seed samples = definitions ++ samples_from made_codes (made_values see
 abbrev pub made_names : List Name
 made_names = record { text = codes "req"; signal = 0; left = 0; right = 0 } ∷ record { text = codes "ack"; signal = 1; left = 0; right = 0 } ∷ []
 
--- what the text says; where its samples begin is left to the text
+-- what the text says: its times are the numbers of its samples; where these begin is left to the text
 abbrev pub made_sampled : Unknown → ℕ → ℕ → Sampled
 made_sampled unknown seed samples = record {
   names = made_names;
   samples = map (λ sample. letters_of (made_values seed sample)) (range_with_len 0 samples);
+  times = range_with_len 0 samples;
   places = places_in (made_text seed samples);
   unknown = unknown;
 }
