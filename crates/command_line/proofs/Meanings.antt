@@ -77,11 +77,12 @@ one_evidence values a b one two =
 
 one_said : (most : ℕ) (values : Values) (first second : Meaning) → most < 2 ^ 32 → kind_of first ≡ kind_of second → Says most values first
     → Says most values second → first ≡ second
-one_said most values (wave a b k) (wave c d m) fits same one two =
+one_said most values (wave a b k p) (wave c d m q) fits same one two =
     let unit : a ≡ c = some_one _ _ (sym one.0 ∙ two.0) in
     let recording : b ≡ d = some_one _ _ (sym one.1 ∙ two.1) in
     let unknown : k ≡ m = one_unknown k m (some_one _ _ (sym one.2 ∙ two.2)) in
-    λ i. wave (unit i) (recording i) (unknown i)
+    let points : p ≡ q = sym one.3 ∙ two.3 in
+    λ i. wave (unit i) (recording i) (unknown i) (points i)
 one_said most values (gen a b) (gen c d) fits same one two =
     ap₂ gen (one_given _ _ _ _ _ (omega arith) one.0 two.0) (one_given _ _ _ _ _ fits one.1 two.1)
 one_said most values (show a b) (show c d) fits same one two = ap₂ show (some_one _ _ (sym one.0 ∙ two.0)) (some_one _ _ (sym one.1 ∙ two.1))
@@ -125,7 +126,7 @@ refused_unnumbered most words kind values taken same none =
     unnumbered kind taken (subst (λ (all : Values). AreUnnumbered most all kind) one none)
 
 not_said : (most : ℕ) (values : Values) (meaning : Meaning) → Says most values meaning → AreUnnumbered most values (kind_of meaning) → ⊥
-not_said most values (wave unit recording unknown) says none = none unknown says.2
+not_said most values (wave unit recording unknown points) says none = none unknown says.2
 not_said most values (gen seed samples) says none = none seed samples says.0 says.1
 not_said most values (show unit names) says none = none
 not_said most values (show_netlist unit netlist) says none = none
@@ -155,7 +156,7 @@ most_given least most number None given = absurd given
 most_given least most number (Some word) given = given.below
 
 in_range : (most : ℕ) (values : Values) (meaning : Meaning) → Says most values meaning → IsInRange most meaning
-in_range most values (wave unit recording unknown) says = tt
+in_range most values (wave unit recording unknown points) says = tt
 in_range most values (gen seed samples) says =
     let below : seed ≤ most_seed = most_given _ _ _ _ says.0 in
     (omega arith, least_given _ _ _ _ says.1, most_given _ _ _ _ says.1)

@@ -1,5 +1,5 @@
 -- Words that `clap` reads as they stand.
-use Rattle.std.proofs.Common.{◌≡◌, ◌<◌, ◌≤◌, ◌^◌, ap, refl, sym, subst, ℕ, List, [], ◌∷◌, Option, None, Some, codes, arith}
+use Rattle.std.proofs.Common.{◌≡◌, ◌<◌, ◌≤◌, ◌^◌, ap, refl, sym, subst, ℕ, false, true, List, [], ◌∷◌, Option, None, Some, codes, arith}
 use Rattle.std.specs.Fmt.{digits}
 use Rattle.std.specs.Prelude.{decimal}
 use Rattle.std.specs.Str.Parse.{AllDigits}
@@ -13,7 +13,7 @@ use Rattle.command_line.specs.Evidences.{IsEvidence}
 use Rattle.command_line.specs.Kinds.{word_of}
 use Rattle.command_line.specs.Numbers.{IsGiven}
 use Rattle.command_line.specs.Ranges.{AreInRange}
-use Rattle.command_line.specs.Plain.{ArePlain, IsPlain, certificates_in, limits_of_depth, recordings_in, to_check, usual_limits, with_depth, with_options, with_recordings, with_unknown}
+use Rattle.command_line.specs.Plain.{ArePlain, IsPlain, certificates_in, limits_of_depth, recordings_in, to_check, usual_limits, with_depth, with_options, with_points, with_recordings, with_unknown}
 use Rattle.command_line.specs.declared.Limits.{Limits}
 use Rattle.command_line.specs.declared.Unknown.{Unknown}
 use Rattle.command_line.specs.declared.Unknown.TheVariants.{Zero, One, Refuse}
@@ -56,7 +56,7 @@ usual_steps = refl
 -- ---- the laws
 
 pub plain_wave : (most : ℕ) (unit recording : List ℕ) → IsPlain unit → IsPlain recording
-    → IsCommand most (codes "wave" ∷ unit ∷ recording ∷ []) (wave unit recording Zero)
+    → IsCommand most (codes "wave" ∷ unit ∷ recording ∷ []) (wave unit recording Zero false)
 unfolding clap_on_literals app
 plain_wave most a b one two =
     let words = a ∷ b ∷ [] in
@@ -64,7 +64,7 @@ plain_wave most a b one two =
     let end = behind Wave first b in
     let run = word_then Wave start.held 1 end a (b ∷ []) one refl (word_then Wave first.held 2 end b [] two refl (ends Wave end)) in (
       record { named = refl; taken = run_taken Wave words end run refl },
-      (run_given Wave words end (codes "unit") run, run_given Wave words end (codes "recording") run, run_given Wave words end (codes "unknown") run),
+      (run_given Wave words end (codes "unit") run, run_given Wave words end (codes "recording") run, run_given Wave words end (codes "unknown") run, ap is_true (run_given Wave words end (codes "where") run)),
     )
 
 -- the words of the option do not begin with a hyphen
@@ -74,7 +74,7 @@ plain_word One hyphen = omega arith
 plain_word Refuse hyphen = omega arith
 
 pub plain_unknown : (most : ℕ) (unit recording : List ℕ) (unknown : Unknown) → IsPlain unit → IsPlain recording
-    → IsCommand most (with_unknown unit recording unknown) (wave unit recording unknown)
+    → IsCommand most (with_unknown unit recording unknown) (wave unit recording unknown false)
 unfolding clap_on_literals app
 plain_unknown most a b unknown one two =
     let word = word_of unknown in
@@ -90,7 +90,45 @@ plain_unknown most a b unknown one two =
     (any_then Wave second end (codes "--unknown") on_word refl
     (value_then Wave third.held 3 end (codes "unknown") word [] (plain_word unknown) (ends Wave end)))) in (
       record { named = refl; taken = run_taken Wave words end run refl },
-      (run_given Wave words end (codes "unit") run, run_given Wave words end (codes "recording") run, run_given Wave words end (codes "unknown") run),
+      (run_given Wave words end (codes "unit") run, run_given Wave words end (codes "recording") run, run_given Wave words end (codes "unknown") run, ap is_true (run_given Wave words end (codes "where") run)),
+    )
+
+pub plain_points : (most : ℕ) (unit recording : List ℕ) → IsPlain unit → IsPlain recording
+    → IsCommand most (codes "wave" ∷ unit ∷ recording ∷ codes "--where" ∷ []) (wave unit recording Zero true)
+unfolding clap_on_literals app
+plain_points most a b one two =
+    let words = a ∷ b ∷ codes "--where" ∷ [] in
+    let first = behind Wave start a in
+    let second = behind Wave first b in
+    let end = behind_any Wave second (codes "--where") in
+    let run = word_then Wave start.held 1 end a (b ∷ codes "--where" ∷ []) one refl
+    (word_then Wave first.held 2 end b (codes "--where" ∷ []) two refl
+    (any_then Wave second end (codes "--where") [] refl (ends Wave end))) in (
+      record { named = refl; taken = run_taken Wave words end run refl },
+      (run_given Wave words end (codes "unit") run, run_given Wave words end (codes "recording") run, run_given Wave words end (codes "unknown") run, ap is_true (run_given Wave words end (codes "where") run)),
+    )
+
+pub plain_both : (most : ℕ) (unit recording : List ℕ) (unknown : Unknown) → IsPlain unit → IsPlain recording
+    → IsCommand most (with_points unit recording unknown) (wave unit recording unknown true)
+unfolding clap_on_literals app
+plain_both most a b unknown one two =
+    let word = word_of unknown in
+    let on_flag = codes "--where" ∷ [] in
+    let on_word = word ∷ on_flag in
+    let on_option = codes "--unknown" ∷ on_word in
+    let words = a ∷ b ∷ on_option in
+    let first = behind Wave start a in
+    let second = behind Wave first b in
+    let third = behind_any Wave second (codes "--unknown") in
+    let fourth = behind_value Wave third (codes "unknown") word in
+    let end = behind_any Wave fourth (codes "--where") in
+    let run = word_then Wave start.held 1 end a (b ∷ on_option) one refl
+    (word_then Wave first.held 2 end b on_option two refl
+    (any_then Wave second end (codes "--unknown") on_word refl
+    (value_then Wave third.held 3 end (codes "unknown") word on_flag (plain_word unknown)
+    (any_then Wave fourth end (codes "--where") [] refl (ends Wave end))))) in (
+      record { named = refl; taken = run_taken Wave words end run refl },
+      (run_given Wave words end (codes "unit") run, run_given Wave words end (codes "recording") run, run_given Wave words end (codes "unknown") run, ap is_true (run_given Wave words end (codes "where") run)),
     )
 
 pub plain_gen : (most seed samples : ℕ) → most < 2 ^ 32 → seed ≤ most_seed → 1 ≤ samples → samples ≤ most
@@ -270,9 +308,9 @@ plain_check most a b d number plain some below =
 
 -- ---- behind `--` all words are read as they stand
 
-pub wave_behind : (most : ℕ) (unit recording : List ℕ) → IsCommand most (codes "wave" ∷ codes "--" ∷ unit ∷ recording ∷ []) (wave unit recording Zero)
+pub wave_behind : (most : ℕ) (unit recording : List ℕ) → IsCommand most (codes "wave" ∷ codes "--" ∷ unit ∷ recording ∷ []) (wave unit recording Zero false)
 unfolding clap_on_literals Takes given app
-wave_behind most unit recording = (record { named = refl; taken = refl }, (refl, refl, refl))
+wave_behind most unit recording = (record { named = refl; taken = refl }, (refl, refl, refl, refl))
 
 pub show_behind : (most : ℕ) (unit names : List ℕ) → IsCommand most (codes "show" ∷ codes "--" ∷ unit ∷ names ∷ []) (show unit names)
 unfolding clap_on_literals Takes given app

@@ -1,5 +1,5 @@
 -- The commands, and what the words after the program's name say.
-use Rattle.std.specs.Prelude.{◌≡◌, ◌≢◌, ℕ, true, false, List, Option, Some, codes, slice_get}
+use Rattle.std.specs.Prelude.{◌≡◌, ◌≢◌, ℕ, Bool, true, false, List, Option, Some, codes, slice_get}
 use Rattle.command_line.specs.Clap.{Takes, given, is_true}
 use Rattle.command_line.specs.Evidences.{IsEvidence, Wanted, evidence_of}
 use Rattle.command_line.specs.Kinds.{app_of, name_of, word_of}
@@ -15,7 +15,7 @@ use Rattle.command_line.specs.declared.kinds.Kind.TheVariants as kind
 
 -- which command, with which values
 pub data Meaning : Type 0 where
-  wave : List ℕ → List ℕ → Unknown → Meaning
+  wave : List ℕ → List ℕ → Unknown → Bool → Meaning
   gen : ℕ → ℕ → Meaning
   show : List ℕ → List ℕ → Meaning
   show_netlist : List ℕ → List ℕ → Meaning
@@ -24,7 +24,7 @@ pub data Meaning : Type 0 where
   replay : List ℕ → List ℕ → List ℕ → Meaning
 
 abbrev pub kind_of : Meaning → Kind
-kind_of (wave unit recording unknown) = kind.Wave
+kind_of (wave unit recording unknown points) = kind.Wave
 kind_of (gen seed samples) = kind.Gen
 kind_of (show unit names) = kind.Show
 kind_of (show_netlist unit netlist) = kind.Show
@@ -50,14 +50,14 @@ pub record AreLimits (values : Values) (limits : Limits) : Type 0 where
   pub visits : IsGiven 0 MOST_VISITS (values (codes "visits")) limits.visits
   pub steps : IsGiven 1 MOST_STEPS (values (codes "steps")) limits.steps
 
--- What values say: `wave UNIT RECORDING` with how unknown bits read, `gen SEED SAMPLES`, `show UNIT NAMES`,
--- `show UNIT NAMES --netlist`, `prove UNIT NETLIST` with its limits and files, `check UNIT NETLIST NUMBER CERTIFICATE`, or
+-- What values say: `wave UNIT RECORDING` with how unknown bits read and whether `--where` is given, `gen SEED SAMPLES`,
+-- `show UNIT NAMES`, `show UNIT NAMES --netlist`, `prove UNIT NETLIST` with its limits and files, `check UNIT NETLIST NUMBER CERTIFICATE`, or
 -- `replay UNIT NETLIST RECORDING`. A seed is at most 2^31 - 1, of samples there is one at least and at most the limit, and
 -- the number of an assertion is from 1 to 2^32 - 1.
 abbrev pub Says : ℕ → Values → Meaning → Type 0
-Says most values (wave unit recording unknown) =
+Says most values (wave unit recording unknown points) =
     (values (codes "unit") ≡ Some unit) × (values (codes "recording") ≡ Some recording)
-    × IsUnknown (values (codes "unknown")) unknown
+    × IsUnknown (values (codes "unknown")) unknown × (is_true (values (codes "where")) ≡ points)
 Says most values (gen seed samples) =
     IsGiven 0 most_seed (values (codes "seed")) seed × IsGiven 1 most (values (codes "samples")) samples
 Says most values (show unit names) =
@@ -114,7 +114,7 @@ pub data IsRefused (most : ℕ) (words : List (List ℕ)) : Type 0 where
 
 -- what a command that was read means
 abbrev pub meaning_of : Command → Meaning
-meaning_of (Wave unit recording unknown) = wave unit.now recording.now unknown
+meaning_of (Wave unit recording unknown points) = wave unit.now recording.now unknown points
 meaning_of (Gen seed samples) = gen seed samples
 meaning_of (Show unit names) = show unit.now names.now
 meaning_of (ShowNetlist unit netlist) = show_netlist unit.now netlist.now

@@ -25,7 +25,8 @@ word_of Refuse = codes "refuse"
 
 -- the words, flags and options that follow it
 abbrev pub rules_of : Kind → List Rule
-rules_of Wave = required (codes "unit") ∷ required (codes "recording") ∷ option (codes "unknown") (codes "zero") ∷ []
+rules_of Wave = required (codes "unit") ∷ required (codes "recording") ∷ option (codes "unknown") (codes "zero")
+    ∷ flag (codes "where") ∷ []
 rules_of Gen = required (codes "seed") ∷ required (codes "samples") ∷ []
 rules_of Show = required (codes "unit") ∷ required (codes "names") ∷ flag (codes "netlist") ∷ []
 rules_of Prove = required (codes "unit") ∷ required (codes "netlist") ∷ option (codes "depth") (codes "20")

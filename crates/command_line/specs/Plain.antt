@@ -16,6 +16,10 @@ ArePlain a b c = IsPlain a × IsPlain b × IsPlain c
 abbrev pub with_unknown : List ℕ → List ℕ → Unknown → List (List ℕ)
 with_unknown unit recording unknown = codes "wave" ∷ unit ∷ recording ∷ codes "--unknown" ∷ word_of unknown ∷ []
 
+-- `wave UNIT RECORDING --unknown WORD --where`
+abbrev pub with_points : List ℕ → List ℕ → Unknown → List (List ℕ)
+with_points unit recording unknown = codes "wave" ∷ unit ∷ recording ∷ codes "--unknown" ∷ word_of unknown ∷ codes "--where" ∷ []
+
 -- the limits where no option is given
 abbrev pub usual_limits : Limits
 usual_limits = record { depth = 20; visits = 4; steps = 1000000 }

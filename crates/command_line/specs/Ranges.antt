@@ -14,7 +14,7 @@ pub record AreInRange (limits : Limits) : Type 0 where
 
 -- the numbers of a command are in their ranges
 abbrev pub IsInRange : ℕ → Meaning → Type 0
-IsInRange most (wave unit recording unknown) = Unit {0}
+IsInRange most (wave unit recording unknown points) = Unit {0}
 IsInRange most (gen seed samples) = (seed < 2 ^ 31) × (1 ≤ samples) × (samples ≤ most)
 IsInRange most (show unit names) = Unit {0}
 IsInRange most (show_netlist unit netlist) = Unit {0}

@@ -52,7 +52,7 @@ pub fn read_values<'a>(
     }
 }
 
-/// `wave UNIT RECORDING` with its option
+/// `wave UNIT RECORDING` with its option and its flag
 fn wave<'a>(matches: &ArgMatches<'a>) -> Result<Command<'a>, WordsFault>
     requires { HasRequired (rules_of Kind.Wave) (first_value (found_of matches.now)) }
     ensures command { IfOk result (λ command. (most : ℕ) → IsRead most (first_value (found_of matches.now)) Kind.Wave command) }
@@ -65,6 +65,7 @@ fn wave<'a>(matches: &ArgMatches<'a>) -> Result<Command<'a>, WordsFault>
         unit: word(matches, "unit"),
         recording: word(matches, "recording"),
         unknown,
+        points: is_set(matches, "where"),
     })
 }
 

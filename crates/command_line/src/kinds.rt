@@ -58,6 +58,7 @@ pub fn args_of<'a>(alloc: Global, kind: Kind) -> Result<Vec<Arg<'a>>, AllocError
             required(alloc, "unit"),
             required(alloc, "recording"),
             option(alloc, "unknown", "zero"),
+            flag(alloc, "where"),
         ]?,
         Kind::Gen => vec![in alloc; required(alloc, "seed"), required(alloc, "samples")]?,
         Kind::Show => vec![in alloc;

@@ -2,11 +2,11 @@
 //! reads those after it.
 #![tactic(auto)]
 
-ghost use Rattle.std.specs.Prelude.{◌≡◌, ◌∷◌, ◌<◌, ◌≤◌, ◌^◌, [], codes, decimal, ℕ, List, map, IfOk, IfErr, string_bytes};
+ghost use Rattle.std.specs.Prelude.{◌≡◌, ◌∷◌, ◌<◌, ◌≤◌, ◌^◌, [], codes, decimal, false, true, ℕ, List, map, IfOk, IfErr, string_bytes};
 ghost use Rattle.command_line.specs.Commands.{IsCommand, IsNoCommand, IsRefused, Meaning, meaning_of, most_seed};
 ghost use Rattle.command_line.specs.Commands.Meaning.{wave as a_wave, gen as a_gen, show as a_show, show_netlist as a_netlist, prove as a_proof, check as a_check, replay as a_replay};
 ghost use Rattle.command_line.specs.Ranges.{AreInRange, IsInRange};
-ghost use Rattle.command_line.specs.Plain.{ArePlain, IsPlain, certificates_in, limits_of_depth, recordings_in, to_check, usual_limits, with_depth, with_options, with_recordings, with_unknown};
+ghost use Rattle.command_line.specs.Plain.{ArePlain, IsPlain, certificates_in, limits_of_depth, recordings_in, to_check, usual_limits, with_depth, with_options, with_points, with_recordings, with_unknown};
 
 mod commands;
 mod kinds;
@@ -27,6 +27,9 @@ pub enum Command<'a> {
         unit: &'a str,
         recording: &'a str,
         unknown: Unknown,
+
+        /// Whether it is asked for where verdicts are settled: `--where`.
+        points: bool,
     },
 
     /// Makes a recording of so many samples from a seed below 2^31, and judges it.
@@ -173,8 +176,13 @@ pub fn one_command()
 /// Laws of the definitions, which run nothing. Words that do not begin with a hyphen are read as they stand,
 /// as all are behind `--`, and a number in its range is read from its decimal form.
 pub fn plain_words()
-    ensures wave { (most : ℕ) (unit recording : List ℕ) → IsPlain unit → IsPlain recording → IsCommand most (codes "wave" ∷ unit ∷ recording ∷ []) (a_wave unit recording Unknown.Zero) }
-    ensures unknown { (most : ℕ) (unit recording : List ℕ) (unknown : Unknown) → IsPlain unit → IsPlain recording → IsCommand most (with_unknown unit recording unknown) (a_wave unit recording unknown) }
+    ensures wave { (most : ℕ) (unit recording : List ℕ) → IsPlain unit → IsPlain recording → IsCommand most (codes "wave" ∷ unit ∷ recording ∷ []) (a_wave unit recording Unknown.Zero false) }
+    ensures unknown { (most : ℕ) (unit recording : List ℕ) (unknown : Unknown) → IsPlain unit → IsPlain recording
+        → IsCommand most (with_unknown unit recording unknown) (a_wave unit recording unknown false) }
+    ensures points { (most : ℕ) (unit recording : List ℕ) → IsPlain unit → IsPlain recording
+        → IsCommand most (codes "wave" ∷ unit ∷ recording ∷ codes "--where" ∷ []) (a_wave unit recording Unknown.Zero true) }
+    ensures both { (most : ℕ) (unit recording : List ℕ) (unknown : Unknown) → IsPlain unit → IsPlain recording
+        → IsCommand most (with_points unit recording unknown) (a_wave unit recording unknown true) }
     ensures show { (most : ℕ) (unit names : List ℕ) → IsPlain unit → IsPlain names → IsCommand most (codes "show" ∷ unit ∷ names ∷ []) (a_show unit names) }
     ensures netlist { (most : ℕ) (unit netlist : List ℕ) → IsPlain unit → IsPlain netlist → IsCommand most (codes "show" ∷ unit ∷ netlist ∷ codes "--netlist" ∷ []) (a_netlist unit netlist) }
     ensures prove { (most : ℕ) (unit netlist : List ℕ) → IsPlain unit → IsPlain netlist → IsCommand most (codes "prove" ∷ unit ∷ netlist ∷ []) (a_proof unit netlist usual_limits (certificates_in None)) }
@@ -186,7 +194,7 @@ pub fn plain_words()
         → IsCommand most (with_recordings unit netlist vcd loops) (a_proof unit netlist usual_limits (recordings_in vcd loops)) }
     ensures replay { (most : ℕ) (unit netlist recording : List ℕ) → ArePlain unit netlist recording → IsCommand most (codes "replay" ∷ unit ∷ netlist ∷ recording ∷ []) (a_replay unit netlist recording) }
     ensures check { (most : ℕ) (unit netlist proof : List ℕ) (number : ℕ) → ArePlain unit netlist proof → 1 ≤ number → number < 2 ^ 32 → IsCommand most (to_check unit netlist number proof) (a_check unit netlist number proof) }
-    ensures wave_behind { (most : ℕ) (unit recording : List ℕ) → IsCommand most (codes "wave" ∷ codes "--" ∷ unit ∷ recording ∷ []) (a_wave unit recording Unknown.Zero) }
+    ensures wave_behind { (most : ℕ) (unit recording : List ℕ) → IsCommand most (codes "wave" ∷ codes "--" ∷ unit ∷ recording ∷ []) (a_wave unit recording Unknown.Zero false) }
     ensures show_behind { (most : ℕ) (unit names : List ℕ) → IsCommand most (codes "show" ∷ codes "--" ∷ unit ∷ names ∷ []) (a_show unit names) }
     ensures generate { (most seed samples : ℕ) → most < 2 ^ 32 → seed ≤ most_seed → 1 ≤ samples → samples ≤ most → IsCommand most (codes "gen" ∷ decimal seed ∷ decimal samples ∷ []) (a_gen seed samples) }
 {}

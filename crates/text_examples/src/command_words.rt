@@ -27,6 +27,18 @@ fn wave<'a>(words: &'a str, unit: &'a str, recording: &'a str) -> Row<'a> {
         unit,
         recording,
         unknown: Unknown::Zero,
+        points: false,
+    };
+    Row { words, wanted }
+}
+
+/// `wave` of the files `u` and `r` that tells where verdicts are settled.
+fn points<'a>(words: &'a str, unknown: Unknown) -> Row<'a> {
+    let wanted = Command::Wave {
+        unit: "u",
+        recording: "r",
+        unknown,
+        points: true,
     };
     Row { words, wanted }
 }
@@ -223,6 +235,8 @@ fn options(rt: HostRuntime) -> Result<(), Fail> {
         recordings("prove --vcd=-p --loops=16 u n", Some("-p"), 16),
         recordings("prove u --loops 1 n", None, 1),
         recordings("prove u n --loops 7", None, 7),
+        points("wave u r --where", Unknown::Zero),
+        points("wave --where u --unknown=one r", Unknown::One),
     ];
     assert_eq!(rt; first_wrong(rt.alloc(), rows.as_slice())?, None);
     Ok(())
@@ -290,6 +304,9 @@ fn refused_options(rt: HostRuntime) -> Result<(), Fail> {
         "show u n --netlist --netlist",
         "show u n --netlist=true",
         "show u n --net",
+        "wave u r --where --where",
+        "wave u r --where=true",
+        "wave u r --where r",
     ];
     assert_eq!(rt; first_taken(rt.alloc(), lines.as_slice())?, None);
     Ok(())

@@ -1,10 +1,12 @@
-use Rattle.command_line.proofs.Plain.{plain_check, plain_depth, plain_gen, plain_netlist, plain_options, plain_prove, plain_recordings, plain_replay, plain_show, plain_unknown, plain_wave, show_behind, wave_behind}
+use Rattle.command_line.proofs.Plain.{plain_both, plain_check, plain_depth, plain_gen, plain_netlist, plain_options, plain_points, plain_prove, plain_recordings, plain_replay, plain_show, plain_unknown, plain_wave, show_behind, wave_behind}
 use Rattle.command_line.proofs.plain_words.Goals as goal
 
 pub returns : goal.returns
 returns c = record {
   wave = plain_wave;
   unknown = plain_unknown;
+  points = plain_points;
+  both = plain_both;
   show = plain_show;
   netlist = plain_netlist;
   prove = plain_prove;
