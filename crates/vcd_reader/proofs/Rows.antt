@@ -1,14 +1,15 @@
 -- The values of a recording's samples, read from its changes.
-use Rattle.std.proofs.Common.{◌≡◌, ℕ, ◌+◌, ◌-◌, ◌<◌, ◌≤◌, Bool, true, false, cond, leb, List, [], ◌∷◌, map, length, get_or, drop, Option, None, Some, sym, ap, subst, ◌∙◌, arith, length-drop}
-use Rattle.std.proofs.lemmas.List.{get_or-map, length-take-le}
+use Rattle.std.proofs.Common.{◌≡◌, ℕ, ◌+◌, ◌-◌, ◌<◌, ◌≤◌, Bool, true, false, cond, leb, List, [], ◌∷◌, map, length, get_or, drop, Option, None, Some, refl, sym, ap, subst, ◌∙◌, arith, length-drop}
+use Rattle.std.proofs.lemmas.List.{get_or-map, length-map, length-take-le}
 use Rattle.std.proofs.lemmas.List.Elements.{All-head, All-tail}
 use Rattle.std.proofs.lemmas.List.FromFn.{length-map-range_with_len, get_or-map-range_with_len}
 use Rattle.std.specs.List.{All, Any}
 use Rattle.psl_base.specs.Places.{place_at}
+use Rattle.psl_base.specs.declared.place.Place.{Place}
 use Rattle.psl_tree.specs.declared.name.Name.{Name}
 use Rattle.vcd_reader.specs.declared.changes.Change.{Change}
 use Rattle.vcd_reader.specs.declared.unknown.Unknown.{Unknown}
-use Rattle.vcd_reader.specs.Rows.{value_of, rows_of, time_at, kept_as, AreInside, IsSound}
+use Rattle.vcd_reader.specs.Rows.{line_at, value_of, rows_of, time_at, kept_as, AreInside, IsSound}
 use Rattle.vcd_reader.specs.Sampled.{Sampled, value_in, time_of_sample, place_of_time}
 use Rattle.vcd_reader.specs.Changes.{latest_change, letters_in}
 
@@ -70,6 +71,19 @@ begins-within recording names bytes samples changes starts unknown sample view s
     let counted = sym (length-rows_of bytes samples changes) ∙ ap (λ (r : Sampled). length r.samples) view in
     let same = sound.counted in
     omega (arith, counted, same, in_samples)
+
+-- the lines of the places of all samples
+pub line-kept : (recording : Sampled) (names : List Name) (bytes : List ℕ) (samples : ℕ) (changes : List (List Change)) (starts : List ℕ) (unknown : Unknown) (lines : List ℕ) (sample : ℕ) →
+    kept_as names bytes samples changes starts unknown ≡ recording → IsSound names bytes samples changes starts → lines ≡ map (line_at bytes) starts → sample < length recording.samples → get_or lines sample 0 ≡ (place_of_time recording sample).line
+line-kept recording names bytes samples changes starts unknown lines sample view sound are in_samples =
+    let low = begins-within recording names bytes samples changes starts unknown sample view sound in_samples in
+    ap (λ list. get_or list sample 0) are ∙ get_or-map (line_at bytes) starts sample 0 0 low
+    ∙ ap (λ (place : Place). place.line) (place-kept recording names bytes samples changes starts unknown sample (get_or starts sample 0) view low refl)
+
+pub lines-counted : (recording : Sampled) (names : List Name) (bytes : List ℕ) (samples : ℕ) (changes : List (List Change)) (starts : List ℕ) (unknown : Unknown) (lines : List ℕ) →
+    kept_as names bytes samples changes starts unknown ≡ recording → IsSound names bytes samples changes starts → lines ≡ map (line_at bytes) starts → length lines ≡ length recording.samples
+lines-counted recording names bytes samples changes starts unknown lines view sound are =
+    ap length are ∙ length-map starts (line_at bytes) ∙ sound.counted ∙ sym (length-rows_of bytes samples changes) ∙ ap (λ (r : Sampled). length r.samples) view
 
 pub length-letters_in : (bytes : List ℕ) (change : Change) → change.start + change.len ≤ length bytes → length (letters_in bytes change) ≡ change.len
 length-letters_in bytes change within =

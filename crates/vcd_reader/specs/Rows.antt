@@ -32,6 +32,10 @@ first_time (t ∷ ts) = unwrap_or (time_of t.text) 0
 abbrev pub time_at : List ℕ → ℕ → ℕ
 time_at bytes at = first_time (tokens (drop at bytes))
 
+-- the line of the byte before which so many bytes of a text stand
+abbrev pub line_at : List ℕ → ℕ → ℕ
+line_at bytes at = (place_at bytes at).line
+
 -- a recording, from what is kept of it: its names and its bytes, how many samples it has, of each signal its changes, and
 -- before how many bytes each sample begins
 abbrev pub kept_as : List Name → List ℕ → ℕ → List (List Change) → List ℕ → Unknown → Sampled

@@ -1,6 +1,6 @@
-ghost use Rattle.std.specs.Prelude.{◌≡◌, ◌<◌, ◌≤◌, ◌+◌, length, Any};
+ghost use Rattle.std.specs.Prelude.{◌≡◌, ◌<◌, ◌≤◌, ◌+◌, ℕ, length, map, slice_index, All, Any, IfOk};
 ghost use Rattle.psl_base.specs.Places.{file_limit};
-ghost use Rattle.vcd_reader.specs.Rows.{time_at};
+ghost use Rattle.vcd_reader.specs.Rows.{line_at, time_at};
 ghost use Rattle.vcd_reader.specs.Rules.{sample_limit};
 ghost use Rattle.vcd_reader.specs.Sampled.{letter_before, letter_of, says_one, says_zero, says_nothing, is_one_under, reads_one, letter_in, value_in, bit_at, unknown_at, time_of_sample, place_of_time, atom_at, AtomInRange, AreAlike};
 ghost use Rattle.vcd_reader.specs.Changes.{letters_in};
@@ -8,8 +8,9 @@ ghost use Rattle.vcd_reader.specs.Changes.{letters_in};
 use crate::Unknown;
 use crate::body::time_of;
 use crate::changes::{Change, Changes};
-use psl_base::{Bytes, Cursor, Place, place_of};
+use psl_base::{Bytes, Cursor, NoMemory, Place, advance, place_of};
 use psl_tree::{Atom, Edge, Names};
+use std::alloc::Global;
 use std::marker::Model;
 
 /// The values that signals have at samples, with the signals' names. It is kept as lists of changes,
@@ -167,6 +168,14 @@ impl Recording {
         place_of(self.bytes.as_slice(), start)
     }
 
+    /// For each sample the line of the first token that lists its time, counted from 1. It counts the text once for all.
+    pub fn time_lines(&self, alloc: Global) -> Result<Vec<u32>, NoMemory>
+        ensures count { IfOk result (λ lines. length lines.items ≡ length self.now.samples) }
+        ensures lines { IfOk result (λ lines. (sample : ℕ) → sample < length self.now.samples → slice_index lines.items sample ≡ (place_of_time self.now sample).line) }
+    {
+        lines_of(alloc, self.bytes.as_slice(), self.starts.as_slice())
+    }
+
     /// Whether a bit of a signal is 1 at a sample.
     fn is_one(&self, sample: u32, signal: u32, bit: u32, hint: &mut usize) -> bool
         requires sample { sample < length self.now.samples }
@@ -191,6 +200,29 @@ impl Recording {
             Some(change) => Some(letter(letters(self.bytes.as_slice(), change), bit)),
         }
     }
+}
+
+/// The lines of places in a text, each by how many bytes stand before it.
+fn lines_of(alloc: Global, text: &[u8], starts: &[u32]) -> Result<Vec<u32>, NoMemory>
+    requires limit { length text.now ≤ file_limit }
+    requires within { All (λ start. start ≤ length text.now) starts.now }
+    ensures { IfOk result (λ lines. lines.items ≡ map (line_at text.now) starts.now) }
+{
+    let mut lines = Vec::new(alloc);
+    let mut place = Place { line: 1, column: 1 };
+    let mut from = 0;
+    for start in starts {
+        let to = *start as usize;
+        // Samples begin one behind the other, so each byte is counted once.
+        place = if from <= to {
+            advance(text, from, to, place)
+        } else {
+            place_of(text, to)
+        };
+        from = to;
+        lines.push(place.line)?;
+    }
+    Ok(lines)
 }
 
 /// The time that is listed behind so many bytes of a text.
