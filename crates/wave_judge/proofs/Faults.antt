@@ -56,7 +56,7 @@ judged_or_refused d = elim (large (unclocked d)) as (λ _. IsJudgeable d ⊎ ((f
   ]
 ]
 
-refused_not_judged : (d : Directive) (fault : JudgeFault) → IsJudgeable d → IsRefused d fault → ⊥
+pub refused_not_judged : (d : Directive) (fault : JudgeFault) → IsJudgeable d → IsRefused d fault → ⊥
 refused_not_judged d (Sere n) j r = j.sequences r.1
 refused_not_judged d (Automaton n) j r = let le = j.obligations in let lt = r.2 in omega arith
 refused_not_judged d NoMemory j r = r

@@ -1,4 +1,7 @@
 pub mod Faults
+pub mod PointLists
 pub mod Samples
+pub mod Searching
+pub mod Settled
 pub mod Tested
 pub mod Verdicts

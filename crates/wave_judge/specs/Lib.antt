@@ -4,4 +4,6 @@ pub mod Faults
 pub mod Judged
 pub mod Letter
 pub mod Levels
+pub mod Settled
+pub mod Sides
 pub mod Values

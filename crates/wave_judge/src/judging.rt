@@ -71,8 +71,8 @@ pub fn judge_one(
     })
 }
 
-// The automaton of a directive's formula, with its clocks rewritten away.
-fn automaton_of(alloc: Global, directive: &Directive) -> Result<Alternating, JudgeFault>
+/// The automaton of a directive's formula, with its clocks rewritten away.
+pub(crate) fn automaton_of(alloc: Global, directive: &Directive) -> Result<Alternating, JudgeFault>
     ensures meaning { IfOk result (λ automaton. Means automaton directive.now) }
     ensures judgeable { OnOk result (IsJudgeable directive.now) }
     ensures fault { IfErr result (MayRefuse directive.now) }

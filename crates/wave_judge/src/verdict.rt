@@ -19,6 +19,10 @@ pub struct Verdict {
 /// A verdict for each directive, in the order of the text.
 pub type Verdicts = Items<Verdict>;
 
+/// For each directive, in the order of the text, how many first samples settle its verdict: the least count at which it
+/// fails, or holds strongly, whatever samples follow. 0 is before the first sample. None where it holds or is pending.
+pub type Points = Items<Option<u32>>;
+
 /// In which of the three views a directive holds. No order between the views is claimed: a level says of the views
 /// after its own nothing, and what other recordings say that go on in another way is not told.
 #[derive(Clone, Copy, Debug, PartialEq, Eq)]

@@ -1,11 +1,12 @@
-use Rattle.std.proofs.Common.{◌≡◌, ◌*◌, length}
+use Rattle.std.proofs.Common.{◌≡◌, ◌*◌, ◌≤◌, length}
 use Rattle.block_step.specs.Values.{HasLengths}
-use Rattle.wave_judge.proofs.pass.Pass.blocks.Given as goal
+use Rattle.wave_judge.proofs.pass.Pass.back.Given as goal
 use Rattle.wave_judge.specs.Values.{AreValuesAt}
 
 abbrev pub invariant-loop-number : goal.invariant-loop-number
 invariant-loop-number l = record {
-  here : AreValuesAt l.self.automaton.now l.self.recording.now (64 * l.number) l.now;
+  above : l.block ≤ l.number;
+  here : AreValuesAt l.self.automaton.now l.self.recording.now l.count (64 * l.number) l.now;
   lengths : HasLengths l.self.automaton.now l.next;
   blocks_are : l.blocks ≡ l.self.automaton.now;
   columns_len : length l.columns.items ≡ length l.self.atoms.now;
