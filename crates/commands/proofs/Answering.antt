@@ -1,5 +1,5 @@
 -- From the stage of a command, or from words that are none, to the answer of a run.
-use Rattle.std.proofs.Common.{◌≡◌, refl, sym, ◌∙◌, ap, subst, ℕ, List, [], ◌∷◌, Some, inl, inr}
+use Rattle.std.proofs.Common.{◌≡◌, refl, sym, ◌∙◌, ap, subst, ℕ, Bool, List, [], ◌∷◌, Some, inl, inr}
 use Rattle.std.specs.Prelude.{◌≢◌, ◌⊎◌, Result, Ok, Err, IfOk, IfErr}
 use Rattle.command_line.specs.Commands.{Meaning}
 use Rattle.command_line.specs.Commands.Meaning.{wave, show, show_netlist, gen, prove, check, replay}
@@ -10,7 +10,7 @@ use Rattle.psl_base.specs.Shelf.{Contents, ShelfState}
 use Rattle.commands.proofs.Staging.{cause-moved, same_state, none-unread}
 use Rattle.certificate.specs.declared.answer.CertAnswer.{CertAnswer}
 use Rattle.commands.specs.Checks.{CheckStage}
-use Rattle.commands.specs.Commands.{CommandStage, FirstRefusal, IsCommand, IsNoCommand, IsNamed, IsOfCommand, IsOutcomeOf, MeaningStage, MeaningOutcome, files_of, findings_outcome, replayed_outcome}
+use Rattle.commands.specs.Commands.{CommandStage, FirstRefusal, IsCommand, IsNoCommand, IsNamed, IsOfCommand, IsOutcomeOf, MeaningStage, MeaningOutcome, files_of, findings_outcome, replayed_outcome, wave_outcome}
 use Rattle.commands.specs.Endings.{Explained, IsUnwritten}
 use Rattle.commands.specs.Faults.{of_none}
 use Rattle.commands.specs.Generated.{GeneratedStage}
@@ -24,11 +24,11 @@ use Rattle.commands.specs.declared.finish.Planned.{Planned}
 use Rattle.commands.specs.declared.outcome.Fault.{Fault}
 use Rattle.commands.specs.declared.outcome.Line.{Line}
 use Rattle.commands.specs.declared.outcome.Outcome.{Outcome}
-use Rattle.commands.specs.declared.outcome.Outcome.TheVariants.{Nothing, Wave, Checked, Shown, Made}
+use Rattle.commands.specs.declared.outcome.Outcome.TheVariants.{Nothing, Checked, Shown, Made}
 use Rattle.commands.specs.declared.prove.Found.{Found}
 use Rattle.commands.specs.declared.replayed.Replayed.{Replayed}
+use Rattle.commands.specs.declared.wave.Judgement.{Judgement}
 use Rattle.commands.specs.declared.reason.Reason.TheVariants.{Usage, ReadFault, WriteFault, NoMemory}
-use Rattle.wave_judge.specs.declared.verdict.Verdict.{Verdict}
 
 -- the outcome itself
 abbrev pub itself : Outcome → Outcome
@@ -156,15 +156,17 @@ words-answer words old fault e none = record {
 
 -- the commands
 
-pub wave-answers : (words : List (List ℕ)) (unit recording : List ℕ) (unknown : Unknown) (old new : ShelfState) (verdicts : List Verdict) → IsCommand words (wave unit recording unknown)
-    → IsStage (unit ∷ recording ∷ []) (WaveStage unit recording (unknown_of unknown)) old new (Ok verdicts) → IsAnswer itself words old new (Ok (Wave verdicts))
-wave-answers words unit recording unknown old new verdicts is s =
-    stage-answers words (wave unit recording unknown) is old new (WaveStage unit recording (unknown_of unknown)) Wave (λ files result h. h) verdicts (verdicts, refl) (λ e. cc) s
+pub wave-answers : (words : List (List ℕ)) (unit recording : List ℕ) (unknown : Unknown) (points : Bool) (old new : ShelfState) (judged : Judgement)
+    → IsCommand words (wave unit recording unknown points)
+    → IsStage (unit ∷ recording ∷ []) (WaveStage unit recording (unknown_of unknown) points) old new (Ok judged) → IsAnswer itself words old new (Ok (wave_outcome judged))
+wave-answers words unit recording unknown points old new judged is s =
+    stage-answers words (wave unit recording unknown points) is old new (WaveStage unit recording (unknown_of unknown) points) wave_outcome (λ files result h. h) judged (judged, refl) (λ e. cc) s
 
-pub wave-refuses : (words : List (List ℕ)) (unit recording : List ℕ) (unknown : Unknown) (old new : ShelfState) (fault : Fault) → IsCommand words (wave unit recording unknown)
-    → IsStage (unit ∷ recording ∷ []) (WaveStage unit recording (unknown_of unknown)) old new (Err fault) → IsAnswer itself words old new (Err fault)
-wave-refuses words unit recording unknown old new fault is s =
-    stage-refuses words (wave unit recording unknown) is old new (WaveStage unit recording (unknown_of unknown)) Wave (λ files result h. h) fault s
+pub wave-refuses : (words : List (List ℕ)) (unit recording : List ℕ) (unknown : Unknown) (points : Bool) (old new : ShelfState) (fault : Fault)
+    → IsCommand words (wave unit recording unknown points)
+    → IsStage (unit ∷ recording ∷ []) (WaveStage unit recording (unknown_of unknown) points) old new (Err fault) → IsAnswer itself words old new (Err fault)
+wave-refuses words unit recording unknown points old new fault is s =
+    stage-refuses words (wave unit recording unknown points) is old new (WaveStage unit recording (unknown_of unknown) points) wave_outcome (λ files result h. h) fault s
 
 pub show-answers : (words : List (List ℕ)) (unit names : List ℕ) (old new : ShelfState) (lines : List Line) → IsCommand words (show unit names)
     → IsStage (unit ∷ names ∷ []) (ShowStage unit names) old new (Ok lines) → IsAnswer itself words old new (Ok (Shown lines))

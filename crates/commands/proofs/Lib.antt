@@ -16,6 +16,7 @@ pub mod SameChecks
 pub mod SameOwed
 pub mod SameUnits
 pub mod Saving
+pub mod Settling
 pub mod Sources
 pub mod Staging
 pub mod Thirds

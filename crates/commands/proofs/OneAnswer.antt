@@ -1,5 +1,5 @@
 -- Words over contents have one first refusal, or none.
-use Rattle.std.proofs.Common.{◌≡◌, refl, sym, ◌∙◌, ap, subst, ℕ, ◌<◌, ◌^◌, List, [], map, Option, None, Some, Ok, Err, arith, inl, inr}
+use Rattle.std.proofs.Common.{◌≡◌, refl, sym, ◌∙◌, ap, subst, ℕ, ◌<◌, ◌^◌, Bool, List, [], map, Option, None, Some, Ok, Err, arith, inl, inr}
 use Rattle.std.specs.Prelude.{◌≢◌, Result}
 use Rattle.blif_model.specs.declared.fault.BlifFault.{BlifFault}
 use Rattle.blif_reader.proofs.Readings.{reading-one}
@@ -44,7 +44,7 @@ use Rattle.commands.proofs.Unknowns.{one-known}
 use Rattle.commands.specs.Diagnostics.{lex_diagnostic, parse_diagnostic, layer_diagnostic, judge_diagnostic, vcd_diagnostic, blif_diagnostic}
 use Rattle.certificate.specs.declared.answer.CertAnswer.{CertAnswer}
 use Rattle.commands.specs.Checks.{CertReading, CertStage, CheckStage}
-use Rattle.commands.specs.Commands.{CommandStage, FirstRefusal, MeaningStage, findings_outcome, replayed_outcome}
+use Rattle.commands.specs.Commands.{CommandStage, FirstRefusal, MeaningStage, findings_outcome, replayed_outcome, wave_outcome}
 use Rattle.commands.specs.Faults.{missing_in, of_none}
 use Rattle.commands.specs.Generated.{GeneratedStage}
 use Rattle.commands.specs.Provings.{FoundReading, ProveStage, size_fault}
@@ -52,7 +52,8 @@ use Rattle.commands.specs.Replays.{ReplayReading, ReplayStage, ReplayedReading, 
 use Rattle.commands.specs.Stages.{AndThen, OfFile, Then}
 use Rattle.commands.specs.Waves.{TokensReading, TreeReading, UnitReading, UnitStage, TextAnd, DirectivesReading}
 use Rattle.commands.specs.Waves.{RecordingReading, RecordingStage, InputsStage, with_recording, NetlistReading, CircuitStage, with_netlist}
-use Rattle.commands.specs.Waves.{AreJudged, JudgeReading, KnownReading, VerdictsReading, WaveStage, unknown_of}
+use Rattle.commands.specs.Settled.{AreSettled}
+use Rattle.commands.specs.Waves.{AreJudged, JudgeReading, JudgedReading, KnownReading, SettledReading, WaveStage, unknown_of}
 use Rattle.commands.specs.Waves.{LinesReading, ShowStage, ShowNetlistStage, line_of}
 use Rattle.commands.specs.Waves.{SubjectReading, SubjectStage, subject_of}
 use Rattle.commands.specs.declared.inputs.Circuit.{Circuit}
@@ -60,12 +61,14 @@ use Rattle.commands.specs.declared.inputs.Inputs.{Inputs}
 use Rattle.commands.specs.declared.outcome.Fault.{Fault}
 use Rattle.commands.specs.declared.outcome.Line.{Line}
 use Rattle.commands.specs.declared.outcome.Outcome.{Outcome}
-use Rattle.commands.specs.declared.outcome.Outcome.TheVariants.{Wave, Checked, Shown}
+use Rattle.commands.specs.declared.outcome.Outcome.TheVariants.{Checked, Shown}
+use Rattle.commands.specs.declared.outcome.Settled.{Settled}
 use Rattle.commands.specs.declared.prove.Found.{Found}
 use Rattle.commands.specs.declared.reason.Reason.{Reason}
 use Rattle.commands.specs.declared.reason.Reason.TheVariants.{Usage, NoMemory}
 use Rattle.commands.specs.declared.replayed.Replayed.{Replayed}
 use Rattle.commands.specs.declared.subject.Subject.{Subject}
+use Rattle.commands.specs.declared.wave.Judgement.{Judgement}
 use Rattle.vcd_reader.specs.declared.unknown.Unknown.{Unknown}
 use Rattle.replay.specs.Recorded.{first_missing}
 use Rattle.replay.specs.declared.answer.Replay.{Replay}
@@ -256,15 +259,26 @@ one-judged name r u v s =
     (λ w d n h k. judged_or_not v d (all-judgeable u v s h.judgeable) (first-fault v d n k))
     (λ c w n h k. judged_or_not v c k.judgeable (same-first u v c s (first-fault u c n h)))
 
-one-verdicts : (unknown : Unknown) (unit name : List ℕ) (i j : Inputs) → SameInputs i j
-    → Agree (Any-two {A = List Verdict}) (VerdictsReading unknown unit name i) (VerdictsReading unknown unit name j)
-one-verdicts unknown unit name i j same =
-    subst (λ (r : Sampled). Agree (Any-two {A = List Verdict}) (VerdictsReading unknown unit name i) (AndThen (DirectivesReading unit j.tree r.names) (KnownReading unknown unit name r)))
+one-settled : (points : Bool) (unknown : Unknown) (unit name : List ℕ) (r : Sampled) (u v : List Directive) → SameUnit u v
+    → Agree (Any-two {A = Judgement}) (SettledReading points unknown unit name r u) (SettledReading points unknown unit name r v)
+one-settled points unknown unit name r u v s =
+    agree-then (Any-two {A = List Verdict}) (Any-two {A = Judgement}) (KnownReading unknown unit name r u) (KnownReading unknown unit name r v) (last u) (last v)
+    (one-known unknown unit name r u v (Any-two {A = List Verdict}) s (one-judged unit r u v s))
+    (λ w x _ a b h k. alike-ok (Any-two {A = Judgement}) (record { verdicts = w; settled = h.0 }) (record { verdicts = x; settled = k.0 }) a b h.2 k.2 tt)
+  where
+    last : List Directive → List Verdict → Result Judgement Fault → Type 0
+    last directives verdicts result =
+        (settled : Option (List (Option Settled))) × AreSettled points r directives verdicts settled × (result ≡ Ok (record { verdicts = verdicts; settled = settled }))
+
+one-judged_inputs : (points : Bool) (unknown : Unknown) (unit name : List ℕ) (i j : Inputs) → SameInputs i j
+    → Agree (Any-two {A = Judgement}) (JudgedReading points unknown unit name i) (JudgedReading points unknown unit name j)
+one-judged_inputs points unknown unit name i j same =
+    subst (λ (r : Sampled). Agree (Any-two {A = Judgement}) (JudgedReading points unknown unit name i) (AndThen (DirectivesReading unit j.tree r.names) (SettledReading points unknown unit name r)))
     same.recordings
-    (agree-then SameUnit (Any-two {A = List Verdict}) (DirectivesReading unit i.tree i.recording.names) (DirectivesReading unit j.tree i.recording.names)
-    (KnownReading unknown unit name i.recording) (KnownReading unknown unit name i.recording)
+    (agree-then SameUnit (Any-two {A = Judgement}) (DirectivesReading unit i.tree i.recording.names) (DirectivesReading unit j.tree i.recording.names)
+    (SettledReading points unknown unit name i.recording) (SettledReading points unknown unit name i.recording)
     (one-directives unit i.recording.names i.tree j.tree same.trees)
-    (λ u v s. one-known unknown unit name i.recording u v (Any-two {A = List Verdict}) s (one-judged unit i.recording u v s)))
+    (λ u v s. one-settled points unknown unit name i.recording u v s))
 
 one-lines : (name : List ℕ) (t u : UnitTree) (names names' : List Name) → SameTree t u → names ≡ names'
     → Agree (Any-two {A = List Line}) (LinesReading name t names) (LinesReading name u names')
@@ -398,10 +412,11 @@ one-made : (seed samples : ℕ) → Agree (Any-two {A = Outcome}) (GeneratedStag
 one-made seed samples a b (v, _, e) (w, _, f) = alike-ok (Any-two {A = Outcome}) _ _ a b e f tt
 
 one-meaning : (meaning : Meaning) (files : Contents) → Agree (Any-two {A = Outcome}) (MeaningStage meaning files) (MeaningStage meaning files)
-one-meaning (wave unit recording unknown) files =
+one-meaning (wave unit recording unknown points) files =
     let bits = unknown_of unknown in
-    one-outcome (Any-two {A = List Verdict}) (WaveStage unit recording bits) Wave files
-    (one-loaded SameInputs (InputsStage bits unit recording) (VerdictsReading bits unit recording) files (one-inputs bits unit recording files) (one-verdicts bits unit recording))
+    one-outcome (Any-two {A = Judgement}) (WaveStage unit recording bits points) wave_outcome files
+    (one-loaded SameInputs (InputsStage bits unit recording) (JudgedReading points bits unit recording) files (one-inputs bits unit recording files)
+    (one-judged_inputs points bits unit recording))
 one-meaning (show unit names) files =
     one-outcome (Any-two {A = List Line}) (ShowStage unit names) Shown files
     (one-loaded SameInputs (InputsStage Zero unit names) (λ inputs. LinesReading unit inputs.tree inputs.recording.names) files (one-inputs Zero unit names files)

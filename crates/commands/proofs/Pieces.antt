@@ -25,6 +25,12 @@ pub six-added : (old first second third fourth fifth sixth one two three four fi
 six-added old first second third fourth fifth sixth one two three four five six a b c d e f =
     three-added old (first ++ second ++ third ++ fourth) fifth sixth four five six (four-added old first second third fourth one two three four a b c d) e f
 
+pub seven-added : (old first second third fourth fifth sixth seventh one two three four five six seven : List ℕ) → one ≡ old ++ first → two ≡ one ++ second → three ≡ two ++ third
+    → four ≡ three ++ fourth → five ≡ four ++ fifth → six ≡ five ++ sixth → seven ≡ six ++ seventh
+    → seven ≡ old ++ (first ++ second ++ third ++ fourth ++ fifth ++ sixth ++ seventh)
+seven-added old first second third fourth fifth sixth seventh one two three four five six seven a b c d e f g =
+    three-added old (first ++ second ++ third ++ fourth ++ fifth) sixth seventh five six seven (five-added old first second third fourth fifth one two three four five a b c d e) f g
+
 pub on-ok : {P Q : Type 0} (result : Result (Unit {0}) NoMemory) → (P → Q) → OnOk result P → OnOk result Q
 on-ok (Ok _) f h = f h
 on-ok (Err _) f h = tt

@@ -20,11 +20,12 @@ use Rattle.commands.specs.declared.outcome.Outcome.TheVariants.{Nothing, Wave, F
 use Rattle.commands.specs.Replays.{ReplayStage}
 use Rattle.commands.specs.declared.prove.Found.{Found}
 use Rattle.commands.specs.declared.replayed.Replayed.{Replayed}
+use Rattle.commands.specs.declared.wave.Judgement.{Judgement}
 use Rattle.commands.specs.declared.reason.Reason.TheVariants.{Usage, WriteFault, NoMemory}
 use Rattle.vcd_reader.specs.Rules.{sample_limit}
-use Rattle.wave_judge.specs.declared.verdict.Verdict.{Verdict}
 
--- The words are this command: `wave UNIT RECORDING` with how unknown bits read, `show UNIT NAMES`,
+-- The words are this command: `wave UNIT RECORDING` with how unknown bits read and whether it is asked from where on
+-- verdicts are settled, `show UNIT NAMES`,
 -- `show UNIT NETLIST --netlist`, `prove UNIT NETLIST` with its limits and files, `check UNIT NETLIST NUMBER CERTIFICATE` with a
 -- number from 1 to 2^32 - 1, `replay UNIT NETLIST RECORDING`, or `gen SEED SAMPLES` with a seed below 2^31 and a number of samples
 -- from 1 to the limit on samples.
@@ -37,13 +38,17 @@ IsNoCommand words = words_of.IsNoCommand sample_limit words
 
 -- the files that a command names, in the order in which it reads them
 abbrev pub files_of : Meaning → List (List ℕ)
-files_of (wave unit recording unknown) = unit ∷ recording ∷ []
+files_of (wave unit recording unknown points) = unit ∷ recording ∷ []
 files_of (show unit names) = unit ∷ names ∷ []
 files_of (show_netlist unit netlist) = unit ∷ netlist ∷ []
 files_of (prove unit netlist limits evidence) = unit ∷ netlist ∷ []
 files_of (check unit netlist number certificate) = unit ∷ netlist ∷ certificate ∷ []
 files_of (gen seed samples) = []
 files_of (replay unit netlist recording) = unit ∷ netlist ∷ recording ∷ []
+
+-- the outcome of `wave`
+abbrev pub wave_outcome : Judgement → Outcome
+wave_outcome judged = Wave judged.verdicts judged.settled
 
 -- the outcome of `prove`
 abbrev pub findings_outcome : Limits → Found → Outcome
@@ -55,8 +60,8 @@ replayed_outcome found = OfReplay found.replay found.samples found.verdicts
 
 -- what a command gives over contents: an outcome, or the first refusal
 abbrev pub MeaningStage : Meaning → Contents → Result Outcome Fault → Type 0
-MeaningStage (wave unit recording unknown) files result =
-    Then (WaveStage unit recording (unknown_of unknown)) (λ verdicts _ outcome. outcome ≡ Ok (Wave verdicts)) files result
+MeaningStage (wave unit recording unknown points) files result =
+    Then (WaveStage unit recording (unknown_of unknown) points) (λ judged _ outcome. outcome ≡ Ok (wave_outcome judged)) files result
 MeaningStage (show unit names) files result = Then (ShowStage unit names) (λ lines _ outcome. outcome ≡ Ok (Shown lines)) files result
 MeaningStage (show_netlist unit netlist) files result =
     Then (ShowNetlistStage unit netlist) (λ lines _ outcome. outcome ≡ Ok (Shown lines)) files result
@@ -70,7 +75,7 @@ MeaningStage (gen seed samples) files result = GeneratedStage seed samples resul
 
 -- what is known of a command's outcome whatever the files tell: its kind, and that of `gen` is exact
 abbrev pub MeaningOutcome : Meaning → Outcome → Type 0
-MeaningOutcome (wave unit recording unknown) outcome = (verdicts : List Verdict) × (outcome ≡ Wave verdicts)
+MeaningOutcome (wave unit recording unknown points) outcome = (judged : Judgement) × (outcome ≡ wave_outcome judged)
 MeaningOutcome (show unit names) outcome = (lines : List Line) × (outcome ≡ Shown lines)
 MeaningOutcome (show_netlist unit netlist) outcome = (lines : List Line) × (outcome ≡ Shown lines)
 MeaningOutcome (prove unit netlist limits evidence) outcome =

@@ -65,7 +65,7 @@ replay_status (replays.Leaves sample signal name) verdicts = 1
 
 abbrev pub outcome_status : Outcome → ℕ
 outcome_status Nothing = 0
-outcome_status (Wave verdicts) = verdicts_status verdicts
+outcome_status (Wave verdicts settled) = verdicts_status verdicts
 outcome_status (Findings entries columns depth visits) = findings_status entries
 outcome_status (Checked number answer) = answer_status answer
 outcome_status (Shown lines) = 0

@@ -9,6 +9,7 @@ pub mod Provings
 pub mod Replays
 pub mod Rows
 pub mod Saved
+pub mod Settled
 pub mod Stages
 pub mod Text
 pub mod Waves

@@ -57,7 +57,7 @@ files_of_entry wanted entry = files_of_finding wanted entry.number entry.finding
 -- the files of an outcome's evidence, in the order of the assertions
 abbrev pub files_of_outcome : Wanted → Outcome → List NewFile
 files_of_outcome wanted Nothing = []
-files_of_outcome wanted (Wave verdicts) = []
+files_of_outcome wanted (Wave verdicts settled) = []
 files_of_outcome wanted (Findings entries columns depth visits) = flat_map (files_of_entry wanted) entries
 files_of_outcome wanted (Checked number answer) = []
 files_of_outcome wanted (Shown lines) = []
@@ -69,7 +69,7 @@ abbrev no_files : Wanted
 no_files = record { cert = None; vcd = None; loops = 1 }
 
 abbrev pub wanted_of : Meaning → Wanted
-wanted_of (wave unit recording unknown) = no_files
+wanted_of (wave unit recording unknown points) = no_files
 wanted_of (show unit names) = no_files
 wanted_of (show_netlist unit netlist) = no_files
 wanted_of (prove unit netlist limits evidence) = evidence

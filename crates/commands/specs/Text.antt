@@ -22,6 +22,8 @@ use Rattle.commands.specs.Rows.{fault_words}
 use Rattle.commands.specs.declared.outcome.Fault.{Fault}
 use Rattle.commands.specs.declared.outcome.Line.{Line}
 use Rattle.commands.specs.declared.outcome.Outcome.{Outcome}
+use Rattle.commands.specs.declared.outcome.Settled.{Settled}
+use Rattle.commands.specs.declared.outcome.Settled.TheVariants.{Before, At}
 use Rattle.commands.specs.declared.outcome.Outcome.TheVariants.{Nothing, Wave, Findings, Checked, Shown, Made, Replayed}
 use Rattle.replay.specs.declared.answer.Replay.{Replay}
 use Rattle.replay.specs.declared.answer.Replay.TheVariants as replays
@@ -70,6 +72,28 @@ answers_line verdict =
 -- a verdict's line
 abbrev pub verdict_line : Verdict → List ℕ
 verdict_line verdict = head verdict.kind verdict.number verdict.label ++ answers_line verdict
+
+-- the line that says from where on a verdict is settled
+abbrev pub beginning_line : Settled → List ℕ
+beginning_line Before = codes "  settled before the first sample" ++ line_feed
+beginning_line (At sample time line) =
+    codes "  settled at sample " ++ decimal sample ++ codes " time " ++ decimal time ++ codes " line " ++ decimal line ++ line_feed
+
+-- the same, and nothing where it is not
+abbrev pub settled_line : Option Settled → List ℕ
+settled_line None = []
+settled_line (Some settled) = beginning_line settled
+
+-- each verdict's line, and behind it from where on it is settled, by a list in the order of the verdicts
+abbrev pub settled_lines : List Verdict → List (Option Settled) → List ℕ
+settled_lines [] settled = []
+settled_lines (verdict ∷ verdicts) [] = verdict_line verdict ++ settled_lines verdicts []
+settled_lines (verdict ∷ verdicts) (place ∷ places) = verdict_line verdict ++ settled_line place ++ settled_lines verdicts places
+
+-- the lines of verdicts, where it may be asked from where on they are settled
+abbrev pub judged_text : List Verdict → Option (List (Option Settled)) → List ℕ
+judged_text verdicts None = flat_map verdict_line verdicts
+judged_text verdicts (Some settled) = settled_lines verdicts settled
 
 -- the line that says where a recording leaves a netlist, if it does
 abbrev pub replay_line : Replay → ℕ → List ℕ
@@ -169,7 +193,7 @@ IsShowable _ = Unit {0}
 -- the lines of an outcome
 abbrev pub text_of : Outcome → List ℕ
 text_of Nothing = []
-text_of (Wave verdicts) = flat_map verdict_line verdicts
+text_of (Wave verdicts settled) = judged_text verdicts settled
 text_of (Findings entries columns depth visits) = flat_map (entry_text columns depth visits) entries
 text_of (Checked number answer) = checked_line number answer
 text_of (Shown lines) = flat_map meaning_line lines

@@ -1,6 +1,6 @@
 -- What the commands over a text and a second file give: the verdicts of the text's directives on a recording, and what
 -- the directives mean over the names of a recording or a netlist.
-use Rattle.std.specs.Prelude.{◌≡◌, ◌⊎◌, ℕ, List, All, map, Option, None, Some, Result, Ok, Err}
+use Rattle.std.specs.Prelude.{Bool, ◌≡◌, ◌⊎◌, ℕ, List, All, map, Option, None, Some, Result, Ok, Err}
 use Rattle.blif_reader.specs.Meaning.{IsReading}
 use Rattle.netlist.specs.Design.{Design}
 use Rattle.command_line.specs.declared.Unknown as words
@@ -20,13 +20,16 @@ use Rattle.psl_tree.specs.declared.name.Name.{Name}
 use Rattle.psl_tree.specs.Trees.{formula_of}
 use Rattle.commands.specs.Diagnostics.{lex_diagnostic, parse_diagnostic, layer_diagnostic, judge_diagnostic, vcd_diagnostic, blif_diagnostic}
 use Rattle.commands.specs.Faults.{at, fault_in}
+use Rattle.commands.specs.Settled.{AreSettled}
 use Rattle.commands.specs.Stages.{AndThen, Then, OfFile, ToldBy}
 use Rattle.commands.specs.declared.inputs.Circuit.{Circuit}
 use Rattle.commands.specs.declared.inputs.Inputs.{Inputs}
 use Rattle.commands.specs.declared.outcome.Fault.{Fault}
 use Rattle.commands.specs.declared.outcome.Line.{Line}
+use Rattle.commands.specs.declared.outcome.Settled.{Settled}
 use Rattle.commands.specs.declared.reason.Reason.TheVariants.{UnknownValue}
 use Rattle.commands.specs.declared.subject.Subject.{Subject}
+use Rattle.commands.specs.declared.wave.Judgement.{Judgement}
 use Rattle.vcd_reader.specs.declared.unknown.Unknown.{Unknown}
 use Rattle.vcd_reader.specs.declared.unknown.Unknown.TheVariants.{Zero, One, Refuse}
 use Rattle.vcd_reader.specs.FirstUnknown.{IsFirstUnknown}
@@ -122,10 +125,17 @@ KnownReading unknown unit name sampled directives result =
     ((sample : ℕ) × IsFirstRefused unknown sampled directives (Some sample) × (result ≡ Err (unknown_fault name sampled sample)))
     ⊎ (IsFirstRefused unknown sampled directives None × JudgeReading unit sampled directives result)
 
--- the verdicts of a text on a recording
-abbrev pub VerdictsReading : Unknown → List ℕ → List ℕ → Inputs → Result (List Verdict) Fault → Type 0
-VerdictsReading unknown unit name inputs =
-    AndThen (DirectivesReading unit inputs.tree inputs.recording.names) (KnownReading unknown unit name inputs.recording)
+-- the verdicts of directives, and from where on they are settled, where that is asked for
+abbrev pub SettledReading : Bool → Unknown → List ℕ → List ℕ → Sampled → List Directive → Result Judgement Fault → Type 0
+SettledReading points unknown unit name sampled directives =
+    AndThen (KnownReading unknown unit name sampled directives) (λ verdicts result.
+    (settled : Option (List (Option Settled))) × AreSettled points sampled directives verdicts settled
+    × (result ≡ Ok (record { verdicts = verdicts; settled = settled })))
+
+-- the same of a text on a recording
+abbrev pub JudgedReading : Bool → Unknown → List ℕ → List ℕ → Inputs → Result Judgement Fault → Type 0
+JudgedReading points unknown unit name inputs =
+    AndThen (DirectivesReading unit inputs.tree inputs.recording.names) (SettledReading points unknown unit name inputs.recording)
 
 -- what a directive means: its formula's canonical text, and how many obligations that has where its clocks are rewritten away
 abbrev pub line_of : List Name → Directive → Line
@@ -148,9 +158,10 @@ unknown_of word.Zero = Zero
 unknown_of word.One = One
 unknown_of word.Refuse = Refuse
 
--- `wave UNIT RECORDING --unknown WORD`
-abbrev pub WaveStage : List ℕ → List ℕ → Unknown → Contents → Result (List Verdict) Fault → Type 0
-WaveStage unit recording unknown = Then (InputsStage unknown unit recording) (λ inputs files. VerdictsReading unknown unit recording inputs)
+-- `wave UNIT RECORDING --unknown WORD`, and whether `--where` stands there
+abbrev pub WaveStage : List ℕ → List ℕ → Unknown → Bool → Contents → Result Judgement Fault → Type 0
+WaveStage unit recording unknown points =
+    Then (InputsStage unknown unit recording) (λ inputs files. JudgedReading points unknown unit recording inputs)
 
 -- `show UNIT NAMES`, over the names of a recording
 abbrev pub ShowStage : List ℕ → List ℕ → Contents → Result (List Line) Fault → Type 0

@@ -160,7 +160,7 @@ fn status_of_outcome(outcome: &Outcome) -> u8
         Outcome::Checked(_, answer) => status_of_answer(*answer),
         Outcome::Findings { findings, .. } => status_of_findings(findings.as_slice()),
         Outcome::Replayed(replay, _, verdicts) => status_of_replay(replay, verdicts.as_slice()),
-        Outcome::Wave(verdicts) | Outcome::Made(_, _, _, verdicts) => {
+        Outcome::Wave(verdicts, _) | Outcome::Made(_, _, _, verdicts) => {
             status_of_verdicts(verdicts.as_slice())
         }
     }

@@ -17,6 +17,7 @@ mod replayed;
 mod report;
 mod rows;
 mod saves;
+mod settled;
 mod show;
 mod shown;
 mod subject;
@@ -24,6 +25,6 @@ mod top;
 mod wave;
 
 pub use laws::{one_refusal, written_law};
-pub use outcome::{Fault, Line, Lines, Outcome, Report};
+pub use outcome::{Fault, Line, Lines, Outcome, Report, Settled, Settlements};
 pub use reason::Reason;
 pub use top::run;

@@ -10,8 +10,9 @@ use wave_judge::Verdicts;
 #[derive(Debug, Drop)]
 pub enum Outcome {
     Nothing,
-    /// `wave`: the verdicts on a recording.
-    Wave(Verdicts),
+    /// `wave`: the verdicts on a recording; and where that is asked for, from where on each is settled, with nothing for
+    /// those that are neither settled for nor against.
+    Wave(Verdicts, Option<Settlements>),
     /// `prove`: a finding for each assertion; the first names of the netlist's inputs and then of its latches' outputs, in
     /// its order, whose values are shown of a run; and the depth and the visits that were asked for.
     Findings {
@@ -30,6 +31,25 @@ pub enum Outcome {
     /// `replay`: where a recording leaves a netlist, if it does; how many samples it has; and the verdicts on it.
     Replayed(Replay, u32, Verdicts),
 }
+
+/// From where on a verdict is settled: no samples that follow can change it.
+#[derive(Clone, Copy, Debug, PartialEq, Eq)]
+pub enum Settled {
+    /// No sample is needed.
+    Before,
+    /// From this sample on.
+    At {
+        /// Counted from 0.
+        sample: u32,
+        /// The sample's time, in units of the recording's time scale.
+        time: u64,
+        /// The line of the first token that lists this time, counted from 1.
+        line: u32,
+    },
+}
+
+/// From where on verdicts are settled, in their order.
+pub type Settlements = Items<Option<Settled>>;
 
 /// What a directive means.
 #[derive(Debug, Drop)]

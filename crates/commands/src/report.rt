@@ -1,9 +1,10 @@
-ghost use Rattle.std.specs.Prelude.{◌≡◌, ◌++◌, IfOk, OnOk};
+ghost use Rattle.std.specs.Prelude.{◌≡◌, ◌++◌, None, slice_index_or, IfOk, OnOk};
 ghost use Rattle.std.specs.List.{flat_map};
-ghost use Rattle.commands.specs.Text.{text_of, line_of, made_line, meaning_line, replay_line, answers_line, verdict_line, head, label_part, kind_word, level_words, answer_word, about, IsShowable};
+ghost use Rattle.commands.specs.Text.{text_of, line_of, made_line, meaning_line, replay_line, answers_line, head, label_part, kind_word, level_words, answer_word, about, IsShowable};
+ghost use Rattle.commands.specs.Text.{beginning_line, settled_line, settled_lines, verdict_line};
 
 use crate::checked::add_checked;
-use crate::outcome::{Fault, Line, Outcome};
+use crate::outcome::{Fault, Line, Outcome, Settled};
 use crate::rows::row_of;
 use crate::shown::Shown;
 use psl_base::{Bytes, NoMemory, Place, Text, add_bytes, add_number};
@@ -21,7 +22,10 @@ pub fn report(alloc: Global, outcome: &Outcome) -> Result<Bytes, NoMemory>
     let mut text = Vec::new(alloc);
     match outcome {
         Outcome::Nothing => {}
-        Outcome::Wave(verdicts) => add_verdicts(&mut text, verdicts.as_slice())?,
+        Outcome::Wave(verdicts, None) => add_verdicts(&mut text, verdicts.as_slice())?,
+        Outcome::Wave(verdicts, Some(settled)) => {
+            add_settled_verdicts(&mut text, verdicts.as_slice(), settled.as_slice())?;
+        }
         Outcome::Findings {
             findings,
             columns,
@@ -148,6 +152,59 @@ fn add_verdicts(text: &mut Vec<u8>, verdicts: &[Verdict]) -> Result<(), NoMemory
         add_verdict(text, verdict)?;
     }
     Ok(())
+}
+
+/// The same, and behind each from where on it is settled.
+fn add_settled_verdicts(
+    text: &mut Vec<u8>,
+    verdicts: &[Verdict],
+    settled: &[Option<Settled>],
+) -> Result<(), NoMemory>
+    ensures { OnOk result (text.new.items ≡ text.old.items ++ settled_lines verdicts.now settled.now) }
+{
+    for (place, verdict) in verdicts.iter().enumerate() {
+        add_verdict(text, verdict)?;
+        add_settled(text, settled_at(settled, place))?;
+    }
+    Ok(())
+}
+
+/// From where on the verdict of a place is settled, if it is.
+fn settled_at(settled: &[Option<Settled>], place: usize) -> Option<Settled>
+    ensures { result ≡ slice_index_or settled.now place None }
+{
+    if place < settled.len() {
+        settled[place]
+    } else {
+        None
+    }
+}
+
+/// The line that says from where on a verdict is settled, if it is.
+fn add_settled(text: &mut Vec<u8>, settled: Option<Settled>) -> Result<(), NoMemory>
+    ensures { OnOk result (text.new.items ≡ text.old.items ++ settled_line settled) }
+{
+    match settled {
+        None => Ok(()),
+        Some(settled) => add_beginning(text, settled),
+    }
+}
+
+fn add_beginning(text: &mut Vec<u8>, settled: Settled) -> Result<(), NoMemory>
+    ensures { OnOk result (text.new.items ≡ text.old.items ++ beginning_line settled) }
+{
+    match settled {
+        Settled::Before => add_bytes(text, b"  settled before the first sample\n"),
+        Settled::At { sample, time, line } => {
+            add_bytes(text, b"  settled at sample ")?;
+            add_number(text, sample as u64)?;
+            add_bytes(text, b" time ")?;
+            add_number(text, time)?;
+            add_bytes(text, b" line ")?;
+            add_number(text, line as u64)?;
+            add_bytes(text, b"\n")
+        }
+    }
 }
 
 fn add_verdict(text: &mut Vec<u8>, verdict: &Verdict) -> Result<(), NoMemory>

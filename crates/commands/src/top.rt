@@ -139,7 +139,8 @@ fn outcome<F: Shelf>(alloc: Global, files: &mut F, command: Command<'_>) -> Resu
             unit,
             recording,
             unknown,
-        } => wave_outcome(alloc, files, unit, recording, unknown),
+            points,
+        } => wave_outcome(alloc, files, unit, recording, unknown, points),
         Command::Show { unit, names } => Ok(Outcome::Shown(show(alloc, files, unit, names)?)),
         Command::ShowNetlist { unit, netlist } => {
             Ok(Outcome::Shown(show_netlist(alloc, files, unit, netlist)?))
@@ -195,13 +196,14 @@ fn wave_outcome<F: Shelf>(
     unit: &str,
     recording: &str,
     unknown: Unknown,
+    points: bool,
 ) -> Result<Outcome, Fault>
     ensures showable { IfOk result IsShowable }
-    ensures answer { (words : List (List ℕ)) → IsCommand words (a_wave unit.now recording.now unknown)
+    ensures answer { (words : List (List ℕ)) → IsCommand words (a_wave unit.now recording.now unknown points)
         → IsAnswer (λ (outcome : Outcome). outcome) words (F.state files.old) (F.state files.new) result }
 {
-    let verdicts = wave(alloc, files, unit, recording, unknown_of(unknown))?;
-    Ok(Outcome::Wave(verdicts))
+    let judged = wave(alloc, files, unit, recording, unknown_of(unknown), points)?;
+    Ok(Outcome::Wave(judged.verdicts, judged.settled))
 }
 
 /// What `check` finds out.

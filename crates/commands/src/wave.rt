@@ -1,35 +1,47 @@
-ghost use Rattle.std.specs.Prelude.{◌≡◌, ◌⊎◌, ◌<◌, ◌≤◌, ◌∷◌, [], length, All, IfSome};
+ghost use Rattle.std.specs.Prelude.{◌≡◌, ◌⊎◌, ◌<◌, ◌≤◌, ◌∷◌, [], length, All, IfOk, IfSome};
 ghost use Rattle.psl_tree.specs.Atoms.{AtomsOfFormula};
 ghost use Rattle.psl_tree.specs.Counts.{formula_size};
 ghost use Rattle.psl_tree.specs.Names.{AtomInRange};
 ghost use Rattle.psl_tree.specs.Trees.{formula_of};
 ghost use Rattle.commands.specs.Faults.{of_none};
 ghost use Rattle.commands.specs.Stages.{IsStage, IsReading};
-ghost use Rattle.commands.specs.Waves.{IsFirstRefused, JudgeReading, VerdictsReading, WaveStage, unknown_fault, unknown_of};
+ghost use Rattle.commands.specs.Settled.{AreSettled};
+ghost use Rattle.commands.specs.Waves.{AreJudged, IsFirstRefused, JudgeReading, JudgedReading, KnownReading, WaveStage, unknown_fault, unknown_of};
 
 use crate::directives::directives;
 use crate::faults::{at, fault_in, judge_diagnostic};
 use crate::inputs::{Inputs, load_inputs};
-use crate::outcome::Fault;
+use crate::outcome::{Fault, Settlements};
 use crate::reason::Reason;
-use psl_base::Shelf;
+use crate::settled::settlements;
+use psl_base::{NoMemory, Shelf};
 use psl_tree::Unit;
 use std::alloc::Global;
 use vcd_reader::{Recording, Unknown};
 use wave_judge::{Verdicts, judge};
 
-/// Judges a text on a recording, both read from files: `wave UNIT RECORDING --unknown WORD`.
+/// The verdicts of a text on a recording, in order.
+#[derive(Drop)]
+pub struct Judgement {
+    pub verdicts: Verdicts,
+    /// From where on each is settled, where that is asked for.
+    pub settled: Option<Settlements>,
+}
+
+/// Judges a text on a recording, both read from files: `wave UNIT RECORDING --unknown WORD`; and tells from where on its
+/// verdicts are settled, if `--where` stands there.
 pub fn wave<F: Shelf>(
     alloc: Global,
     files: &mut F,
     unit: &str,
     recording: &str,
     unknown: Unknown,
-) -> Result<Verdicts, Fault>
-    ensures { IsStage (unit.now ∷ recording.now ∷ []) (WaveStage unit.now recording.now unknown) (F.state files.old) (F.state files.new) result }
+    points: bool,
+) -> Result<Judgement, Fault>
+    ensures { IsStage (unit.now ∷ recording.now ∷ []) (WaveStage unit.now recording.now unknown points) (F.state files.old) (F.state files.new) result }
 {
     let inputs = load_inputs(alloc, files, unit, recording, unknown)?;
-    verdicts(alloc, &inputs, unit, recording, unknown)
+    judge_inputs(alloc, &inputs, unit, recording, unknown, points)
 }
 
 /// How unknown bits read by the word of `--unknown`.
@@ -43,22 +55,63 @@ pub fn unknown_of(word: command_line::Unknown) -> Unknown
     }
 }
 
-/// The verdicts of a text on the recording in a file of this name.
-fn verdicts(
+/// The same of a text on the recording in a file of this name.
+fn judge_inputs(
     alloc: Global,
     inputs: &Inputs,
     unit: &str,
     name: &str,
     unknown: Unknown,
-) -> Result<Verdicts, Fault>
-    ensures { IsReading (unit.now ∷ name.now ∷ []) (VerdictsReading unknown unit.now name.now inputs.now) result }
+    points: bool,
+) -> Result<Judgement, Fault>
+    ensures { IsReading (unit.now ∷ name.now ∷ []) (JudgedReading points unknown unit.now name.now inputs.now) result }
 {
     let recording = &inputs.recording;
     let directives = directives(alloc, &inputs.tree, recording.names(), unit)?;
-    if let Some(sample) = first_refused(&directives, recording, unknown) {
+    let verdicts = verdicts(alloc, &directives, recording, unit, name, unknown)?;
+    let settled = settled(alloc, &directives, recording, &verdicts, points)?;
+    Ok(Judgement { verdicts, settled })
+}
+
+/// The verdicts of directives, unless a sample is refused.
+fn verdicts(
+    alloc: Global,
+    directives: &Unit,
+    recording: &Recording,
+    unit: &str,
+    name: &str,
+    unknown: Unknown,
+) -> Result<Verdicts, Fault>
+    requires in_range { All (λ directive. AtomsOfFormula (AtomInRange recording.now.names) (formula_of directive.formula)) directives.now }
+    requires small { All (λ directive. formula_size (formula_of directive.formula) ≤ 4096) directives.now }
+    ensures reading { IsReading (unit.now ∷ name.now ∷ []) (KnownReading unknown unit.now name.now recording.now directives.now) result }
+    ensures judged { IfOk result (AreJudged recording.now directives.now) }
+{
+    if let Some(sample) = first_refused(directives, recording, unknown) {
         return Err(unknown_fault(alloc, name, recording, sample));
     }
-    judged(alloc, &directives, recording, unit)
+    judged(alloc, directives, recording, unit)
+}
+
+/// From where on verdicts are settled, where that is asked for.
+fn settled(
+    alloc: Global,
+    directives: &Unit,
+    recording: &Recording,
+    verdicts: &Verdicts,
+    points: bool,
+) -> Result<Option<Settlements>, NoMemory>
+    requires in_range { All (λ directive. AtomsOfFormula (AtomInRange recording.now.names) (formula_of directive.formula)) directives.now }
+    requires small { All (λ directive. formula_size (formula_of directive.formula) ≤ 4096) directives.now }
+    requires judged { AreJudged recording.now directives.now verdicts.now }
+    ensures { IfOk result (AreSettled points recording.now directives.now verdicts.now) }
+{
+    if !points {
+        return Ok(None);
+    }
+    let found = wave_judge::points(alloc, directives, recording, verdicts)?;
+    let settled = settlements(alloc, recording, found.as_slice())?;
+    Ok(Some(settled))
 }
 
 /// The first sample that is refused, counted from 0.
