@@ -1,5 +1,11 @@
 pub mod Bounds
+pub mod Declaring
+pub mod Firsts
+pub mod Growing
 pub mod Longer
 pub mod Owned
 pub mod Scopes
+pub mod Sizes
+pub mod Values
 pub mod Whole
+pub mod Widths

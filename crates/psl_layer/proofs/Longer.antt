@@ -1,24 +1,19 @@
 -- Directives one behind another: their numbers, and the first that is too large.
-use Rattle.std.proofs.Common.{◌≡◌, ℕ, suc, ◌+◌, ◌<◌, List, [], ◌∷◌, ◌++◌, map, length, get_or, drop, Bool, true, false, if◌then◌else◌, Option, None, Some, Result, Ok, Err, refl, sym, ap, subst, ◌∙◌, append_assoc, add-zero, add-one, arith, length-append}
-use Rattle.std.proofs.Math.Seq.{drop-cons}
+use Rattle.std.proofs.Common.{◌≡◌, ℕ, suc, ◌+◌, List, [], ◌∷◌, ◌++◌, map, length, Bool, true, false, if◌then◌else◌, Option, None, Some, Result, Ok, Err, refl, sym, ap, subst, ◌∙◌, append_assoc, add-zero, arith, length-append}
 use Rattle.std.proofs.lemmas.List.{append-nil, map-append}
 use Rattle.std.specs.List.{find}
 use Rattle.std.specs.Option.{option_map}
 use Rattle.psl_base.specs.declared.place.Place.{Place}
-use Rattle.psl_grammar.specs.declared.tree.Statement as code_statement
-use Rattle.psl_grammar.specs.declared.tree.VerificationUnit.{VerificationUnit}
 use Rattle.psl_tree.specs.Trees.{Boolean}
 use Rattle.psl_tree.specs.declared.directive.Directive.{Directive}
-use Rattle.psl_tree.specs.declared.name.Name.{Name}
 use Rattle.psl_sugar.specs.declared.fault.SugarFault.{SugarFault}
 use Rattle.psl_elaboration.specs.Answers.{Numbered, directive_of, numbered, is_too_large, first_too_large}
-use Rattle.psl_elaboration.specs.Directives.{Asked, asked_by, asked_after, asked_in, asked_in_units, declared_by, default_clock}
-use Rattle.psl_elaboration.specs.Kernel.{Named}
+use Rattle.psl_elaboration.specs.Directives.{Asked}
 use Rattle.psl_elaboration.specs.declared.fault.LayerFault.{LayerFault}
 use Rattle.psl_elaboration.specs.declared.fault.LayerFault.TheVariants as faults
-use Rattle.psl_kernel.specs.Built.{Declared, IsScope}
-use Rattle.psl_layer.specs.Asked.{GivesClock, IsGrown, IsLonger, IsLongerBy}
-use Rattle.psl_layer.proofs.Scopes.{cut}
+use Rattle.psl_layer.specs.Asked.{Asks, AskAll, IsLonger}
+use Rattle.psl_layer.specs.Built.{GivesClock}
+use Rattle.psl_layer.specs.declared.asked.Asked as code_asked
 
 by_test : (test : Bool) (one : Asked) (more second : List Asked) → (first_too_large more ≡ None → first_too_large (more ++ second) ≡ first_too_large second)
     → option_map (λ (asked : Asked). asked.place) (if test then Some one else find is_too_large more) ≡ None
@@ -114,115 +109,88 @@ longer_err old first second (faults.DeclaredTwice place) is = is
 longer_err old first second (faults.EmptyRange place) is = is
 longer_err old first second (faults.ConstantTooWide place) is = is
 
--- the statements that are left, after names and directives
-pub record UnitRest (old unit : List Directive) (scope : Declared) (names : List Name) (clock : Option (Result Boolean SugarFault)) (all rest : List code_statement.Statement) : Type 0 where
-  pub named : List Named
-  pub holds : IsScope scope named
-  pub wanted : Option Boolean
-  pub gives : GivesClock clock wanted
+-- some that were read ask this, and others are left
+pub record AskedRest (wanted : Option Boolean) (old unit : List Directive) (rest : List code_asked.Asked) (all : List Asked) : Type 0 where
   pub done : List Asked
-  pub whole : asked_in names all ≡ done ++ asked_after named names wanted rest
+  pub left : List Asked
+  pub whole : all ≡ done ++ left
+  pub waiting : AskAll wanted rest left
   pub made : IsLonger old done (Ok unit)
 
-pub unit_begun : (old : List Directive) (scope : Declared) (names : List Name) (clock : Option (Result Boolean SugarFault)) (all : List code_statement.Statement) →
-    IsScope scope [] → GivesClock clock (default_clock [] names all) → UnitRest old old scope names clock all all
-unit_begun old scope names clock all none gives = record {
-  named = [];
-  holds = none;
-  wanted = default_clock [] names all;
-  gives = gives;
-  done = [];
-  whole = refl;
-  made = longer_none old;
-}
+-- the directives so far, whatever is asked
+abbrev pub IsSettling : Option (Result Boolean SugarFault) → List Directive → List Directive → List code_asked.Asked → List code_asked.Asked → Type 0
+IsSettling clock old unit every rest =
+    (wanted : Option Boolean) (all : List Asked) → GivesClock clock wanted → AskAll wanted every all → AskedRest wanted old unit rest all
 
-asked_cut : (names : List Name) (named : List Named) (wanted : Option Boolean) (done : List Asked) (all : List code_statement.Statement) (index : ℕ) (item : code_statement.Statement) →
-    item ≡ get_or all index item → index < length all →
-    done ++ asked_after named names wanted (drop index all)
-    ≡ (done ++ asked_by named names wanted item) ++ asked_after (named ++ declared_by named names item) names wanted (drop (index + 1) all)
-asked_cut names named wanted done all index item at below =
-    ap (λ (rest : List code_statement.Statement). done ++ asked_after named names wanted rest) (cut all index item at below)
-    ∙ sym (append_assoc done (asked_by named names wanted item) (asked_after (named ++ declared_by named names item) names wanted (drop (index + 1) all)))
+pub settling_begun : (clock : Option (Result Boolean SugarFault)) (old : List Directive) (every : List code_asked.Asked) → IsSettling clock old old every every
+settling_begun clock old every wanted all gives asked = record { done = []; left = all; whole = refl; waiting = asked; made = longer_none old }
 
--- a statement more
-pub unit_more : (old unit new : List Directive) (scope grown : Declared) (names : List Name) (clock : Option (Result Boolean SugarFault)) (all : List code_statement.Statement)
-    (index : ℕ) (item : code_statement.Statement) → item ≡ get_or all index item → index < length all →
-    IsLongerBy scope names clock unit item (Ok new) → IsGrown scope names item grown →
-    UnitRest old unit scope names clock all (drop index all) → UnitRest old new grown names clock all (drop (index + 1) all)
-unit_more old unit new scope grown names clock all index item at below is_new is_grown before = record {
-  named = before.named ++ declared_by before.named names item;
-  holds = is_grown before.named before.holds;
-  wanted = before.wanted;
-  gives = before.gives;
-  done = before.done ++ asked_by before.named names before.wanted item;
-  whole = before.whole ∙ asked_cut names before.named before.wanted before.done all index item at below;
-  made = longer_more old unit before.done (asked_by before.named names before.wanted item) (Ok new) before.made (is_new before.named before.wanted before.holds before.gives);
-}
+-- what the next one asks, and the others
+record NextAsked (wanted : Option Boolean) (one : code_asked.Asked) (more : List code_asked.Asked) (left : List Asked) : Type 0 where
+  asked : Asked
+  others : List Asked
+  whole : left ≡ asked ∷ others
+  asks : Asks wanted one asked
+  rest : AskAll wanted more others
 
--- a fault at a statement is one of the list
-pub unit_err : (old unit : List Directive) (scope : Declared) (names : List Name) (clock : Option (Result Boolean SugarFault)) (all : List code_statement.Statement)
-    (index : ℕ) (item : code_statement.Statement) (fault : LayerFault) → item ≡ get_or all index item → index < length all →
-    IsLongerBy scope names clock unit item (Err fault) →
-    UnitRest old unit scope names clock all (drop index all) → IsLonger old (asked_in names all) (Err fault)
-unit_err old unit scope names clock all index item fault at below is before =
-    let own : List Asked = asked_by before.named names before.wanted item in
-    let P : List Asked → Type 0 = λ asked. IsLonger old asked (Err fault) in
-    subst P (sym (before.whole ∙ asked_cut names before.named before.wanted before.done all index item at below))
-    (longer_err old (before.done ++ own) (asked_after (before.named ++ declared_by before.named names item) names before.wanted (drop (index + 1) all)) fault
-    (longer_more old unit before.done own (Err fault) before.made (is before.named before.wanted before.holds before.gives)))
+next_asked : (wanted : Option Boolean) (one : code_asked.Asked) (more : List code_asked.Asked) (left : List Asked) → AskAll wanted (one ∷ more) left →
+    NextAsked wanted one more left
+next_asked wanted one more [] waiting = absurd waiting
+next_asked wanted one more (asked ∷ others) waiting = record { asked = asked; others = others; whole = refl; asks = waiting.0; rest = waiting.1 }
 
--- no statement is left
-pub unit_end : (old unit : List Directive) (scope : Declared) (names : List Name) (clock : Option (Result Boolean SugarFault)) (all : List code_statement.Statement)
-    (index : ℕ) → drop index all ≡ [] →
-    UnitRest old unit scope names clock all (drop index all) → IsLonger old (asked_in names all) (Ok unit)
-unit_end old unit scope names clock all index end before =
-    let P : List Asked → Type 0 = λ asked. IsLonger old asked (Ok unit) in
-    let whole : asked_in names all ≡ before.done =
-    before.whole ∙ ap (λ (rest : List code_statement.Statement). before.done ++ asked_after before.named names before.wanted rest) end ∙ append-nil before.done in
-    subst P (sym whole) before.made
+-- one more
+pub settling_more : (clock : Option (Result Boolean SugarFault)) (old unit new : List Directive) (every : List code_asked.Asked) (one : code_asked.Asked) (more : List code_asked.Asked) →
+    ((wanted : Option Boolean) (asked : Asked) → GivesClock clock wanted → Asks wanted one asked → IsLonger unit (asked ∷ []) (Ok new)) →
+    IsSettling clock old unit every (one ∷ more) → IsSettling clock old new every more
+settling_more clock old unit new every one more longer before wanted all gives asked =
+    let so_far = before wanted all gives asked in
+    let next = next_asked wanted one more so_far.left so_far.waiting in
+    record {
+      done = so_far.done ++ next.asked ∷ [];
+      left = next.others;
+      whole = so_far.whole ∙ ap (λ (left : List Asked). so_far.done ++ left) next.whole ∙ sym (append_assoc so_far.done (next.asked ∷ []) next.others);
+      waiting = next.rest;
+      made = longer_more old unit so_far.done (next.asked ∷ []) (Ok new) so_far.made (longer wanted next.asked gives next.asks);
+    }
 
--- the units that are left
-pub record UnitsRest (unit : List Directive) (names : List Name) (all rest : List VerificationUnit) : Type 0 where
-  pub done : List Asked
-  pub whole : asked_in_units names all ≡ done ++ asked_in_units names rest
-  pub made : IsLonger [] done (Ok unit)
+-- a fault at one is one of all
+pub settling_err : (clock : Option (Result Boolean SugarFault)) (old unit : List Directive) (every : List code_asked.Asked) (one : code_asked.Asked) (more : List code_asked.Asked) (fault : LayerFault) →
+    ((wanted : Option Boolean) (asked : Asked) → GivesClock clock wanted → Asks wanted one asked → IsLonger unit (asked ∷ []) (Err fault)) →
+    IsSettling clock old unit every (one ∷ more) →
+    (wanted : Option Boolean) (all : List Asked) → GivesClock clock wanted → AskAll wanted every all → IsLonger old all (Err fault)
+settling_err clock old unit every one more fault longer before wanted all gives asked =
+    let so_far = before wanted all gives asked in
+    let next = next_asked wanted one more so_far.left so_far.waiting in
+    let P : List Asked → Type 0 = λ all. IsLonger old all (Err fault) in
+    let whole : all ≡ (so_far.done ++ next.asked ∷ []) ++ next.others =
+    so_far.whole ∙ ap (λ (left : List Asked). so_far.done ++ left) next.whole ∙ sym (append_assoc so_far.done (next.asked ∷ []) next.others) in
+    subst P (sym whole)
+    (longer_err old (so_far.done ++ next.asked ∷ []) next.others fault
+    (longer_more old unit so_far.done (next.asked ∷ []) (Err fault) so_far.made (longer wanted next.asked gives next.asks)))
 
-pub units_begun : (names : List Name) (all : List VerificationUnit) → UnitsRest [] names all all
-units_begun names all = record { done = []; whole = refl; made = longer_none [] }
+none_asked : (wanted : Option Boolean) (left : List Asked) → AskAll wanted [] left → left ≡ []
+none_asked wanted [] waiting = refl
+none_asked wanted (asked ∷ others) waiting = absurd waiting
 
-units_cut : (names : List Name) (done : List Asked) (all : List VerificationUnit) (index : ℕ) (item : VerificationUnit) → item ≡ get_or all index item → index < length all →
-    done ++ asked_in_units names (drop index all) ≡ (done ++ asked_in names item.statements) ++ asked_in_units names (drop (index + 1) all)
-units_cut names done all index item at below =
-    ap (λ (rest : List VerificationUnit). done ++ asked_in_units names rest)
-    (drop-cons all index item below
-    ∙ ap (λ (one : VerificationUnit). one ∷ drop (suc index) all) (sym at)
-    ∙ ap (λ (next : ℕ). item ∷ drop next all) (sym (add-one index)))
-    ∙ sym (append_assoc done (asked_in names item.statements) (asked_in_units names (drop (index + 1) all)))
+-- none is left
+pub settling_end : (clock : Option (Result Boolean SugarFault)) (old unit : List Directive) (every rest : List code_asked.Asked) → rest ≡ [] →
+    IsSettling clock old unit every rest → (wanted : Option Boolean) (all : List Asked) → GivesClock clock wanted → AskAll wanted every all → IsLonger old all (Ok unit)
+settling_end clock old unit every rest end before wanted all gives asked =
+    let so_far = before wanted all gives asked in
+    let P : List Asked → Type 0 = λ all. IsLonger old all (Ok unit) in
+    let Q : List code_asked.Asked → Type 0 = λ rest. AskAll wanted rest so_far.left in
+    let none : so_far.left ≡ [] = none_asked wanted so_far.left (subst Q end so_far.waiting) in
+    let whole : all ≡ so_far.done = so_far.whole ∙ ap (λ (left : List Asked). so_far.done ++ left) none ∙ append-nil so_far.done in
+    subst P (sym whole) so_far.made
 
--- a unit more
-pub units_more : (unit new : List Directive) (names : List Name) (all : List VerificationUnit) (index : ℕ) (item : VerificationUnit) → item ≡ get_or all index item → index < length all →
-    IsLonger unit (asked_in names item.statements) (Ok new) → UnitsRest unit names all (drop index all) → UnitsRest new names all (drop (index + 1) all)
-units_more unit new names all index item at below is_new before = record {
-  done = before.done ++ asked_in names item.statements;
-  whole = before.whole ∙ units_cut names before.done all index item at below;
-  made = longer_more [] unit before.done (asked_in names item.statements) (Ok new) before.made is_new;
-}
+-- one more that was read
+pub ask_more : (wanted : Option Boolean) (read : List code_asked.Asked) (one : code_asked.Asked) (all : List Asked) (asked : Asked) → AskAll wanted read all → Asks wanted one asked →
+    AskAll wanted (read ++ one ∷ []) (all ++ asked ∷ [])
+ask_more wanted [] one [] asked asks more = (more, tt)
+ask_more wanted [] one (other ∷ others) asked asks more = absurd asks
+ask_more wanted (first ∷ rest) one [] asked asks more = absurd asks
+ask_more wanted (first ∷ rest) one (other ∷ others) asked asks more = (asks.0, ask_more wanted rest one others asked asks.1 more)
 
--- a fault of a unit is one of all
-pub units_err : (unit : List Directive) (names : List Name) (all : List VerificationUnit) (index : ℕ) (item : VerificationUnit) (fault : LayerFault) → item ≡ get_or all index item →
-    index < length all → IsLonger unit (asked_in names item.statements) (Err fault) → UnitsRest unit names all (drop index all) → IsLonger [] (asked_in_units names all) (Err fault)
-units_err unit names all index item fault at below is before =
-    let own : List Asked = asked_in names item.statements in
-    let P : List Asked → Type 0 = λ asked. IsLonger [] asked (Err fault) in
-    subst P (sym (before.whole ∙ units_cut names before.done all index item at below))
-    (longer_err [] (before.done ++ own) (asked_in_units names (drop (index + 1) all)) fault
-    (longer_more [] unit before.done own (Err fault) before.made is))
-
--- no unit is left
-pub units_end : (unit : List Directive) (names : List Name) (all : List VerificationUnit) (index : ℕ) → drop index all ≡ [] →
-    UnitsRest unit names all (drop index all) → IsLonger [] (asked_in_units names all) (Ok unit)
-units_end unit names all index end before =
-    let P : List Asked → Type 0 = λ asked. IsLonger [] asked (Ok unit) in
-    let whole : asked_in_units names all ≡ before.done =
-    before.whole ∙ ap (λ (rest : List VerificationUnit). before.done ++ asked_in_units names rest) end ∙ append-nil before.done in
-    subst P (sym whole) before.made
+-- a list behind what was built
+pub list_more : (done all : List Asked) (unit : List Directive) (result : Result (List Directive) LayerFault) → IsLonger unit all result → IsLonger [] done (Ok unit) → IsLonger [] (done ++ all) result
+list_more done all unit result longer made = longer_more [] unit done all result made longer

@@ -1,101 +1,153 @@
--- The names after a statement, and the default clock of statements that are left.
-use Rattle.std.proofs.Common.{◌≡◌, ℕ, suc, ◌+◌, ◌<◌, List, [], ◌∷◌, ◌++◌, length, get_or, drop, Bool, true, false, ◌||◌, Option, None, Some, Result, refl, sym, ap, subst, ◌∙◌, add-one}
+-- One statement more: what statements declare and ask, their default clock and their faults.
+use Rattle.std.proofs.Common.{◌≡◌, ℕ, List, [], ◌∷◌, ◌++◌, Bool as Truth, false, ◌||◌, Option, None, Some, Result, refl, sym, ap, subst, ◌∙◌, append_assoc}
 use Rattle.std.proofs.lemmas.List.{append-nil}
-use Rattle.std.proofs.Math.Seq.{drop-cons}
 use Rattle.std.specs.List.{list_any}
-use Rattle.std.specs.Option.{option_or}
+use Rattle.std.specs.Option.{is_some, option_map, option_or}
 use Rattle.psl_grammar.specs.declared.tree.Statement as code_statement
 use Rattle.psl_grammar.specs.declared.tree.Statement.TheVariants as statements
+use Rattle.psl_grammar.specs.declared.tree.VerificationUnit.{VerificationUnit}
 use Rattle.psl_tree.specs.Trees.{Boolean}
 use Rattle.psl_tree.specs.declared.name.Name.{Name}
 use Rattle.psl_sugar.specs.declared.fault.SugarFault.{SugarFault}
-use Rattle.psl_elaboration.specs.Directives.{declared_by, clock_by, clock_of, default_clock}
-use Rattle.psl_elaboration.specs.Flaws.{is_clock, declares_clock}
+use Rattle.psl_elaboration.specs.Directives.{Asked, asked_by, asked_after, asked_in, asked_in_units, declared_by, clock_by, clock_of, default_clock}
+use Rattle.psl_elaboration.specs.Flaws.{is_clock, declares_clock, statement_flaws, statements_flaws, units_flaws}
 use Rattle.psl_elaboration.specs.Kernel.{Meaning, Named, meaning_of}
+use Rattle.psl_elaboration.specs.Kinds.{declared_as, kind_declared_by}
 use Rattle.psl_elaboration.specs.Operators.{declaration_word}
+use Rattle.psl_elaboration.specs.declared.fault.Flaw.{Flaw}
+use Rattle.psl_elaboration.specs.declared.kind.ExpressionKind.{ExpressionKind}
 use Rattle.psl_elaboration.specs.declared.operator.DeclarationWord.{DeclarationWord}
 use Rattle.psl_elaboration.specs.declared.operator.DeclarationWord.TheVariants as declarations
-use Rattle.psl_kernel.specs.Built.{Declared, IsScope}
-use Rattle.psl_layer.specs.Asked.{GivesClock, IsClockOf, IsGrown}
+use Rattle.psl_layer.specs.Built.{GivesClock, IsScope, built_at, kind_in}
+use Rattle.psl_layer.specs.Scopes.{Stands, named_after, named_in}
+use Rattle.psl_layer.specs.declared.scope.Scope.{Scope}
 
--- no name more
-pub unchanged : (scope : Declared) (named : List Named) → IsScope scope named → IsScope scope (named ++ [])
-unchanged scope named holds = subst (λ (all : List Named). IsScope scope all) (sym (append-nil named)) holds
+kinds-or : (first second third : Option ExpressionKind) → option_or first (option_or second third) ≡ option_or (option_or first second) third
+kinds-or None second third = refl
+kinds-or (Some one) second third = refl
 
--- the statements that are left, after names that these stand for
-pub record ClockRest (scope : Declared) (names : List Name) (all rest : List code_statement.Statement) : Type 0 where
-  pub named : List Named
-  pub holds : IsScope scope named
-  pub same : default_clock [] names all ≡ default_clock named names rest
+clocks-or : (first second third : Option Boolean) → option_or first (option_or second third) ≡ option_or (option_or first second) third
+clocks-or None second third = refl
+clocks-or (Some one) second third = refl
 
-pub clock_begun : (scope : Declared) (names : List Name) (all : List code_statement.Statement) → IsScope scope [] → ClockRest scope names all all
-clock_begun scope names all none = record { named = []; holds = none; same = refl }
+kind-none : (found : Option ExpressionKind) → option_or found None ≡ found
+kind-none None = refl
+kind-none (Some one) = refl
 
-pub cut : (all : List code_statement.Statement) (index : ℕ) (item : code_statement.Statement) → item ≡ get_or all index item → index < length all → drop index all ≡ item ∷ drop (index + 1) all
-cut all index item at below =
-    drop-cons all index item below
-    ∙ ap (λ (one : code_statement.Statement). one ∷ drop (suc index) all) (sym at)
-    ∙ ap (λ (next : ℕ). item ∷ drop next all) (sym (add-one index))
+clock-none : (found : Option Boolean) → option_or found None ≡ found
+clock-none None = refl
+clock-none (Some one) = refl
 
-no_clock : (own other : Option Boolean) → GivesClock None own → option_or own other ≡ other
-no_clock None other none = refl
-no_clock (Some clock) other none = absurd none
+-- with a statement more
+pub declared-more : (before : List code_statement.Statement) (statement : code_statement.Statement) (text : List ℕ) →
+    declared_as (before ++ statement ∷ []) text ≡ option_or (declared_as before text) (kind_declared_by text statement)
+declared-more [] statement text = kind-none (kind_declared_by text statement)
+declared-more (first ∷ more) statement text =
+    ap (option_or (kind_declared_by text first)) (declared-more more statement text)
+    ∙ kinds-or (kind_declared_by text first) (declared_as more text) (kind_declared_by text statement)
 
--- a statement more that declares no default clock
-pub clock_more : (scope new : Declared) (names : List Name) (all : List code_statement.Statement) (index : ℕ) (item : code_statement.Statement) →
-    item ≡ get_or all index item → index < length all → IsClockOf scope names item None → IsGrown scope names item new →
-    ClockRest scope names all (drop index all) → ClockRest new names all (drop (index + 1) all)
-clock_more scope new names all index item at below none grown before = record {
-  named = before.named ++ declared_by before.named names item;
-  holds = grown before.named before.holds;
-  same =
-      before.same
-      ∙ ap (λ (rest : List code_statement.Statement). default_clock before.named names rest) (cut all index item at below)
-      ∙ no_clock (clock_of before.named names item) (default_clock (before.named ++ declared_by before.named names item) names (drop (index + 1) all)) (none before.named before.holds);
-}
+pub named-more : (scope : List Named) (names : List Name) (before : List code_statement.Statement) (statement : code_statement.Statement) →
+    named_after scope names (before ++ statement ∷ []) ≡ named_after scope names before ++ declared_by (named_after scope names before) names statement
+named-more scope names [] statement = refl
+named-more scope names (first ∷ more) statement = named-more (scope ++ declared_by scope names first) names more statement
 
-its_clock : (clock : Result Boolean SugarFault) (own other : Option Boolean) → GivesClock (Some clock) own → GivesClock (Some clock) (option_or own other)
-its_clock clock None other gives = absurd gives
-its_clock clock (Some wanted) other gives = gives
+pub clock-more : (scope : List Named) (names : List Name) (before : List code_statement.Statement) (statement : code_statement.Statement) →
+    default_clock scope names (before ++ statement ∷ []) ≡ option_or (default_clock scope names before) (clock_of (named_after scope names before) names statement)
+clock-more scope names [] statement = clock-none (clock_of scope names statement)
+clock-more scope names (first ∷ more) statement =
+    let next = scope ++ declared_by scope names first in
+    ap (option_or (clock_of scope names first)) (clock-more next names more statement)
+    ∙ clocks-or (clock_of scope names first) (default_clock next names more) (clock_of (named_after next names more) names statement)
 
--- a statement that declares it
-pub clock_found : (scope : Declared) (names : List Name) (all : List code_statement.Statement) (index : ℕ) (item : code_statement.Statement) (clock : Result Boolean SugarFault) →
-    item ≡ get_or all index item → index < length all → IsClockOf scope names item (Some clock) →
-    ClockRest scope names all (drop index all) → GivesClock (Some clock) (default_clock [] names all)
-clock_found scope names all index item clock at below is before =
-    let P : Option Boolean → Type 0 = λ wanted. GivesClock (Some clock) wanted in
-    let whole = before.same ∙ ap (λ (rest : List code_statement.Statement). default_clock before.named names rest) (cut all index item at below) in
-    subst P (sym whole) (its_clock clock (clock_of before.named names item) (default_clock (before.named ++ declared_by before.named names item) names (drop (index + 1) all)) (is before.named before.holds))
+pub asked-more : (scope : List Named) (names : List Name) (clock : Option Boolean) (before : List code_statement.Statement) (statement : code_statement.Statement) →
+    asked_after scope names clock (before ++ statement ∷ []) ≡ asked_after scope names clock before ++ asked_by (named_after scope names before) names clock statement
+asked-more scope names clock [] statement = append-nil (asked_by scope names clock statement)
+asked-more scope names clock (first ∷ more) statement =
+    let next = scope ++ declared_by scope names first in
+    ap (λ (all : List Asked). asked_by scope names clock first ++ all) (asked-more next names clock more statement)
+    ∙ sym (append_assoc (asked_by scope names clock first) (asked_after next names clock more) (asked_by (named_after next names more) names clock statement))
 
--- no statement declares it
-pub clock_none : (scope : Declared) (names : List Name) (all : List code_statement.Statement) (index : ℕ) → drop index all ≡ [] →
-    ClockRest scope names all (drop index all) → GivesClock None (default_clock [] names all)
-clock_none scope names all index end before =
-    let P : Option Boolean → Type 0 = λ wanted. GivesClock None wanted in
-    let whole = before.same ∙ ap (λ (rest : List code_statement.Statement). default_clock before.named names rest) end in
-    subst P (sym whole) tt
+pub flaws-more : (scope : List code_statement.Statement) (names : List Name) (before : List code_statement.Statement) (statement : code_statement.Statement) →
+    statements_flaws scope names (before ++ statement ∷ []) ≡ statements_flaws scope names before ++ statement_flaws (scope ++ before) names statement
+flaws-more scope names [] statement =
+    append-nil (statement_flaws scope names statement) ∙ ap (λ (all : List code_statement.Statement). statement_flaws all names statement) (sym (append-nil scope))
+flaws-more scope names (first ∷ more) statement =
+    ap (λ (all : List Flaw). statement_flaws scope names first ++ all)
+    (flaws-more (scope ++ first ∷ []) names more statement
+    ∙ ap (λ (all : List code_statement.Statement). statements_flaws (scope ++ first ∷ []) names more ++ statement_flaws all names statement) (append_assoc scope (first ∷ []) more))
+    ∙ sym (append_assoc (statement_flaws scope names first) (statements_flaws (scope ++ first ∷ []) names more) (statement_flaws (scope ++ first ∷ more) names statement))
 
-no_clock_by : (word : DeclarationWord) (meaning : Meaning) → is_clock word ≡ false → clock_by word meaning ≡ None
-no_clock_by declarations.Sequence meaning none = refl
-no_clock_by declarations.Property meaning none = refl
-no_clock_by declarations.DefaultClock meaning none = cc
+-- with a unit more
+pub units-asked-more : (names : List Name) (before : List VerificationUnit) (unit : VerificationUnit) →
+    asked_in_units names (before ++ unit ∷ []) ≡ asked_in_units names before ++ asked_in names unit.statements
+units-asked-more names [] unit = append-nil (asked_in names unit.statements)
+units-asked-more names (first ∷ more) unit =
+    ap (λ (all : List Asked). asked_in names first.statements ++ all) (units-asked-more names more unit)
+    ∙ sym (append_assoc (asked_in names first.statements) (asked_in_units names more) (asked_in names unit.statements))
 
-no_clock_of : (named : List Named) (names : List Name) (statement : code_statement.Statement) → declares_clock statement ≡ false → clock_of named names statement ≡ None
-no_clock_of named names (statements.Directive label word property report) none = refl
-no_clock_of named names (statements.Declaration word name body) none = no_clock_by (declaration_word word.kind) (meaning_of named names false body) none
+pub units-flaws-more : (names : List Name) (before : List VerificationUnit) (unit : VerificationUnit) →
+    units_flaws names (before ++ unit ∷ []) ≡ units_flaws names before ++ statements_flaws [] names unit.statements
+units-flaws-more names [] unit = append-nil (statements_flaws [] names unit.statements)
+units-flaws-more names (first ∷ more) unit =
+    ap (λ (all : List Flaw). statements_flaws [] names first.statements ++ all) (units-flaws-more names more unit)
+    ∙ sym (append_assoc (statements_flaws [] names first.statements) (units_flaws names more) (statements_flaws [] names unit.statements))
 
-neither : (here rest : Bool) → (here || rest) ≡ false → (here ≡ false) × (rest ≡ false)
-neither true rest none = absurd cc
-neither false rest none = (refl, none)
+clock-by : (word : DeclarationWord) (meaning : Meaning) → is_some (clock_by word meaning) ≡ is_clock word
+clock-by declarations.Sequence meaning = refl
+clock-by declarations.Property meaning = refl
+clock-by declarations.DefaultClock meaning = refl
 
-no_clock_in : (named : List Named) (names : List Name) (all : List code_statement.Statement) → list_any declares_clock all ≡ false → default_clock named names all ≡ None
-no_clock_in named names [] none = refl
-no_clock_in named names (statement ∷ more) none =
-    let both = neither (declares_clock statement) (list_any declares_clock more) none in
-    let after : List Named = named ++ declared_by named names statement in
-    ap (λ (own : Option Boolean). option_or own (default_clock after names more)) (no_clock_of named names statement both.0)
-    ∙ no_clock_in after names more both.1
+clock-of : (scope : List Named) (names : List Name) (statement : code_statement.Statement) → is_some (clock_of scope names statement) ≡ declares_clock statement
+clock-of scope names (statements.Directive label word property report) = refl
+clock-of scope names (statements.Declaration word name body) = clock-by (declaration_word word.kind) (meaning_of scope names false body)
 
--- no statement of the list declares it
-pub clock_absent : (names : List Name) (all : List code_statement.Statement) → list_any declares_clock all ≡ false → GivesClock None (default_clock [] names all)
-clock_absent names all none = let P : Option Boolean → Type 0 = λ wanted. GivesClock None wanted in subst P (sym (no_clock_in [] names all none)) tt
+some-or : (first second : Option Boolean) → is_some (option_or first second) ≡ (is_some first || is_some second)
+some-or None second = refl
+some-or (Some one) second = refl
+
+-- there is a default clock where some statement declares it
+has-clock : (scope : List Named) (names : List Name) (all : List code_statement.Statement) → is_some (default_clock scope names all) ≡ list_any declares_clock all
+has-clock scope names [] = refl
+has-clock scope names (first ∷ more) =
+    let next = scope ++ declared_by scope names first in
+    some-or (clock_of scope names first) (default_clock next names more)
+    ∙ ap (λ (here : Truth). here || is_some (default_clock next names more)) (clock-of scope names first)
+    ∙ ap (λ (rest : Truth). declares_clock first || rest) (has-clock next names more)
+
+gives-some : (clock : Option (Result Boolean SugarFault)) (wanted : Option Boolean) → GivesClock clock wanted → is_some clock ≡ is_some wanted
+gives-some None None gives = refl
+gives-some None (Some one) gives = absurd gives
+gives-some (Some one) None gives = absurd gives
+gives-some (Some one) (Some other) gives = refl
+
+-- a scope has a clock where some statement declares it
+pub stands_clock : (scope : Scope) (names : List Name) → Stands scope names → is_some scope.clock ≡ list_any declares_clock scope.before.now
+stands_clock scope names stands = gives-some scope.clock (default_clock [] names scope.before.now) stands.clock ∙ has-clock [] names scope.before.now
+
+some-map : {A B : Type 0} (f : A → B) (found : Option A) → is_some (option_map f found) ≡ is_some found
+some-map f None = refl
+some-map f (Some one) = refl
+
+-- and a text where it is declared
+pub stands_declared : (scope : Scope) (names : List Name) (text : List ℕ) → Stands scope names → is_some (built_at scope.declared text) ≡ is_some (declared_as scope.before.now text)
+stands_declared scope names text stands = sym (some-map kind_in (built_at scope.declared text)) ∙ ap is_some (stands.kinds text)
+
+-- a scope with a statement more
+pub stands_more : (scope new : Scope) (names : List Name) (statement : code_statement.Statement) → new.before.now ≡ scope.before.now ++ statement ∷ [] →
+    ((text : List ℕ) → option_map kind_in (built_at new.declared text) ≡ option_or (option_map kind_in (built_at scope.declared text)) (kind_declared_by text statement)) →
+    IsScope new.declared (named_in names scope.before.now ++ declared_by (named_in names scope.before.now) names statement) →
+    GivesClock new.clock (option_or (default_clock [] names scope.before.now) (clock_of (named_in names scope.before.now) names statement)) →
+    Stands scope names → Stands new names
+stands_more scope new names statement is kinds meanings clock stands =
+    let P : List code_statement.Statement → Type 0 = λ before. IsScope new.declared (named_in names before) in
+    let Q : List code_statement.Statement → Type 0 = λ before. GivesClock new.clock (default_clock [] names before) in
+    record {
+      kinds =
+          λ text.
+              kinds text
+              ∙ ap (λ (found : Option ExpressionKind). option_or found (kind_declared_by text statement)) (stands.kinds text)
+              ∙ sym (declared-more scope.before.now statement text)
+              ∙ ap (λ (before : List code_statement.Statement). declared_as before text) (sym is);
+      meanings = subst P (sym is) (subst (λ (named : List Named). IsScope new.declared named) (sym (named-more [] names scope.before.now statement)) meanings);
+      clock = subst Q (sym is) (subst (λ (wanted : Option Boolean). GivesClock new.clock wanted) (sym (clock-more [] names scope.before.now statement)) clock);
+    }

@@ -2,10 +2,28 @@
 //! signals, or its first fault (IEEE 1850, clauses 5 to 7); and the rule by which a name stands for a signal.
 #![tactic(auto)]
 
-mod declarations;
+mod asked;
+mod checks;
+mod comparisons;
+mod counts;
 mod directives;
+mod elaborated;
+mod elements;
+mod expressions;
+mod kinds;
+mod meaning;
+mod nodes;
+mod occurrences;
+mod operators;
+mod order;
+mod referred;
+mod repetitions;
+mod scope;
+mod senses;
+mod signals;
 mod statements;
 mod texts;
+mod wants;
 
 pub use psl_elaboration::{Found, LayerFault};
 pub use psl_names::{NameIndex, look_up};

@@ -1,50 +1,85 @@
 // Whole texts.
-ghost use Rattle.std.specs.Prelude.{◌≡◌, ◌≤◌, [], All, IfOk, IfErr};
+ghost use Rattle.std.specs.Prelude.{◌≡◌, ◌≤◌, ◌++◌, [], All, List, IfOk, IfErr};
 ghost use Rattle.psl_elaboration.specs.Answers.{IsUnit, IsLayerFault};
 ghost use Rattle.psl_elaboration.specs.Directives as spec;
 ghost use Rattle.psl_elaboration.specs.FirstFlaw as flaws;
+ghost use Rattle.psl_elaboration.specs.Flaws.{statements_flaws, units_flaws, tree_flaws};
+ghost use Rattle.psl_elaboration.specs.declared.fault.Flaw.{Flaw as spec_flaw};
 ghost use Rattle.psl_tree.specs.Atoms.{AtomsOfFormula};
 ghost use Rattle.psl_tree.specs.Counts.{formula_size};
 ghost use Rattle.psl_tree.specs.Names.{AreAlike, AtomInRange};
 ghost use Rattle.psl_tree.specs.Trees.{formula_of};
-ghost use Rattle.psl_layer.specs.Asked.{IsLonger};
+ghost use Rattle.psl_layer.specs.Outcomes.{IsOutcome};
 
-use crate::statements::with_statements;
-use psl_base::Items;
+use crate::asked::with_list;
+use crate::order::earlier;
+use crate::statements::read_statements;
+use psl_base::{Items, NoMemory};
 use psl_elaboration::{Cause, Flaw, LayerFault};
-use psl_grammar::{UnitTree, VerificationUnit};
-use psl_kinds::first_flaw;
+use psl_grammar::{Statement, UnitTree, VerificationUnit};
 use psl_names::NameIndex;
 use psl_tree::{Names, Unit};
 use std::alloc::Global;
 
-// The directives of verification units.
-#[tactic(auto, using(crate::proofs::Longer::units_begun, crate::proofs::Longer::units_more, crate::proofs::Longer::units_err, crate::proofs::Longer::units_end))]
-fn units_directives(
+/// What was found of a text so far. A fault of kinds and names anywhere goes before a formula that is too large, so both
+/// are kept to the end.
+#[derive(Drop)]
+struct Outcome {
+    /// The first fault of kinds and names, if there is one.
+    flaw: Option<Flaw>,
+    /// The directives, or the place of the first that is too large.
+    built: Result<Unit, LayerFault>,
+}
+
+// Nothing of a text.
+fn nothing(alloc: Global) -> Outcome
+    ensures { IsOutcome [] [] result }
+{
+    Outcome {
+        flaw: None,
+        built: Ok(Items::new(alloc)),
+    }
+}
+
+// What was found with a list of statements behind.
+fn with_statements(
+    alloc: Global,
+    names: &NameIndex,
+    outcome: Outcome,
+    all: &[Statement],
+) -> Result<Outcome, NoMemory>
+    ensures { IfOk result (λ new. (found : List spec_flaw) (asked : List spec.Asked) → IsOutcome found asked outcome →
+        IsOutcome (found ++ statements_flaws [] names.now all.now) (asked ++ spec.asked_in names.now all.now) new) }
+{
+    let reading = read_statements(alloc, names, all)?;
+    let flaw = earlier(outcome.flaw, reading.flaw);
+    let built = with_list(alloc, outcome.built, reading.asked, &reading.scope.clock);
+    Ok(Outcome { flaw, built })
+}
+
+// What was found of verification units.
+fn units_outcome(
     alloc: Global,
     names: &NameIndex,
     units: &[VerificationUnit],
-) -> Result<Unit, LayerFault>
-    ensures { IsLonger [] (spec.asked_in_units names.now units.now) result }
+) -> Result<Outcome, NoMemory>
+    ensures { IfOk result (IsOutcome (units_flaws names.now units.now) (spec.asked_in_units names.now units.now)) }
 {
-    let mut all = Items::new(alloc);
+    let mut outcome = nothing(alloc);
     for unit in units {
-        all = match with_statements(alloc, all, names, unit.statements.as_slice()) {
-            Ok(longer) => longer,
-            Err(fault) => return Err(fault),
-        };
+        outcome = with_statements(alloc, names, outcome, unit.statements.as_slice())?;
     }
-    Ok(all)
+    Ok(outcome)
 }
 
-// The directives of a text.
-fn directives(alloc: Global, tree: &UnitTree, names: &NameIndex) -> Result<Unit, LayerFault>
-    ensures { IsLonger [] (spec.kernel names.now tree.now) result }
+// What was found of a text.
+fn outcome_of(alloc: Global, tree: &UnitTree, names: &NameIndex) -> Result<Outcome, NoMemory>
+    ensures { IfOk result (IsOutcome (tree_flaws names.now tree.now) (spec.kernel names.now tree.now)) }
 {
     match tree {
-        UnitTree::Units(units) => units_directives(alloc, names, units.as_slice()),
+        UnitTree::Units(units) => units_outcome(alloc, names, units.as_slice()),
         UnitTree::Statements(all) => {
-            with_statements(alloc, Items::new(alloc), names, all.as_slice())
+            with_statements(alloc, names, nothing(alloc), all.as_slice())
         }
     }
 }
@@ -67,7 +102,6 @@ fn fault_of(flaw: Flaw) -> LayerFault
 /// it is refused with the first fault of them, and else where a formula has more than 4,096 constructors at the word of
 /// the first directive that has one. Where all names of one signal have the same number of indices, each atom is in
 /// range: some name has its signal, and each name that has it has its bit.
-#[tactic(auto, using(crate::proofs::Whole::flaw_is, crate::proofs::Whole::unit_is, crate::proofs::Whole::fault_is, crate::proofs::Bounds::ranged, crate::proofs::Bounds::small))]
 pub fn resolve(alloc: Global, tree: &UnitTree, names: &Names) -> Result<Unit, LayerFault>
     ensures unit { IfOk result (IsUnit tree.now names.now) }
     ensures fault { IfErr result (IsLayerFault tree.now names.now) }
@@ -75,8 +109,9 @@ pub fn resolve(alloc: Global, tree: &UnitTree, names: &Names) -> Result<Unit, La
     ensures small { IfOk result (λ unit. All (λ directive. formula_size (formula_of directive.formula) ≤ 4096) unit) }
 {
     let index = NameIndex::of(alloc, names)?;
-    if let Some(flaw) = first_flaw(alloc, tree, &index)? {
-        return Err(fault_of(flaw));
+    let outcome = outcome_of(alloc, tree, &index)?;
+    match outcome.flaw {
+        Some(flaw) => Err(fault_of(flaw)),
+        None => outcome.built,
     }
-    directives(alloc, tree, &index)
 }

@@ -1,4 +1,0 @@
-pub mod Declaring
-pub mod Operated
-pub mod Sizes
-pub mod Widths
