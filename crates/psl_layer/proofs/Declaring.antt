@@ -12,16 +12,13 @@ use Rattle.psl_elaboration.specs.Kernel.{Meaning, Named, declared_meaning}
 use Rattle.psl_layer.specs.Built.{Gives, GivesOption, Declared, IsScope, built_at, kind_in}
 use Rattle.psl_layer.specs.Declaring.{IsNamed}
 use Rattle.psl_layer.specs.declared.meaning.Meaning as code_meaning
-
-or-none : (found : Option code_meaning.Meaning) → option_or found None ≡ found
-or-none None = refl
-or-none (Some one) = refl
+use Rattle.psl_layer.proofs.Scopes.{or_none}
 
 -- what is found after a meaning was written, by whether it was written here
 written : (here : Truth) (old new : Option code_meaning.Meaning) (meaning : code_meaning.Meaning) → new ≡ cond here (Some meaning) old → (here ≡ true → old ≡ None) →
     new ≡ option_or old (if here then Some meaning else None)
 written true old new meaning is none = is ∙ sym (ap (λ (o : Option code_meaning.Meaning). option_or o (Some meaning)) (none refl))
-written false old new meaning is none = is ∙ sym (or-none old)
+written false old new meaning is none = is ∙ sym (or_none old)
 
 none-by : (built : Option code_meaning.Meaning) → is_some built ≡ false → built ≡ None
 none-by None e = refl
@@ -40,7 +37,7 @@ kept : (here : Truth) (old : Option code_meaning.Meaning) (meaning : code_meanin
     old ≡ option_or old (if here then Some meaning else None)
 kept true (Some one) meaning there = refl
 kept true None meaning there = absurd (let wrong : false ≡ true = there refl in cc)
-kept false old meaning there = sym (or-none old)
+kept false old meaning there = sym (or_none old)
 
 -- a name whose text is declared already
 pub declared-again : (scope : Declared) (text : List ℕ) (meaning : code_meaning.Meaning) → is_some (built_at scope text) ≡ true → IsNamed scope text meaning scope

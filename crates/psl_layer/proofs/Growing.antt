@@ -35,7 +35,7 @@ use Rattle.psl_layer.specs.declared.meaning.Meaning.TheVariants as meanings
 use Rattle.psl_layer.specs.declared.scope.Scope.{Scope}
 use Rattle.psl_layer.specs.declared.statements.Reading.{Reading}
 use Rattle.psl_layer.proofs.Declaring.{named-meanings, named-kinds}
-use Rattle.psl_layer.proofs.Scopes.{asked-more, flaws-more, stands_more}
+use Rattle.psl_layer.proofs.Scopes.{asked-more, flaws-more, or_none, stands_more}
 
 -- the statements up to one, and it
 pub behind_is : (all before : List code_statement.Statement) (place : ℕ) (item statement : code_statement.Statement) → before ≡ take place all → place < length all →
@@ -45,10 +45,6 @@ behind_is all before place item statement begun below at is =
     ∙ take-suc all place item below
     ∙ ap (λ (one : code_statement.Statement). take place all ++ one ∷ []) (sym at ∙ is)
     ∙ ap (λ (first : List code_statement.Statement). first ++ statement ∷ []) (sym begun)
-
-kind-none : (found : Option ExpressionKind) → found ≡ option_or found None
-kind-none None = refl
-kind-none (Some one) = refl
 
 gives-none : (clock : Option (Result Boolean SugarFault)) (wanted : Option Boolean) → GivesClock clock wanted → GivesClock clock (option_or wanted None)
 gives-none clock None gives = gives
@@ -61,7 +57,7 @@ pub stands_asked : (scope new : Scope) (names : List Name) (label : Option Token
 stands_asked scope new names label word property report is declared clock stands =
     let named : List Named = named_in names scope.before.now in
     stands_more scope new names (statements.Directive label word property report) is
-    (λ text. ap (λ (all : Declared). option_map kind_in (built_at all text)) declared ∙ kind-none (option_map kind_in (built_at scope.declared text)))
+    (λ text. ap (λ (all : Declared). option_map kind_in (built_at all text)) declared ∙ sym (or_none (option_map kind_in (built_at scope.declared text))))
     (subst (λ (all : List Named). IsScope new.declared all) (sym (append-nil named)) (subst (λ (all : Declared). IsScope all named) (sym declared) stands.meanings))
     (subst (λ (one : Option (Result Boolean SugarFault)). GivesClock one (option_or (default_clock [] names scope.before.now) None)) (sym clock)
     (gives-none scope.clock (default_clock [] names scope.before.now) stands.clock))
@@ -134,7 +130,7 @@ clock_grown scope new before word name meaning clock is reads ends declared firs
       stands_more scope new names (statements.Declaration word name body) (ends ∙ begins)
           (λ text.
           ap (λ (all : Declared). option_map kind_in (built_at all text)) declared
-          ∙ kind-none (option_map kind_in (built_at scope.declared text))
+          ∙ sym (or_none (option_map kind_in (built_at scope.declared text)))
           ∙ ap (option_or (option_map kind_in (built_at scope.declared text)))
           (by_either (bytes_eq name.text text) None
           ∙ ap (λ (found : Option ExpressionKind). if bytes_eq name.text text then found else None) (sym kind)))
@@ -160,8 +156,8 @@ read_more names reading new statement own is stands asked is_own flaw read =
       scope = stands;
       asked =
           λ clock.
-              subst (λ (all : List code_statement.Statement). AskAll clock new.asked.items (asked_after [] names clock all)) (sym is)
-              (subst (λ (all : List Asked). AskAll clock new.asked.items all) (sym (asked-more [] names clock before statement)) (asked clock));
+          subst (λ (all : List code_statement.Statement). AskAll clock new.asked.items (asked_after [] names clock all)) (sym is)
+          (subst (λ (all : List Asked). AskAll clock new.asked.items all) (sym (asked-more [] names clock before statement)) (asked clock));
       flaw =
           flaw
           ∙ ap (λ (one : Option Flaw). earlier one own) read.flaw

@@ -22,29 +22,22 @@ use Rattle.psl_layer.specs.Built.{GivesClock, IsScope, built_at, kind_in}
 use Rattle.psl_layer.specs.Scopes.{Stands, named_after, named_in}
 use Rattle.psl_layer.specs.declared.scope.Scope.{Scope}
 
-kinds-or : (first second third : Option ExpressionKind) → option_or first (option_or second third) ≡ option_or (option_or first second) third
-kinds-or None second third = refl
-kinds-or (Some one) second third = refl
+or_assoc : {A : Type 0} (first second third : Option A) → option_or first (option_or second third) ≡ option_or (option_or first second) third
+or_assoc None second third = refl
+or_assoc (Some one) second third = refl
 
-clocks-or : (first second third : Option Boolean) → option_or first (option_or second third) ≡ option_or (option_or first second) third
-clocks-or None second third = refl
-clocks-or (Some one) second third = refl
-
-kind-none : (found : Option ExpressionKind) → option_or found None ≡ found
-kind-none None = refl
-kind-none (Some one) = refl
-
-clock-none : (found : Option Boolean) → option_or found None ≡ found
-clock-none None = refl
-clock-none (Some one) = refl
+-- nothing behind
+pub or_none : {A : Type 0} (found : Option A) → option_or found None ≡ found
+or_none None = refl
+or_none (Some one) = refl
 
 -- with a statement more
 pub declared-more : (before : List code_statement.Statement) (statement : code_statement.Statement) (text : List ℕ) →
     declared_as (before ++ statement ∷ []) text ≡ option_or (declared_as before text) (kind_declared_by text statement)
-declared-more [] statement text = kind-none (kind_declared_by text statement)
+declared-more [] statement text = or_none (kind_declared_by text statement)
 declared-more (first ∷ more) statement text =
     ap (option_or (kind_declared_by text first)) (declared-more more statement text)
-    ∙ kinds-or (kind_declared_by text first) (declared_as more text) (kind_declared_by text statement)
+    ∙ or_assoc (kind_declared_by text first) (declared_as more text) (kind_declared_by text statement)
 
 pub named-more : (scope : List Named) (names : List Name) (before : List code_statement.Statement) (statement : code_statement.Statement) →
     named_after scope names (before ++ statement ∷ []) ≡ named_after scope names before ++ declared_by (named_after scope names before) names statement
@@ -53,11 +46,11 @@ named-more scope names (first ∷ more) statement = named-more (scope ++ declare
 
 pub clock-more : (scope : List Named) (names : List Name) (before : List code_statement.Statement) (statement : code_statement.Statement) →
     default_clock scope names (before ++ statement ∷ []) ≡ option_or (default_clock scope names before) (clock_of (named_after scope names before) names statement)
-clock-more scope names [] statement = clock-none (clock_of scope names statement)
+clock-more scope names [] statement = or_none (clock_of scope names statement)
 clock-more scope names (first ∷ more) statement =
     let next = scope ++ declared_by scope names first in
     ap (option_or (clock_of scope names first)) (clock-more next names more statement)
-    ∙ clocks-or (clock_of scope names first) (default_clock next names more) (clock_of (named_after next names more) names statement)
+    ∙ or_assoc (clock_of scope names first) (default_clock next names more) (clock_of (named_after next names more) names statement)
 
 pub asked-more : (scope : List Named) (names : List Name) (clock : Option Boolean) (before : List code_statement.Statement) (statement : code_statement.Statement) →
     asked_after scope names clock (before ++ statement ∷ []) ≡ asked_after scope names clock before ++ asked_by (named_after scope names before) names clock statement
@@ -144,10 +137,10 @@ stands_more scope new names statement is kinds meanings clock stands =
     record {
       kinds =
           λ text.
-              kinds text
-              ∙ ap (λ (found : Option ExpressionKind). option_or found (kind_declared_by text statement)) (stands.kinds text)
-              ∙ sym (declared-more scope.before.now statement text)
-              ∙ ap (λ (before : List code_statement.Statement). declared_as before text) (sym is);
+          kinds text
+          ∙ ap (λ (found : Option ExpressionKind). option_or found (kind_declared_by text statement)) (stands.kinds text)
+          ∙ sym (declared-more scope.before.now statement text)
+          ∙ ap (λ (before : List code_statement.Statement). declared_as before text) (sym is);
       meanings = subst P (sym is) (subst (λ (named : List Named). IsScope new.declared named) (sym (named-more [] names scope.before.now statement)) meanings);
       clock = subst Q (sym is) (subst (λ (wanted : Option Boolean). GivesClock new.clock wanted) (sym (clock-more [] names scope.before.now statement)) clock);
     }

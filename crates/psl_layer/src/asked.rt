@@ -50,12 +50,7 @@ fn next_number(unit: &Unit) -> Result<u32, NoMemory>
 
 // The directives of a text with one more, under the default clock of its list.
 #[tactic(auto, using(crate::proofs::Longer::longer_one, crate::proofs::Longer::longer_large))]
-fn with_asked(
-    alloc: Global,
-    unit: Unit,
-    asked: Asked,
-    clock: &Clock,
-) -> Result<Unit, LayerFault>
+fn with_asked(alloc: Global, unit: Unit, asked: Asked, clock: &Clock) -> Result<Unit, LayerFault>
     ensures { (wanted : Option Boolean) (one : spec.Asked) → GivesClock clock.now wanted → Asks wanted asked one → IsLonger unit (one ∷ []) result }
 {
     let mut unit = unit;

@@ -1,5 +1,5 @@
 // Directives, and their formulas under the default clock of their list.
-ghost use Rattle.std.specs.Prelude.{◌≡◌, false, Option, IfOk};
+ghost use Rattle.std.specs.Prelude.{false, Option, IfOk};
 ghost use Rattle.psl_elaboration.specs.Directives as spec;
 ghost use Rattle.psl_tree.specs.Trees.{Boolean, Formula};
 ghost use Rattle.psl_tree.specs.declared.directive.Kind.TheVariants as kinds;
@@ -9,10 +9,10 @@ ghost use Rattle.psl_sugar.specs.Budget.{GivesFormula};
 ghost use Rattle.psl_layer.specs.CheckedBy.{IsChecked};
 ghost use Rattle.psl_layer.specs.Scopes.{Stands, named_in};
 
-use crate::checks;
 use crate::elaborated::{Checked, Elaborated};
 use crate::expressions::Context;
 use crate::meaning::Meaning;
+use crate::nodes::checked_clock;
 use crate::operators::clocked;
 use crate::scope::Clock;
 use psl_base::NoMemory;
@@ -102,7 +102,7 @@ impl<'s, 'd, 'n> Context<'s, 'd, 'n> {
         if let Expression::Clocked(x, _, own) = property {
             let x = Box::into_inner(self.elaborate(false, x)?);
             let own = Box::into_inner(self.elaborate(false, own)?);
-            let checked = checks::clocked(false, x.checked, own.checked);
+            let checked = checked_clock(false, x.checked, own.checked);
             let clock = own.sense.into_meaning(self.alloc).into_boolean();
             let part = x.sense.into_meaning(self.alloc);
             let form = Form::Settled(covered_under(self.alloc, Some(clock), part));
@@ -114,11 +114,7 @@ impl<'s, 'd, 'n> Context<'s, 'd, 'n> {
     }
 
     /// A directive's property, and what is asked of it.
-    pub(crate) fn directive(
-        &self,
-        kind: Kind,
-        property: &Expression,
-    ) -> Result<Directed, NoMemory>
+    pub(crate) fn directive(&self, kind: Kind, property: &Expression) -> Result<Directed, NoMemory>
         requires { Stands self.now.scope.now self.now.names.now }
         ensures checked { IfOk result (λ new. IsChecked self.now.scope.now.before.now self.now.names.now false property.now new.checked) }
         ensures form { IfOk result (λ new. (wanted : Option Boolean) → GivesForm wanted new.form

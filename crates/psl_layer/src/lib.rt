@@ -3,13 +3,10 @@
 #![tactic(auto)]
 
 mod asked;
-mod checks;
-mod comparisons;
-mod counts;
 mod directives;
 mod elaborated;
-mod elements;
 mod expressions;
+mod flaws;
 mod kinds;
 mod meaning;
 mod nodes;
@@ -23,7 +20,6 @@ mod senses;
 mod signals;
 mod statements;
 mod texts;
-mod wants;
 
 pub use psl_elaboration::{Found, LayerFault};
 pub use psl_names::{NameIndex, look_up};

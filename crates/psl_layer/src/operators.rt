@@ -195,7 +195,11 @@ pub(crate) fn grouped(part: Meaning) -> Meaning
 }
 
 /// `e @ c` outside of a sere: a sequence stays one, and anything else is a property.
-pub(crate) fn clocked(alloc: Global, part: Meaning, clock: Result<MeasuredBool, SugarFault>) -> Meaning
+pub(crate) fn clocked(
+    alloc: Global,
+    part: Meaning,
+    clock: Result<MeasuredBool, SugarFault>,
+) -> Meaning
     ensures { ClockRow kernel.clocked_meaning part clock result }
 {
     match part {

@@ -1,6 +1,6 @@
 // Paths and edges.
-ghost use Rattle.std.specs.Prelude.{◌≡◌, ◌&&◌, ◌++◌, Option, IfOk, if◌then◌else◌};
-ghost use Rattle.std.specs.Option.{is_none, is_some, option_map};
+ghost use Rattle.std.specs.Prelude.{◌≡◌, ◌&&◌, ◌++◌, true, Option, IfOk, if◌then◌else◌};
+ghost use Rattle.std.specs.Option.{is_none, option_map};
 ghost use Rattle.psl_elaboration.specs.FirstFlaw.{first_of};
 ghost use Rattle.psl_elaboration.specs.Flaws as flaws;
 ghost use Rattle.psl_elaboration.specs.Kernel as kernel;
@@ -11,20 +11,18 @@ ghost use Rattle.psl_elaboration.specs.Texts.{path_text as spec_text};
 ghost use Rattle.psl_elaboration.specs.declared.fault.Cause.TheVariants as causes;
 ghost use Rattle.psl_elaboration.specs.declared.found.Reference.TheVariants as references;
 ghost use Rattle.psl_elaboration.specs.declared.kind.ExpressionKind.TheVariants as variants;
-ghost use Rattle.std.specs.Prelude.{true};
 ghost use Rattle.psl_layer.specs.Built.{GivesOption, GivesPart, GivesSense, kind_in, operand_in};
-ghost use Rattle.psl_layer.specs.CheckedBy.{IsNode, no_side, path_checked};
+ghost use Rattle.psl_layer.specs.CheckedBy.{IsNode, no_side as spec_no_side, path_checked};
 ghost use Rattle.psl_layer.specs.Scopes.{Stands, named_in, meaning_as};
 
-use crate::checks;
 use crate::elaborated::{Checked, Elaborated, Part, Sense};
 use crate::expressions::Context;
+use crate::flaws::flaw_where;
 use crate::meaning::Meaning;
-use crate::nodes::node;
+use crate::nodes::{no_side, node};
 use crate::order::earlier;
 use crate::referred::Referred;
 use crate::scope::{declared_meaning, is_declared};
-use crate::wants::flaw_where;
 use psl_base::{NoMemory, Place, boxed};
 use psl_elaboration::{Cause, ExpressionKind, Flaw, Reference, Side};
 use psl_grammar::Path;
@@ -128,7 +126,7 @@ fn checked_path(
 {
     let kind = kind_as(declared, index);
     if declared.is_some() && index.is_none() {
-        return checks::no_side(kind, place, None);
+        return no_side(kind, place, None);
     }
     let signal = unless_declared(declared.is_some(), found);
     Checked {
@@ -198,7 +196,7 @@ impl<'s, 'd, 'n> Context<'s, 'd, 'n> {
     #[inline(never)]
     pub(crate) fn edge(&self, word: &Token, path: &Path, index: &Option<Token>) -> Part
         requires { Stands self.now.scope.now self.now.names.now }
-        ensures checked { IsNode (no_side variants.Boolean word.now.place (first_of (flaws.edge_flaws self.now.scope.now.before.now self.now.names.now path.now index.now))) result }
+        ensures checked { IsNode (spec_no_side variants.Boolean word.now.place (first_of (flaws.edge_flaws self.now.scope.now.before.now self.now.names.now path.now index.now))) result }
         ensures built { GivesPart result (kernel.OfBoolean (kernel.edge_meaning (spec_edge word.now.kind) (look.reference self.now.names.now path.now index.now))) }
     {
         let text = path_text(self.alloc, path.as_slice())?;
@@ -206,7 +204,7 @@ impl<'s, 'd, 'n> Context<'s, 'd, 'n> {
         let is_declared = is_declared(self.scope, text.as_slice());
         let place = path_place(path.as_slice());
         let flaw = edge_flaw(is_declared, index, found, place);
-        let checked = checks::no_side(ExpressionKind::Boolean, word.place, flaw);
+        let checked = no_side(ExpressionKind::Boolean, word.place, flaw);
         let test = edge_of_bit(edge_of(word.kind), found);
         node(self.alloc, checked, Meaning::Boolean(Ok(test)))
     }

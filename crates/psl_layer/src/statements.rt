@@ -17,10 +17,10 @@ ghost use Rattle.psl_layer.specs.Scopes.{Stands, named_in, meaning_after};
 use crate::asked::Asked;
 use crate::elaborated::{Checked, Elaborated};
 use crate::expressions::Context;
+use crate::flaws::{flaw_where, wants_boolean, wants_sequence};
 use crate::meaning::Meaning;
 use crate::order::earlier;
 use crate::scope::{Declared, Scope, declare, is_declared};
-use crate::wants::{flaw_where, wants_boolean, wants_sequence};
 use psl_base::{NoMemory, Text};
 use psl_elaboration::{Cause, DeclarationWord, Flaw};
 use psl_grammar::{Expression, Statement};
@@ -82,8 +82,11 @@ fn read_directive(
 ) -> Result<ReadDirective, NoMemory>
     requires { Stands context.now.scope.now context.now.names.now }
     ensures asked { IfOk result (λ new. (clock : Option Boolean) → Asks clock new.asked (record {
-        kind = words.directive_kind_of word.now.kind; label = directives.label_text label.now; place = word.now.place;
-        formula = directives.directive_formula (named_in context.now.names.now context.now.scope.now.before.now) context.now.names.now clock (words.directive_kind_of word.now.kind) property.now })) }
+      kind = words.directive_kind_of word.now.kind;
+      label = directives.label_text label.now;
+      place = word.now.place;
+      formula = directives.directive_formula (named_in context.now.names.now context.now.scope.now.before.now) context.now.names.now clock (words.directive_kind_of word.now.kind) property.now;
+    })) }
     ensures flaw { IfOk result (λ new. new.flaw ≡ first_of (spec.expression_flaws context.now.scope.now.before.now context.now.names.now false property.now
         ++ spec.directive_flaws (words.directive_kind_of word.now.kind) (kind_of context.now.scope.now.before.now false property.now) (place_of property.now))) }
 {

@@ -1,6 +1,5 @@
 pub mod Backward
 pub mod Counts
-pub mod Declaring
 pub mod Fronts
 pub mod Looking
 pub mod Members

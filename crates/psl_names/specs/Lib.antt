@@ -1,4 +1,3 @@
 pub mod Alike
 pub mod Ends
-pub mod Firsts
 pub mod Sorting

@@ -24,7 +24,7 @@ pub fn prefix_operator(kind: TokenKind) -> PrefixOperator
 }
 
 /// The operator that a token is between operands, `&&` as that of Booleans and properties.
-pub fn infix_operator(kind: TokenKind) -> InfixOperator
+pub(crate) fn infix_operator(kind: TokenKind) -> InfixOperator
     ensures { result ≡ spec.infix_operator kind }
 {
     match kind {

@@ -1,16 +1,12 @@
 // Which signal a path stands for.
 ghost use Rattle.std.specs.Prelude.{◌≡◌, ◌<◌, ◌^◌, IfOk, IsTrue};
-ghost use Rattle.psl_elaboration.specs.Flaws.{refers_in};
-ghost use Rattle.psl_elaboration.specs.Kinds.{declared_as as spec_declared};
 ghost use Rattle.psl_elaboration.specs.LookUp as spec;
-ghost use Rattle.psl_elaboration.specs.Texts.{path_text as spec_text};
 
-use crate::declared::{Scope, declared_as};
 use crate::matching::{NameIndex, look_up};
-use crate::texts::{indexed_text, path_text};
+use crate::texts::indexed_text;
 use crate::values::number_of;
 use psl_base::NoMemory;
-use psl_elaboration::{ExpressionKind, Found, Reference};
+use psl_elaboration::{Found, Reference};
 use psl_lexer::Token;
 use std::alloc::Global;
 
@@ -30,51 +26,6 @@ pub fn refers_to(
     Ok(match look_up(names, indexed.as_slice()) {
         Found::Nothing => bit_of(look_up(names, text), index),
         found => whole_of(found),
-    })
-}
-
-/// What a path stands for as a signal, perhaps with an index.
-pub fn reference(
-    alloc: Global,
-    names: &NameIndex,
-    path: &[Token],
-    index: &Option<Token>,
-) -> Result<Reference, NoMemory>
-    ensures { IfOk result (λ reference. reference ≡ spec.reference names.now path.now index.now) }
-{
-    let text = path_text(alloc, path)?;
-    refers_to(alloc, names, text.as_slice(), index_number(index))
-}
-
-/// What a path stands for behind some statements.
-#[derive(Clone, Copy, Debug)]
-pub struct Resolved {
-    /// The kind that its text is declared as, if some of the statements declares it.
-    pub declared: Option<ExpressionKind>,
-    /// The signal that it stands for, perhaps with an index: nothing, where it is declared.
-    pub reference: Reference,
-}
-
-/// What a path stands for behind some statements, perhaps with an index. Its text is made once.
-pub fn resolve_path(
-    alloc: Global,
-    scope: &Scope,
-    names: &NameIndex,
-    path: &[Token],
-    index: &Option<Token>,
-) -> Result<Resolved, NoMemory>
-    ensures declared { IfOk result (λ found. found.declared ≡ spec_declared scope.now (spec_text path.now)) }
-    ensures reference { IfOk result (λ found. found.reference ≡ refers_in scope.now names.now path.now index.now) }
-{
-    let text = path_text(alloc, path)?;
-    let declared = declared_as(scope, text.as_slice());
-    let reference = match declared {
-        Some(_) => Reference::Nothing,
-        None => refers_to(alloc, names, text.as_slice(), index_number(index))?,
-    };
-    Ok(Resolved {
-        declared,
-        reference,
     })
 }
 

@@ -30,7 +30,7 @@ fn add_names(text: &mut Vec<u8>, more: &[Token]) -> Result<(), NoMemory>
 }
 
 /// A text followed by an index in square brackets, in decimal digits.
-pub fn indexed_text(alloc: Global, text: &[u8], index: u64) -> Result<Text, NoMemory>
+pub(crate) fn indexed_text(alloc: Global, text: &[u8], index: u64) -> Result<Text, NoMemory>
     ensures { IfOk result (λ new. new ≡ spec.indexed_text text.now index) }
 {
     let mut new = Vec::new(alloc);
