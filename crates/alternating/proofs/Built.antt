@@ -6,7 +6,7 @@ use Rattle.std.specs.declared.alloc.Global.{Global}
 use Rattle.psl_base.specs.declared.items.NoMemory.{NoMemory}
 use Rattle.std.proofs.lemmas.List.{length-map}
 use Rattle.std.proofs.lemmas.List.Elements.{All-from_recursion, recursion_from_All}
-use Rattle.psl_meaning.specs.Clockless.{IsPlain}
+use Rattle.psl_tree.specs.Clockless.{IsPlain}
 use Rattle.psl_tree.specs.Counts.{obligations_of}
 use Rattle.psl_tree.specs.Trees.{Formula}
 use Rattle.alternating_theory.specs.Construction.{Part, part_of}

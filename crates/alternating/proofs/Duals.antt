@@ -3,7 +3,7 @@ use Rattle.std.proofs.Common.{◌≡◌, sym, ap, ◌∙◌, subst, ℕ, List, [
 use Rattle.std.specs.List.{AllByRecursion}
 use Rattle.std.proofs.lemmas.List.{length-map}
 use Rattle.std.proofs.lemmas.List.Elements.{All-from_recursion, recursion_from_All}
-use Rattle.psl_meaning.specs.Clockless.{IsPlain}
+use Rattle.psl_tree.specs.Clockless.{IsPlain}
 use Rattle.psl_tree.specs.Trees.{Formula, Not}
 use Rattle.alternating_theory.specs.Construction.{opposite_obligation}
 use Rattle.alternating_theory.specs.Dual.{opposite_automaton}

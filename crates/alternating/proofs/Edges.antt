@@ -2,7 +2,7 @@
 use Rattle.std.proofs.Common.{◌≡◌, ◌∙◌, ℕ, zero, suc, ◌+◌, ◌-◌, ◌<◌, Bool as Truth, true, false, List, [], ◌∷◌, ◌++◌, map, length, get_or, drop, take, refl, ap, sym, append_assoc, arith}
 use Rattle.std.specs.Prelude.{◌↔◌, ◌||◌, IsTrue}
 use Rattle.std.proofs.lemmas.List.{drop_more, map_push}
-use Rattle.sere_nfa.specs.Acceptance.{Automaton, IsSound, ReachesEnd}
+use Rattle.psl_tree.specs.SequenceAutomata.{Automaton, IsSound, ReachesEnd}
 use Rattle.alternating_theory.specs.Going.{is_alive, goes_on}
 use Rattle.alternating_theory.specs.Obligations.{Obligation}
 use Rattle.alternating_theory.proofs.Aborts.{same-test}
@@ -12,7 +12,7 @@ use Rattle.alternating.specs.Pending.{pending_of, pendings_of}
 use Rattle.alternating.specs.Views.{obligation_of}
 use Rattle.alternating.specs.declared.obligation.Obligation as code_obligation
 use Rattle.alternating.specs.declared.pending.Pending as code_pending
-use Rattle.sere_nfa.specs.Acceptance.{State, state_at}
+use Rattle.psl_tree.specs.SequenceAutomata.{State, state_at}
 use Rattle.sere_nfa.specs.Views.{edge_of, edges_of}
 use Rattle.sere_nfa.specs.declared.edge.NfaEdge.{NfaEdge}
 

@@ -2,7 +2,7 @@
 use Rattle.std.proofs.Common.{◌≡◌, inl, inr, refl, sym, ap, ◌∙◌, ℕ, zero, suc, Bool as Truth, true, false, if◌then◌else◌, List, [], ◌∷◌, ◌++◌, ◌+◌, ◌<◌, length, get_or, arith, map, not}
 use Rattle.std.specs.Prelude.{IsTrue, ◌&&◌, ◌||◌, ◌==◌}
 use Rattle.std.proofs.lemmas.Bool.{or_cases, or_left, or_right, and_parts, both_ways}
-use Rattle.psl_meaning.specs.Followed.{Past, Nothing, Tops, Bottoms}
+use Rattle.psl_tree.specs.Followed.{Past, Nothing, Tops, Bottoms}
 use Rattle.psl_tree.specs.Atoms.{AtomsOfBoolean}
 use Rattle.psl_tree.specs.Holds.{holds_among, is_same_atom, edge_number}
 use Rattle.psl_tree.specs.Trees as trees
@@ -14,7 +14,7 @@ use Rattle.alternating_theory.specs.Obligations.{Obligation, Automaton, never, o
 use Rattle.alternating_theory.specs.Positive.{Positive, Const, Holds, Owed, And, Or, met}
 use Rattle.alternating_theory.proofs.Aborts.{same-test}
 use Rattle.alternating_theory.proofs.Reached.{same-number, met-owed}
-use Rattle.alternating.specs.Atoms.{AtomsOfPositive, AtomsOfObligations, is_among}
+use Rattle.alternating_theory.specs.Atoms.{AtomsOfPositive, AtomsOfObligations, is_among}
 use Rattle.alternating.specs.Packed.{is_set, held_from, letter_of, is_held, BitsTell}
 use Rattle.alternating.specs.Stepped.{value_at, stepped, StepsBack, StartTells, BitsPack}
 

@@ -5,9 +5,9 @@ use Rattle.psl_tree.specs.Atoms.{AtomsOfBoolean, AtomsOfSequence, AtomsOfFormula
 use Rattle.psl_tree.specs.Trees as trees
 use Rattle.psl_tree.specs.Trees.{Boolean, Sequence, Formula, Now, NowStrong, Weak, Strong, Next, Until, Suffix, Abort, SyncAbort, Clocked}
 use Rattle.psl_tree.specs.declared.atom.Atom.{Atom}
-use Rattle.sere_nfa.specs.Acceptance.{Edge, State, state_at}
-use Rattle.sere_nfa.specs.Construction as sequences
-use Rattle.sere_nfa.specs.Construction.{Draft, either_of, both_of, joined, narrowed, narrowed_by, fused, edge_pair, edge_pairs, state_pair, state_pairs, again, star_part, is_repetition, nfa_of}
+use Rattle.psl_tree.specs.SequenceAutomata.{Edge, State, state_at}
+use Rattle.psl_tree.specs.SequenceConstruction as sequences
+use Rattle.psl_tree.specs.SequenceConstruction.{Draft, either_of, both_of, joined, narrowed, narrowed_by, fused, edge_pair, edge_pairs, state_pair, state_pairs, again, star_part, is_repetition, nfa_of}
 use Rattle.alternating_theory.specs.Literals.{is_unnegated, bare, negated}
 use Rattle.alternating_theory.specs.Construction.{Part, part_of, opposite_obligation, with_letter, until_obligation, cut_obligation, taken, going, quiet, prefix_obligation, suffix_obligation}
 use Rattle.alternating_theory.specs.Going.{edges_of_all, entry, goes_on}
@@ -17,7 +17,7 @@ use Rattle.alternating_theory.specs.Trimmed.{kept, renumbered_obligation, is_rea
 use Rattle.alternating_theory.specs.Built.{built, unmerged}
 use Rattle.alternating_theory.specs.Merged.{class_in, classes_upto, fits, is_first, merged_by}
 use Rattle.alternating_theory.specs.Merged as merging
-use Rattle.alternating.specs.Atoms.{AtomsOfPositive, AtomsOfObligations, KeepsAtoms}
+use Rattle.alternating_theory.specs.Atoms.{AtomsOfPositive, AtomsOfObligations, KeepsAtoms}
 
 -- sequences
 

@@ -1,5 +1,5 @@
 -- What follows a word, as the program names it.
-use Rattle.psl_meaning.specs.Followed.{Past, Nothing, Tops, Bottoms}
+use Rattle.psl_tree.specs.Followed.{Past, Nothing, Tops, Bottoms}
 use Rattle.alternating.specs.declared.step.Beyond.{Beyond}
 use Rattle.alternating.specs.declared.step.Beyond.TheVariants.{End, Top, Bottom}
 

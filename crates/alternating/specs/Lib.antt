@@ -1,6 +1,5 @@
 pub mod Alike
 pub mod AlternatingView
-pub mod Atoms
 pub mod Beyonds
 pub mod Classes
 pub mod Codes

@@ -1,6 +1,6 @@
 -- What is known of an automaton where it is that of some formula.
 use Rattle.std.specs.Prelude.{◌≡◌}
-use Rattle.psl_meaning.specs.Clockless.{IsPlain}
+use Rattle.psl_tree.specs.Clockless.{IsPlain}
 use Rattle.psl_tree.specs.Trees.{Formula}
 use Rattle.alternating_theory.specs.Obligations.{Automaton}
 use Rattle.alternating_theory.specs.Built.{built}

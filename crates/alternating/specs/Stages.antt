@@ -1,6 +1,6 @@
 -- From which states of a sequence's automaton an edge leads on to an end.
 use Rattle.std.specs.Prelude.{◌≡◌, ◌+◌, ◌<◌, ◌^◌, ℕ, Bool as Truth, List, length, map}
-use Rattle.sere_nfa.specs.Acceptance.{Automaton, IsSound}
+use Rattle.psl_tree.specs.SequenceAutomata.{Automaton, IsSound}
 use Rattle.alternating_theory.specs.Going.{goes_on}
 
 -- the marks say of each state whether an edge leads on from it

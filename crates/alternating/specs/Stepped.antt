@@ -1,12 +1,12 @@
 -- The values of all obligations at a place.
 use Rattle.std.specs.Prelude.{◌≡◌, IsTrue, ℕ, ◌<◌, Bool as Truth, false, List, ◌∷◌, map, length, slice_index_or}
-use Rattle.psl_meaning.specs.Followed.{Past}
+use Rattle.psl_tree.specs.Followed.{Past}
 use Rattle.psl_tree.specs.declared.atom.Atom.{Atom}
 use Rattle.psl_tree.specs.declared.letter.Letter.{Letter}
 use Rattle.psl_tree.specs.declared.letter.Letter.TheVariants.{Holds}
 use Rattle.alternating_theory.specs.Obligations.{Automaton, obligation_at, value_of, value_on}
 use Rattle.alternating_theory.specs.Positive.{met}
-use Rattle.alternating.specs.Atoms.{AtomsOfObligations, is_among}
+use Rattle.alternating_theory.specs.Atoms.{AtomsOfObligations, is_among}
 use Rattle.alternating.specs.Packed.{is_set, is_held, PacksLetter}
 
 -- the value of a number; false past the end

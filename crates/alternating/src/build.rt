@@ -1,10 +1,10 @@
 ghost use Rattle.std.specs.Prelude.{◌≡◌, ◌+◌, ◌-◌, ◌^◌, ◌<◌, ◌≤◌, length, IfOk};
-ghost use Rattle.psl_meaning.specs.Clockless.{IsPlain, HasNoClock};
+ghost use Rattle.psl_tree.specs.Clockless.{IsPlain, HasNoClock};
 ghost use Rattle.psl_tree.specs.Counts.{obligations_of, states_of};
 ghost use Rattle.psl_tree.specs.Trees.{boolean_of, formula_of, sequence_of};
 ghost use Rattle.psl_tree.specs.declared.counts.TheConstants.{MOST_STATES};
-ghost use Rattle.sere_nfa.specs.Acceptance.{IsSound};
-ghost use Rattle.sere_nfa.specs.Construction.{nfa_of};
+ghost use Rattle.psl_tree.specs.SequenceAutomata.{IsSound};
+ghost use Rattle.psl_tree.specs.SequenceConstruction.{nfa_of};
 ghost use Rattle.alternating_theory.specs.Construction.{abort_part, part_of, prefix_part, suffix_part};
 ghost use Rattle.alternating.specs.Limits.{HasLargeSequence};
 ghost use Rattle.alternating.specs.Parts.{part_of_code, PartWithin};

@@ -1,10 +1,10 @@
 ghost use Rattle.std.specs.Prelude.{◌≡◌, map, IfOk};
 ghost use Rattle.psl_tree.specs.Trees.{Not};
-ghost use Rattle.alternating_loops.specs.Laws.{LoopsOf};
+ghost use Rattle.alternating_theory.specs.LoopLaws.{LoopsOf};
 ghost use Rattle.alternating_theory.specs.Construction.{opposite_obligation};
 ghost use Rattle.alternating_theory.specs.Dual.{opposite_automaton};
 ghost use Rattle.alternating_theory.specs.Laws.{ValuesOf, NamesOf, SizeOf};
-ghost use Rattle.alternating.specs.Atoms.{KeepsAtoms};
+ghost use Rattle.alternating_theory.specs.Atoms.{KeepsAtoms};
 ghost use Rattle.alternating.specs.Negations.{OfItsFormula};
 ghost use Rattle.alternating.specs.Views.{obligations_of_code};
 

@@ -1,5 +1,5 @@
 ghost use Rattle.std.specs.Prelude.{◌≡◌, ◌<◌, ◌^◌, All, length, map, slice_index, IfOk};
-ghost use Rattle.sere_nfa.specs.Acceptance.{IsSound, state_at};
+ghost use Rattle.psl_tree.specs.SequenceAutomata.{IsSound, state_at};
 ghost use Rattle.sere_nfa.specs.Views.{edges_of};
 ghost use Rattle.alternating_theory.specs.Going.{goes_on, entry};
 ghost use Rattle.alternating.specs.Stages.{GoingOn};

@@ -3,12 +3,12 @@ use Rattle.std.proofs.Common.{◌≡◌, inl, inr, refl, sym, ap, ◌∙◌, sub
 use Rattle.std.specs.Prelude.{◌↔◌, IsTrue, ◌||◌, None}
 use Rattle.std.proofs.lemmas.Bool.{or_cases, or_left, or_right, both_ways}
 use Rattle.std.proofs.lemmas.List.{length-append, length-map}
-use Rattle.psl_meaning.specs.Evaluated.{cuts}
-use Rattle.psl_meaning.specs.Followed.{Past, Nothing, Tops, Bottoms, followed}
-use Rattle.psl_meaning.specs.Satisfaction.{Sat}
-use Rattle.psl_meaning.specs.Trace.{holds_where}
-use Rattle.psl_meaning.proofs.Choice.{or-same}
-use Rattle.psl_meaning.proofs.Values.{cuts-means}
+use Rattle.psl_tree.specs.Evaluated.{cuts}
+use Rattle.psl_tree.specs.Followed.{Past, Nothing, Tops, Bottoms, followed}
+use Rattle.psl_tree.specs.Satisfaction.{Sat}
+use Rattle.psl_tree.specs.Trace.{holds_where}
+use Rattle.psl_tree.proofs.Choice.{or-same}
+use Rattle.psl_tree.proofs.Values.{cuts-means}
 use Rattle.psl_tree.specs.Trees.{Boolean, Formula, Abort}
 use Rattle.psl_tree.specs.declared.letter.Letter.{Letter}
 use Rattle.psl_tree.specs.declared.letter.Letter.TheVariants.{Top, Bottom}

@@ -3,8 +3,8 @@ use Rattle.std.proofs.Common.{◌≡◌, sym, ap, ◌∙◌, subst, ℕ, ◌+◌
 use Rattle.std.specs.Prelude.{◌↔◌, IsTrue, None}
 use Rattle.std.proofs.lemmas.Bool.{cases_lt}
 use Rattle.std.proofs.lemmas.List.{length-append}
-use Rattle.psl_meaning.specs.Followed.{Past, followed}
-use Rattle.psl_meaning.specs.Satisfaction.{Sat}
+use Rattle.psl_tree.specs.Followed.{Past, followed}
+use Rattle.psl_tree.specs.Satisfaction.{Sat}
 use Rattle.psl_tree.specs.Counts.{obligations_of}
 use Rattle.psl_tree.specs.Trees.{Formula}
 use Rattle.psl_tree.specs.declared.letter.Letter.{Letter}

@@ -4,11 +4,11 @@ use Rattle.std.proofs.lemmas.List.{length-append, length-map}
 use Rattle.psl_tree.specs.Counts.{states_of, obligations_of}
 use Rattle.psl_tree.specs.Trees as trees
 use Rattle.psl_tree.specs.Trees.{Sequence, Formula, Now, NowStrong, Weak, Strong, Next, Until, Suffix, Abort, SyncAbort, Clocked}
-use Rattle.sere_nfa.specs.Acceptance.{State}
-use Rattle.sere_nfa.specs.Construction as sequences
-use Rattle.sere_nfa.specs.Construction.{nfa_of}
-use Rattle.sere_nfa.proofs.Automata.{finished-count}
-use Rattle.sere_nfa.proofs.Means as sequence_means
+use Rattle.psl_tree.specs.SequenceAutomata.{State}
+use Rattle.psl_tree.specs.SequenceConstruction as sequences
+use Rattle.psl_tree.specs.SequenceConstruction.{nfa_of}
+use Rattle.psl_tree.proofs.SequenceAutomata.{finished-count}
+use Rattle.psl_tree.proofs.SequenceMeans as sequence_means
 use Rattle.alternating_theory.specs.Construction.{part_of, HasNoClock, prefix_obligation, suffix_obligation, opposite_obligation, with_letter, until_obligation, cut_obligation}
 use Rattle.alternating_theory.specs.Obligations.{Obligation}
 

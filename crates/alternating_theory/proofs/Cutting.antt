@@ -2,9 +2,9 @@
 use Rattle.std.proofs.Common.{◌≡◌, ◌⊎◌, inl, inr, refl, sym, ap, ◌∙◌, subst, ℕ, ◌≤◌, ◌<◌, Bool as Truth, true, false, List, [], ◌∷◌}
 use Rattle.std.specs.Prelude.{IsTrue, ◌&&◌, ◌||◌}
 use Rattle.std.proofs.lemmas.Bool.{and_parts, and_from, or_cases, or_left, or_right, both_ways, cases_Bool}
-use Rattle.psl_meaning.specs.Evaluated.{cuts}
-use Rattle.psl_meaning.specs.Followed.{Past, Nothing, Tops, Bottoms, past_at}
-use Rattle.psl_meaning.specs.Trace.{holds_where}
+use Rattle.psl_tree.specs.Evaluated.{cuts}
+use Rattle.psl_tree.specs.Followed.{Past, Nothing, Tops, Bottoms, past_at}
+use Rattle.psl_tree.specs.Trace.{holds_where}
 use Rattle.psl_tree.specs.Holds.{holds}
 use Rattle.psl_tree.specs.Trees.{Boolean}
 use Rattle.psl_tree.specs.declared.letter.Letter.{Letter}

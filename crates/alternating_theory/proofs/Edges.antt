@@ -4,8 +4,8 @@ use Rattle.std.specs.Prelude.{IsTrue, ◌||◌}
 use Rattle.std.proofs.lemmas.Bool.{or_cases, or_left, or_right, both_ways, cases_lt}
 use Rattle.psl_tree.specs.declared.letter.Letter.{Letter}
 use Rattle.psl_tree.specs.declared.letter.Letter.TheVariants.{Top, Bottom}
-use Rattle.sere_nfa.specs.Acceptance.{Edge, State, state_at, no_state, Steps, AcceptsFrom, ReachesEnd, Automaton, Accepts, SomeOf}
-use Rattle.sere_nfa.proofs.Steps.{Steps-map, Steps-append, Steps-append_left, Steps-append_right}
+use Rattle.psl_tree.specs.SequenceAutomata.{Edge, State, state_at, no_state, Steps, AcceptsFrom, ReachesEnd, Automaton, Accepts, SomeOf}
+use Rattle.psl_tree.proofs.SequenceSteps.{Steps-map, Steps-append, Steps-append_left, Steps-append_right}
 use Rattle.alternating_theory.specs.Going.{leads, ends_within, is_alive, goes_on, edges_of_all, entry}
 use Rattle.alternating_theory.proofs.Settled.{SameBelow, settled}
 

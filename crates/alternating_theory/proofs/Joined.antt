@@ -3,11 +3,11 @@ use Rattle.std.proofs.Common.{◌≡◌, refl, sym, ap, ◌∙◌, subst, ℕ, �
 use Rattle.std.specs.Prelude.{IsTrue, ◌&&◌, Option, None, is_some}
 use Rattle.std.proofs.lemmas.Bool.{and_parts, and_from}
 use Rattle.std.proofs.lemmas.List.{length-append}
-use Rattle.psl_meaning.specs.Evaluated.{front, rest}
-use Rattle.psl_meaning.specs.Followed.{Past, Nothing, Tops, Bottoms, followed}
-use Rattle.psl_meaning.specs.Satisfaction.{Sat}
-use Rattle.psl_meaning.specs.Trace.{Trace}
-use Rattle.psl_meaning.proofs.Values.{place-one, suffix-one}
+use Rattle.psl_tree.specs.Evaluated.{front, rest}
+use Rattle.psl_tree.specs.Followed.{Past, Nothing, Tops, Bottoms, followed}
+use Rattle.psl_tree.specs.Satisfaction.{Sat}
+use Rattle.psl_tree.specs.Trace.{Trace}
+use Rattle.psl_tree.proofs.Values.{place-one, suffix-one}
 use Rattle.psl_tree.specs.Trees.{Formula, And, Next}
 use Rattle.psl_tree.specs.declared.letter.Letter.{Letter}
 use Rattle.psl_tree.specs.declared.letter.Letter.TheVariants.{Top, Bottom}

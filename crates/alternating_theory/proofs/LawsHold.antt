@@ -1,11 +1,11 @@
 -- The laws of the automaton of a formula, and the worked examples.
 use Rattle.std.proofs.Common.{◌≡◌, refl, sym, subst, List, []}
 use Rattle.std.specs.Prelude.{◌↔◌, IsTrue, None}
-use Rattle.psl_meaning.specs.Followed.{Past, Nothing, Tops, Bottoms, followed}
-use Rattle.psl_meaning.specs.Satisfaction.{Sat}
-use Rattle.psl_meaning.specs.Trace.{Trace, trace_of}
-use Rattle.psl_meaning.specs.Views.{weak, neutral, strong}
-use Rattle.psl_meaning.proofs.Traces.{neutral-followed, weak-followed, strong-followed}
+use Rattle.psl_tree.specs.Followed.{Past, Nothing, Tops, Bottoms, followed}
+use Rattle.psl_tree.specs.Satisfaction.{Sat}
+use Rattle.psl_tree.specs.Trace.{Trace, trace_of}
+use Rattle.psl_tree.specs.Views.{weak, neutral, strong}
+use Rattle.psl_tree.proofs.Traces.{neutral-followed, weak-followed, strong-followed}
 use Rattle.psl_tree.specs.Trees.{Formula}
 use Rattle.psl_tree.specs.declared.letter.Letter.{Letter}
 use Rattle.alternating_theory.specs.Construction.{HasNoClock}

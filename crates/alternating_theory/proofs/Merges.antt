@@ -3,7 +3,7 @@ use Rattle.std.proofs.Common.{◌≡◌, inl, inr, refl, sym, ap, ◌∙◌, sub
 use Rattle.std.specs.Prelude.{IsTrue, ◌&&◌, ◌==◌, nat_le, if◌then◌else◌}
 use Rattle.std.proofs.lemmas.Bool.{and_parts, eq-eqb, leb-true, cases_lt}
 use Rattle.std.proofs.lemmas.List.{length-map}
-use Rattle.psl_meaning.specs.Followed.{Past, Nothing, Tops, Bottoms}
+use Rattle.psl_tree.specs.Followed.{Past, Nothing, Tops, Bottoms}
 use Rattle.psl_tree.specs.declared.letter.Letter.{Letter}
 use Rattle.alternating_theory.specs.Laws.{NamesOf, KeepsValues}
 use Rattle.alternating_theory.specs.Merged.{all_below, fits_at, fits, is_first, joined, merged_by, same_obligation}

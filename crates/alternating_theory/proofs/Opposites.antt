@@ -3,11 +3,11 @@ use Rattle.std.proofs.Common.{◌≡◌, refl, sym, ap, ◌∙◌, subst, ℕ, �
 use Rattle.std.specs.Prelude.{IsTrue, not, None}
 use Rattle.std.proofs.lemmas.Bool.{both_ways, not-true}
 use Rattle.std.proofs.lemmas.List.{length-map}
-use Rattle.psl_meaning.specs.Followed.{Past, Nothing, Tops, Bottoms, dual_past, followed}
-use Rattle.psl_meaning.specs.Satisfaction.{Sat}
-use Rattle.psl_meaning.specs.Trace.{Trace, dual_letter}
-use Rattle.psl_meaning.proofs.Traces.{dual-followed}
-use Rattle.psl_meaning.proofs.Values.{fails}
+use Rattle.psl_tree.specs.Followed.{Past, Nothing, Tops, Bottoms, dual_past, followed}
+use Rattle.psl_tree.specs.Satisfaction.{Sat}
+use Rattle.psl_tree.specs.Trace.{Trace, dual_letter}
+use Rattle.psl_tree.proofs.Traces.{dual-followed}
+use Rattle.psl_tree.proofs.Values.{fails}
 use Rattle.psl_tree.specs.Trees.{Formula, Not}
 use Rattle.psl_tree.specs.declared.letter.Letter.{Letter}
 use Rattle.psl_tree.specs.declared.letter.Letter.TheVariants.{Top, Bottom}

@@ -1,11 +1,11 @@
 -- Parts whose start says what a formula says of each finite word in each view; the forms of one letter.
 use Rattle.std.proofs.Common.{◌≡◌, refl, ℕ, ◌+◌, Bool as Truth, true, false, List, [], ◌∷◌, length}
 use Rattle.std.specs.Prelude.{◌↔◌, IsTrue, not, ◌||◌, None, is_some}
-use Rattle.psl_meaning.specs.Evaluated.{front}
-use Rattle.psl_meaning.specs.Followed.{Past, Nothing, Tops, Bottoms, followed}
-use Rattle.psl_meaning.specs.Satisfaction.{Sat}
-use Rattle.psl_meaning.specs.Trace.{holds_where}
-use Rattle.psl_meaning.proofs.Values.{front-is, now-means}
+use Rattle.psl_tree.specs.Evaluated.{front}
+use Rattle.psl_tree.specs.Followed.{Past, Nothing, Tops, Bottoms, followed}
+use Rattle.psl_tree.specs.Satisfaction.{Sat}
+use Rattle.psl_tree.specs.Trace.{holds_where}
+use Rattle.psl_tree.proofs.Values.{front-is, now-means}
 use Rattle.psl_tree.specs.Trees.{Boolean, Formula, Now, NowStrong}
 use Rattle.psl_tree.specs.declared.letter.Letter.{Letter}
 use Rattle.alternating_theory.specs.Construction.{Part, now_part}

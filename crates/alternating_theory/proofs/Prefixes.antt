@@ -2,14 +2,14 @@
 use Rattle.std.proofs.Common.{◌≡◌, ◌⊎◌, inl, inr, refl, sym, subst, ℕ, zero, suc, ◌+◌, ◌<◌, Bool as Truth, true, false, List, [], ◌∷◌, length}
 use Rattle.std.specs.Prelude.{◌↔◌, IsTrue, is_some}
 use Rattle.std.proofs.lemmas.Bool.{both_ways}
-use Rattle.psl_meaning.specs.Followed.{Past, Nothing, Tops, Bottoms, followed}
-use Rattle.psl_meaning.specs.Trace.{Trace, is_place, cut}
-use Rattle.psl_meaning.proofs.Choice.{from-exists}
-use Rattle.psl_meaning.proofs.Traces.{behind, followed-behind, cut-zero, cut-tops, cut-behind}
+use Rattle.psl_tree.specs.Followed.{Past, Nothing, Tops, Bottoms, followed}
+use Rattle.psl_tree.specs.Trace.{Trace, is_place, cut}
+use Rattle.psl_tree.proofs.Choice.{from-exists}
+use Rattle.psl_tree.proofs.Traces.{behind, followed-behind, cut-zero, cut-tops, cut-behind}
 use Rattle.psl_tree.specs.declared.letter.Letter.{Letter}
 use Rattle.psl_tree.specs.declared.letter.Letter.TheVariants.{Top, Bottom}
-use Rattle.sere_nfa.specs.Acceptance.{Edge, State, state_at, Steps}
-use Rattle.sere_nfa.proofs.Steps.{Steps-map, take-step}
+use Rattle.psl_tree.specs.SequenceAutomata.{Edge, State, state_at, Steps}
+use Rattle.psl_tree.proofs.SequenceSteps.{Steps-map, take-step}
 use Rattle.alternating_theory.specs.Construction.{prefix_obligation, taken}
 use Rattle.alternating_theory.specs.Going.{goes_on, is_alive}
 use Rattle.alternating_theory.specs.Obligations.{Obligation, value_of}

@@ -3,15 +3,15 @@ use Rattle.std.proofs.Common.{◌≡◌, ◌⊎◌, inl, inr, refl, sym, ap, sub
 use Rattle.std.specs.Prelude.{IsTrue, Option, None, Some, is_some}
 use Rattle.std.proofs.lemmas.Bool.{both_ways}
 use mathlib.Core.Path.{fun_ext}
-use Rattle.psl_meaning.specs.Classical.{Exists}
-use Rattle.psl_meaning.specs.Followed.{Past, Tops, followed}
-use Rattle.psl_meaning.specs.Trace.{Trace, suffix, first, is_place, joined}
-use Rattle.psl_meaning.proofs.Choice.{from-exists}
-use Rattle.psl_meaning.proofs.Traces.{behind}
+use Rattle.psl_tree.specs.Classical.{Exists}
+use Rattle.psl_tree.specs.Followed.{Past, Tops, followed}
+use Rattle.psl_tree.specs.Trace.{Trace, suffix, first, is_place, joined}
+use Rattle.psl_tree.proofs.Choice.{from-exists}
+use Rattle.psl_tree.proofs.Traces.{behind}
 use Rattle.psl_tree.specs.declared.letter.Letter.{Letter}
 use Rattle.psl_tree.specs.declared.letter.Letter.TheVariants.{Top}
-use Rattle.sere_nfa.specs.Acceptance.{Edge, State, state_at, Steps, AcceptsFrom}
-use Rattle.sere_nfa.proofs.Steps.{Steps-map, StepTo, make-step}
+use Rattle.psl_tree.specs.SequenceAutomata.{Edge, State, state_at, Steps, AcceptsFrom}
+use Rattle.psl_tree.proofs.SequenceSteps.{Steps-map, StepTo, make-step}
 use Rattle.alternating_theory.specs.Going.{goes_on}
 use Rattle.alternating_theory.proofs.Edges.{On, LeadBelow, on-goes, goes-tops}
 use Rattle.alternating_theory.proofs.Taken.{Ends}

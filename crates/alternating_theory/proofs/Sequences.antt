@@ -5,19 +5,19 @@ use Rattle.std.specs.List.{AllByRecursion}
 use Rattle.std.proofs.lemmas.Bool.{both_ways}
 use Rattle.std.proofs.lemmas.List.{length-append, length-map}
 use Rattle.std.proofs.lemmas.List.Elements.{recursion_from_All}
-use Rattle.psl_meaning.specs.Followed.{Past, Nothing, Tops, Bottoms, followed}
-use Rattle.psl_meaning.specs.Satisfaction.{Sat, HasTightPrefix}
-use Rattle.psl_meaning.specs.Tight.{Tight}
-use Rattle.psl_meaning.specs.Trace.{Trace, suffix, first, dual, joined, is_place, cut}
-use Rattle.psl_meaning.proofs.Choice.{exists-same, iff-trans}
-use Rattle.psl_meaning.proofs.Traces.{zero-below}
+use Rattle.psl_tree.specs.Followed.{Past, Nothing, Tops, Bottoms, followed}
+use Rattle.psl_tree.specs.Satisfaction.{Sat, HasTightPrefix}
+use Rattle.psl_tree.specs.Tight.{Tight}
+use Rattle.psl_tree.specs.Trace.{Trace, suffix, first, dual, joined, is_place, cut}
+use Rattle.psl_tree.proofs.Choice.{exists-same, iff-trans}
+use Rattle.psl_tree.proofs.Traces.{zero-below}
 use Rattle.psl_tree.specs.Trees.{Sequence, Formula, Weak, Strong, Suffix}
 use Rattle.psl_tree.specs.declared.letter.Letter.{Letter}
-use Rattle.sere_nfa.specs.Acceptance.{Edge, State, state_at, LeadsWithin}
-use Rattle.sere_nfa.specs.Construction as sequences
-use Rattle.sere_nfa.specs.Construction.{nfa_of}
-use Rattle.sere_nfa.proofs.Automata.{finished-accepts, finished-sound}
-use Rattle.sere_nfa.proofs.Means.{part-means}
+use Rattle.psl_tree.specs.SequenceAutomata.{Edge, State, state_at, LeadsWithin}
+use Rattle.psl_tree.specs.SequenceConstruction as sequences
+use Rattle.psl_tree.specs.SequenceConstruction.{nfa_of}
+use Rattle.psl_tree.proofs.SequenceAutomata.{finished-accepts, finished-sound}
+use Rattle.psl_tree.proofs.SequenceMeans.{part-means}
 use Rattle.alternating_theory.specs.Construction.{Part, prefix_part, prefix_obligation, suffix_part, suffix_obligation}
 use Rattle.alternating_theory.specs.Going.{edges_of_all, entry}
 use Rattle.alternating_theory.specs.Obligations.{Obligation, obligation_at, numbered, value_of}

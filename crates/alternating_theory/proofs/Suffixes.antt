@@ -2,14 +2,14 @@
 use Rattle.std.proofs.Common.{◌≡◌, inl, inr, refl, sym, ap, ◌∙◌, subst, ℕ, zero, suc, ◌+◌, ◌≤◌, ◌<◌, Bool as Truth, false, List, [], ◌∷◌, length}
 use Rattle.std.specs.Prelude.{◌↔◌, IsTrue, not, ◌||◌}
 use Rattle.std.proofs.lemmas.Bool.{both_ways, or_cases, or_left, or_right, and_parts, and_from, not-true, not_from_false, cases_Bool}
-use Rattle.psl_meaning.specs.Followed.{Past, Nothing, Tops, Bottoms, followed}
-use Rattle.psl_meaning.specs.Trace.{Trace, suffix, first, dual, dual_letter, is_place}
-use Rattle.psl_meaning.proofs.Traces.{behind, followed-behind, suffix-behind, suffix-zero}
+use Rattle.psl_tree.specs.Followed.{Past, Nothing, Tops, Bottoms, followed}
+use Rattle.psl_tree.specs.Trace.{Trace, suffix, first, dual, dual_letter, is_place}
+use Rattle.psl_tree.proofs.Traces.{behind, followed-behind, suffix-behind, suffix-zero}
 use Rattle.psl_tree.specs.declared.letter.Letter.{Letter}
 use Rattle.psl_tree.specs.declared.letter.Letter.TheVariants.{Top, Bottom}
 use mathlib.Core.Path.{fun_ext}
-use Rattle.sere_nfa.specs.Acceptance.{Edge, State, state_at, AcceptsFrom}
-use Rattle.sere_nfa.proofs.Steps.{StepTo, take-step, make-step}
+use Rattle.psl_tree.specs.SequenceAutomata.{Edge, State, state_at, AcceptsFrom}
+use Rattle.psl_tree.proofs.SequenceSteps.{StepTo, take-step, make-step}
 use Rattle.alternating_theory.specs.Construction.{suffix_obligation, going, quiet}
 use Rattle.alternating_theory.specs.Going.{goes_on, is_alive}
 use Rattle.alternating_theory.specs.Obligations.{Obligation, value_of}

@@ -2,13 +2,13 @@
 use Rattle.std.proofs.Common.{◌⊎◌, inl, inr, refl, sym, ◌∙◌, subst, ℕ, ◌+◌, ◌<◌, Bool as Truth, true, false, if◌then◌else◌, List, [], ◌∷◌, arith}
 use Rattle.std.specs.Prelude.{IsTrue, ◌&&◌, ◌||◌}
 use Rattle.std.proofs.lemmas.Bool.{or_cases, or_left, or_right, and_parts, and_from, both_ways, not-true, not_from_false, cases_Bool}
-use Rattle.psl_meaning.specs.Trace.{dual_letter}
+use Rattle.psl_tree.specs.Trace.{dual_letter}
 use Rattle.psl_tree.specs.Holds.{holds}
 use Rattle.psl_tree.specs.Trees as trees
 use Rattle.psl_tree.specs.Trees.{Boolean}
 use Rattle.psl_tree.specs.declared.letter.Letter.{Letter}
-use Rattle.sere_nfa.specs.Acceptance.{Edge, State, state_at, Steps}
-use Rattle.sere_nfa.proofs.Steps.{StepTo}
+use Rattle.psl_tree.specs.SequenceAutomata.{Edge, State, state_at, Steps}
+use Rattle.psl_tree.proofs.SequenceSteps.{StepTo}
 use Rattle.alternating_theory.specs.Construction.{taken, going, quiet}
 use Rattle.alternating_theory.specs.Going.{goes_on}
 use Rattle.alternating_theory.specs.Positive.{Positive, Holds, Owed, And, Or, met, OwesWithin}

@@ -3,7 +3,7 @@ use Rattle.std.proofs.Common.{◌≡◌, inl, inr, refl, sym, ap, ◌∙◌, sub
 use Rattle.std.specs.Prelude.{IsTrue, ◌&&◌}
 use Rattle.std.proofs.lemmas.Bool.{or_cases, and_parts}
 use Rattle.std.proofs.lemmas.List.{length-map}
-use Rattle.psl_meaning.specs.Followed.{Past, Nothing, Tops, Bottoms}
+use Rattle.psl_tree.specs.Followed.{Past, Nothing, Tops, Bottoms}
 use Rattle.psl_tree.specs.declared.letter.Letter.{Letter}
 use Rattle.alternating_theory.specs.Obligations.{Obligation, obligation_at, value_past, value_of, value_on, IsReached, begun, owed}
 use Rattle.alternating_theory.specs.Positive.{owes, OwesWithin}

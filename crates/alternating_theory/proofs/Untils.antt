@@ -2,10 +2,10 @@
 use Rattle.std.proofs.Common.{◌≡◌, refl, sym, ap, ◌∙◌, subst, ℕ, ◌+◌, ◌-◌, ◌≤◌, ◌<◌, Bool as Truth, true, false, List, [], ◌∷◌, ◌++◌, length, arith}
 use Rattle.std.specs.Prelude.{◌↔◌, IsTrue, ◌&&◌, ◌||◌, None}
 use Rattle.std.proofs.lemmas.List.{length-append}
-use Rattle.psl_meaning.specs.Evaluated.{reaches}
-use Rattle.psl_meaning.specs.Followed.{Past, Nothing, Tops, Bottoms, followed}
-use Rattle.psl_meaning.specs.Satisfaction.{Sat}
-use Rattle.psl_meaning.proofs.Values.{reaches-means}
+use Rattle.psl_tree.specs.Evaluated.{reaches}
+use Rattle.psl_tree.specs.Followed.{Past, Nothing, Tops, Bottoms, followed}
+use Rattle.psl_tree.specs.Satisfaction.{Sat}
+use Rattle.psl_tree.proofs.Values.{reaches-means}
 use Rattle.psl_tree.specs.Trees.{Formula, Until}
 use Rattle.psl_tree.specs.declared.letter.Letter.{Letter}
 use Rattle.psl_tree.specs.declared.letter.Letter.TheVariants.{Top, Bottom}

@@ -1,7 +1,7 @@
 -- Obligations that fit their place among others, and their values under numberings that agree.
 use Rattle.std.proofs.Common.{◌≡◌, refl, ap, ◌∙◌, subst, ℕ, zero, suc, ◌+◌, ◌-◌, ◌≤◌, ◌<◌, Bool as Truth, List, [], ◌∷◌, ◌++◌, length, map, arith}
 use Rattle.std.specs.Prelude.{IsTrue}
-use Rattle.psl_meaning.specs.Followed.{Past}
+use Rattle.psl_tree.specs.Followed.{Past}
 use Rattle.psl_tree.specs.declared.letter.Letter.{Letter}
 use Rattle.psl_tree.specs.declared.letter.Letter.TheVariants.{Top, Bottom}
 use Rattle.alternating_theory.specs.Obligations.{Obligation, obligation_at, numbered, value_past, value_of}

@@ -1,12 +1,12 @@
 -- The obligations of each form of formula, from those of its parts. A part has a start, which no
 -- obligation owes, and further obligations, whose numbers count on from an offset.
-pub use Rattle.psl_meaning.specs.Clockless.{IsPlain as HasNoClock}
+pub use Rattle.psl_tree.specs.Clockless.{IsPlain as HasNoClock}
 use Rattle.std.specs.Prelude.{Bool as Truth, true, false, not, ◌&&◌, ◌||◌, if◌then◌else◌, ℕ, ◌+◌, List, [], ◌∷◌, ◌++◌, length, map}
 use Rattle.psl_tree.specs.Trees as trees
 use Rattle.psl_tree.specs.Trees.{Boolean, Sequence, Formula, Now, NowStrong, Weak, Strong, Next, Until, Suffix, Abort, SyncAbort, Clocked}
-use Rattle.sere_nfa.specs.Acceptance as nfa
-use Rattle.sere_nfa.specs.Acceptance.{Edge, State, state_at}
-use Rattle.sere_nfa.specs.Construction.{nfa_of}
+use Rattle.psl_tree.specs.SequenceAutomata as nfa
+use Rattle.psl_tree.specs.SequenceAutomata.{Edge, State, state_at}
+use Rattle.psl_tree.specs.SequenceConstruction.{nfa_of}
 use Rattle.alternating_theory.specs.Going.{goes_on, entry}
 use Rattle.alternating_theory.specs.Obligations.{Obligation}
 use Rattle.alternating_theory.specs.Positive.{Positive, Const, Holds, Owed, And, Or, renumbered, opposite}

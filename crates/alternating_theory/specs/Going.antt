@@ -1,6 +1,6 @@
 -- From which states of a sequence's automaton an end is reached, as a test that computes.
 use Rattle.std.specs.Prelude.{Bool as Truth, false, ◌||◌, ℕ, zero, suc, List, [], ◌∷◌, ◌++◌, length}
-use Rattle.sere_nfa.specs.Acceptance.{Edge, State, Automaton, state_at}
+use Rattle.psl_tree.specs.SequenceAutomata.{Edge, State, Automaton, state_at}
 
 -- some edge leads to a state that passes the test
 abbrev pub leads : (ℕ → Truth) → List Edge → Truth

@@ -1,9 +1,9 @@
 -- What holds of the automaton of each formula without clocks.
 use Rattle.std.specs.Prelude.{◌≡◌, ◌↔◌, ◌≤◌, ◌<◌, ◌+◌, ℕ, List, [], length, IsTrue, None}
-use Rattle.psl_meaning.specs.Followed.{Past, Nothing, Tops, Bottoms}
-use Rattle.psl_meaning.specs.Satisfaction.{Sat}
-use Rattle.psl_meaning.specs.Trace.{trace_of}
-use Rattle.psl_meaning.specs.Views.{weak, neutral, strong}
+use Rattle.psl_tree.specs.Followed.{Past, Nothing, Tops, Bottoms}
+use Rattle.psl_tree.specs.Satisfaction.{Sat}
+use Rattle.psl_tree.specs.Trace.{trace_of}
+use Rattle.psl_tree.specs.Views.{weak, neutral, strong}
 use Rattle.psl_tree.specs.Counts.{obligations_of}
 use Rattle.psl_tree.specs.Trees.{Formula}
 use Rattle.psl_tree.specs.declared.letter.Letter.{Letter}

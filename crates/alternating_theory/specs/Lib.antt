@@ -1,9 +1,14 @@
+pub mod Acceptance
+pub mod Atoms
 pub mod Built
 pub mod Construction
+pub mod CourseLaws
+pub mod Courses
 pub mod Dual
 pub mod Going
 pub mod Laws
 pub mod Literals
+pub mod LoopLaws
 pub mod Merged
 pub mod Obligations
 pub mod Positive

@@ -1,6 +1,6 @@
 -- Obligations, automata of them, and their values on finite words.
 use Rattle.std.specs.Prelude.{Bool as Truth, false, ℕ, zero, suc, ◌-◌, ◌≡◌, List, [], ◌∷◌, IsTrue}
-use Rattle.psl_meaning.specs.Followed.{Past, Nothing, Tops, Bottoms}
+use Rattle.psl_tree.specs.Followed.{Past, Nothing, Tops, Bottoms}
 use Rattle.psl_tree.specs.declared.letter.Letter.{Letter}
 use Rattle.alternating_theory.specs.Positive.{Positive, Const, met, owes}
 

@@ -1,7 +1,7 @@
 -- Worked examples of the construction: how many obligations some formulas have.
 use Rattle.std.specs.Prelude.{◌≡◌, ℕ, length}
-use Rattle.psl_meaning.specs.Sugar.{always, eventually, implication, next_strong}
-use Rattle.psl_meaning.specs.Rows.{a, b, a_then_false, asynchronous}
+use Rattle.psl_tree.specs.Sugar.{always, eventually, implication, next_strong}
+use Rattle.psl_tree.specs.Rows.{a, b, a_then_false, asynchronous}
 use Rattle.psl_tree.specs.Trees.{Formula, Now, And, Next, Strong, One, Concat}
 use Rattle.alternating_theory.specs.Built.{built}
 

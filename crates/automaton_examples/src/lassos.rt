@@ -1,5 +1,5 @@
 ghost use Rattle.std.specs.Prelude.{◌≡◌, ◌<◌, length, IfOk};
-ghost use Rattle.psl_meaning.specs.Clockless.{IsPlain, HasNoClock};
+ghost use Rattle.psl_tree.specs.Clockless.{IsPlain, HasNoClock};
 ghost use Rattle.psl_tree.specs.Trees.{formula_of, sequence_of};
 ghost use Rattle.lasso_judge.specs.Limits.{HasSmallSequences};
 

@@ -4,9 +4,9 @@ ghost use Rattle.circuit_theory.specs.Circuits.{IsSound};
 
 use circuit_theory::{Circuit, Gate, Gates, Literals};
 use psl_base::NoMemory;
+use run_formulas::{base, induction};
 use std::alloc::Global;
 use std::test::Fail;
-use window_formulas::{base, induction};
 
 // A state bit, an input that is true, and their conjunction, whose negation is the next state.
 fn example(alloc: Global) -> Result<Circuit, NoMemory>

@@ -8,7 +8,7 @@ use Rattle.psl_tree.specs.declared.atom.Atom.{Atom}
 use Rattle.psl_tree.specs.declared.letter.Letter.{Letter}
 use Rattle.psl_tree.specs.declared.letter.Letter.TheVariants.{Top, Bottom, Holds as Atoms}
 use Rattle.alternating_theory.specs.Positive.{Positive, Const, Holds, Owed, And, Or, met}
-use Rattle.alternating.specs.Atoms.{AtomsOfPositive}
+use Rattle.alternating_theory.specs.Atoms.{AtomsOfPositive}
 use Rattle.block_step.specs.Block.{TellsMet, MeetsAll, follows}
 use Rattle.block_step.specs.Plan.{bare, bare_positive}
 use Rattle.block_step.specs.Words.{words_at}

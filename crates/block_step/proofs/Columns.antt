@@ -9,7 +9,7 @@ use Rattle.psl_tree.specs.Trees.{Boolean, Test, Not, And, Or}
 use Rattle.psl_tree.specs.declared.atom.Atom.{Atom}
 use Rattle.psl_tree.specs.declared.letter.Letter.TheVariants.{Top, Bottom, Holds}
 use Rattle.alternating.proofs.Stepping.{held-moves}
-use Rattle.alternating.specs.Atoms.{is_among}
+use Rattle.alternating_theory.specs.Atoms.{is_among}
 use Rattle.alternating.specs.Packed.{bit}
 use Rattle.block_step.proofs.Bits.{bit-and, bit-or, bit-not}
 use Rattle.block_step.specs.Block.{TellsBoolean}

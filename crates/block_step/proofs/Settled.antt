@@ -5,14 +5,14 @@ use borrow.Author.Count.{below_none, below_more}
 use Rattle.std.proofs.lemmas.Bool.{cases_lt, and_parts}
 use Rattle.std.proofs.lemmas.Bool.Decides.{nat_tests}
 use Rattle.std.proofs.lemmas.List.{get_or_past, length-map}
-use Rattle.psl_meaning.specs.Followed.{Past}
+use Rattle.psl_tree.specs.Followed.{Past}
 use Rattle.psl_tree.specs.declared.atom.Atom.{Atom}
 use Rattle.psl_tree.specs.declared.letter.Letter.{Letter}
 use Rattle.alternating_theory.specs.Obligations.{Obligation, Automaton, obligation_at, value_of}
 use Rattle.alternating_theory.specs.Positive.{Positive}
 use Rattle.alternating_theory.proofs.Reached.{met-owed, same-number}
 use Rattle.alternating.proofs.Stepping.{mapped-value, never-value}
-use Rattle.alternating.specs.Atoms.{AtomsOfPositive, AtomsOfObligations, is_among}
+use Rattle.alternating_theory.specs.Atoms.{AtomsOfPositive, AtomsOfObligations, is_among}
 use Rattle.alternating.specs.Packed.{bit}
 use Rattle.alternating.specs.Stepped.{value_at, values_of}
 use Rattle.block_step.proofs.Bits.{bit-none}

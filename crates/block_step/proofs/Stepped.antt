@@ -1,7 +1,7 @@
 -- Steps over a block: words that are its values, and values that words show at all places.
 use Rattle.std.proofs.Common.{◌≡◌, refl, ap, sym, ◌∙◌, ℕ, zero, suc, ◌<◌, Bool as Truth, List, [], ◌∷◌, ◌++◌, length, arith}
 use Rattle.std.proofs.lemmas.List.{length-map}
-use Rattle.psl_meaning.specs.Followed.{Past, Nothing, Tops, Bottoms}
+use Rattle.psl_tree.specs.Followed.{Past, Nothing, Tops, Bottoms}
 use Rattle.psl_tree.specs.declared.atom.Atom.{Atom}
 use Rattle.psl_tree.specs.declared.letter.Letter.{Letter}
 use Rattle.alternating_theory.specs.Obligations.{Automaton, value_of, obligation_at}

@@ -1,6 +1,6 @@
 -- The values of all obligations at 64 letters, told by the equations that they meet.
 use Rattle.std.specs.Prelude.{◌≡◌, ◌==◌, IsTrue, ℕ, zero, suc, ◌-◌, ◌<◌, Bool as Truth, if◌then◌else◌, List, [], ◌∷◌, ◌++◌, length, slice_index, slice_index_or}
-use Rattle.psl_meaning.specs.Followed.{Past}
+use Rattle.psl_tree.specs.Followed.{Past}
 use Rattle.psl_tree.specs.Atoms.{AtomsOfBoolean}
 use Rattle.psl_tree.specs.Holds.{holds}
 use Rattle.psl_tree.specs.Trees.{Boolean}
@@ -9,7 +9,7 @@ use Rattle.psl_tree.specs.declared.letter.Letter.{Letter}
 use Rattle.psl_tree.specs.declared.letter.Letter.TheVariants.{Holds}
 use Rattle.alternating_theory.specs.Obligations.{Automaton}
 use Rattle.alternating_theory.specs.Positive.{Positive, met}
-use Rattle.alternating.specs.Atoms.{AtomsOfPositive, AtomsOfObligations, is_among}
+use Rattle.alternating_theory.specs.Atoms.{AtomsOfPositive, AtomsOfObligations, is_among}
 use Rattle.alternating.specs.Packed.{bit, is_held}
 use Rattle.alternating.specs.Stepped.{value_at, values_of}
 use Rattle.block_step.specs.Words.{InEachView, words_at}

@@ -1,10 +1,10 @@
 -- The values of all obligations in the three views, a step back over a letter and one over 64 letters.
 use Rattle.std.specs.Prelude.{◌≡◌, IsTrue, ◌-◌, ◌<◌, ℕ, Bool as Truth, List, ◌++◌, length}
-use Rattle.psl_meaning.specs.Followed.{Past, Nothing, Tops, Bottoms}
+use Rattle.psl_tree.specs.Followed.{Past, Nothing, Tops, Bottoms}
 use Rattle.psl_tree.specs.declared.atom.Atom.{Atom}
 use Rattle.psl_tree.specs.declared.letter.Letter.{Letter}
 use Rattle.alternating_theory.specs.Obligations.{Automaton}
-use Rattle.alternating.specs.Atoms.{AtomsOfObligations, is_among}
+use Rattle.alternating_theory.specs.Atoms.{AtomsOfObligations, is_among}
 use Rattle.alternating.specs.Packed.{bit}
 use Rattle.alternating.specs.Stepped.{value_at, values_of, StepsBack}
 use Rattle.block_step.specs.Block.{PacksBlock, letters_from}

@@ -1,6 +1,6 @@
 // The terms of obligations, whose literals are held.
 ghost use Rattle.std.specs.Prelude.{◌≡◌, ◌<◌, ◌≤◌, length};
-ghost use Rattle.alternating.specs.Atoms.{AtomsOfObligations, AtomsOfPositive};
+ghost use Rattle.alternating_theory.specs.Atoms.{AtomsOfObligations, AtomsOfPositive};
 ghost use Rattle.alternating_theory.specs.Obligations.{obligation_at};
 ghost use Rattle.run_gates.specs.Building.{Builds, BuildsAll};
 ghost use Rattle.search_theory.specs.Searches.{obligation_term, obligation_terms};

@@ -2,7 +2,7 @@
 use Rattle.std.proofs.Common.{◌≡◌, ◌∙◌, ap, sym, subst, ℕ, ℤ, Bool as Truth, true, false, List, Option, Some, refl}
 use Rattle.std.specs.Bool.{IsTrue}
 use Rattle.std.proofs.lemmas.Bool.{false≢true}
-use Rattle.alternating_loops.specs.Acceptance.{Accepts}
+use Rattle.alternating_theory.specs.Acceptance.{Accepts}
 use Rattle.alternating_theory.specs.Obligations.{Automaton}
 use Rattle.certificate.specs.declared.header.Asked.{Asked}
 use Rattle.certificate.specs.declared.header.Section.TheVariants.{Base, Induction}

@@ -18,8 +18,8 @@ use Rattle.netlist.specs.Runs.{IsRun, word}
 use Rattle.netlist.specs.declared.run.Run.{Run}
 use Rattle.owed.specs.Owed.{is_assertion, owed}
 use Rattle.owed.specs.Violations.{violation_of}
-use Rattle.psl_meaning.specs.Satisfaction.{Sat}
-use Rattle.psl_meaning.specs.Trace.{trace_of}
+use Rattle.psl_tree.specs.Satisfaction.{Sat}
+use Rattle.psl_tree.specs.Trace.{trace_of}
 use Rattle.psl_tree.specs.declared.directive.Directive.{Directive}
 use Rattle.psl_tree.specs.declared.directive.Kind.TheVariants.{Assert}
 

@@ -5,8 +5,8 @@ use Rattle.clock_rewrite.proofs.Atoms.{plain_atoms}
 use Rattle.clock_rewrite.proofs.Clockless.{plain_plain}
 use Rattle.clock_rewrite.proofs.Meaning.{plain_words}
 use Rattle.clock_rewrite.specs.Clock.{HasSameWords, KeepsAtoms}
-use Rattle.psl_meaning.specs.Clockless.{IsPlain}
-use Rattle.psl_meaning.specs.Plain.{plain}
+use Rattle.psl_tree.specs.Clockless.{IsPlain}
+use Rattle.psl_tree.specs.Plain.{plain}
 use Rattle.psl_tree.specs.Trees.{Boolean, Formula}
 
 pub answer_clockless : (new f : Formula) (c : Option Boolean) → new ≡ plain f c → IsPlain new

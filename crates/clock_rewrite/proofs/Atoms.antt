@@ -1,7 +1,7 @@
 -- Each atom of the rewritten form is one of the form or of the clock.
 use Rattle.std.specs.Prelude.{IsTrue, Option, None, Some}
 use Rattle.clock_rewrite.specs.Clock.{AtomsOfClock, KeepsAtoms}
-use Rattle.psl_meaning.specs.Plain.{plain, plain_sequence}
+use Rattle.psl_tree.specs.Plain.{plain, plain_sequence}
 use Rattle.psl_tree.specs.Atoms.{AtomsOfSequence, AtomsOfFormula}
 use Rattle.psl_tree.specs.Trees.{Boolean, Sequence, Formula, Empty, One, Concat, Fuse, Either, Both, Star, Now, NowStrong, Weak, Strong, Not, And, Next, Until, Suffix, Abort, SyncAbort, Clocked}
 use Rattle.psl_tree.specs.declared.atom.Atom.{Atom}

@@ -1,7 +1,7 @@
 -- The rewritten form has no clock and no synchronous abort.
 use Rattle.std.specs.Prelude.{Option, None, Some}
-use Rattle.psl_meaning.specs.Clockless.{HasNoClock, IsPlain}
-use Rattle.psl_meaning.specs.Plain.{plain, plain_sequence}
+use Rattle.psl_tree.specs.Clockless.{HasNoClock, IsPlain}
+use Rattle.psl_tree.specs.Plain.{plain, plain_sequence}
 use Rattle.psl_tree.specs.Trees.{Boolean, Sequence, Formula, Empty, One, Concat, Fuse, Either, Both, Star, Now, NowStrong, Weak, Strong, Not, And, Next, Until, Suffix, Abort, SyncAbort, Clocked}
 
 pub plain_sequence_plain : (r : Sequence) (c : Option Boolean) → HasNoClock (plain_sequence r c)

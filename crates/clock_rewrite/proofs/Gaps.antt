@@ -4,7 +4,7 @@ use Rattle.std.specs.Prelude.{IsTrue, is_some, nat_lt, if◌then◌else◌, slic
 use Rattle.std.proofs.lemmas.Bool.{le-ltb, ltb-true}
 use Rattle.std.proofs.lemmas.Option.{slice_get-get_or}
 use Rattle.clock_rewrite.proofs.Letters.{stands-dual}
-use Rattle.psl_meaning.specs.Trace.{Trace, for_ever, after, trace_of, suffix, dual, cut, is_place}
+use Rattle.psl_tree.specs.Trace.{Trace, for_ever, after, trace_of, suffix, dual, cut, is_place}
 use Rattle.psl_tree.specs.declared.letter.Letter.{Letter}
 use Rattle.psl_tree.specs.declared.letter.Letter.TheVariants.{Top}
 use Rattle.psl_tree.specs.declared.letter.Word.{Word}

@@ -2,7 +2,7 @@
 use Rattle.std.proofs.Common.{◌≡◌, refl, sym, subst, Bool, Option, None, Some}
 use Rattle.std.specs.Prelude.{◌↔◌, IsTrue, ◌&&◌, not, is_some}
 use Rattle.std.proofs.lemmas.Bool.{false≢true, false_from_ne_true, and_parts, and_from, not-true, not_from_false, both_ways}
-use Rattle.psl_meaning.specs.Trace.{dual_letter, dual_at, holds_where}
+use Rattle.psl_tree.specs.Trace.{dual_letter, dual_at, holds_where}
 use Rattle.psl_tree.specs.Holds.{holds}
 use Rattle.psl_tree.specs.Trees.{Boolean, Not, And}
 use Rattle.psl_tree.specs.declared.letter.Letter.{Letter}

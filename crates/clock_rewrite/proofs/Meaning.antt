@@ -4,10 +4,10 @@ use Rattle.clock_rewrite.proofs.Gaps.{suffix-gaps, dual-gaps, word-gaps}
 use Rattle.clock_rewrite.proofs.Sequences.{tight-same}
 use Rattle.clock_rewrite.proofs.UnderClock.{IsRewritten, now-row, now_strong-row, next-row, until-row, abort-row, sync_abort-row}
 use Rattle.clock_rewrite.specs.Clock.{HasSameWords}
-use Rattle.psl_meaning.proofs.Choice.{exists-same}
-use Rattle.psl_meaning.specs.Plain.{plain, plain_sequence}
-use Rattle.psl_meaning.specs.Satisfaction.{HasTightPrefix}
-use Rattle.psl_meaning.specs.Trace.{Trace, suffix, dual, cut, first, trace_of}
+use Rattle.psl_tree.proofs.Choice.{exists-same}
+use Rattle.psl_tree.specs.Plain.{plain, plain_sequence}
+use Rattle.psl_tree.specs.Satisfaction.{HasTightPrefix}
+use Rattle.psl_tree.specs.Trace.{Trace, suffix, dual, cut, first, trace_of}
 use Rattle.psl_tree.specs.Trees.{Boolean, Sequence, Formula, Now, NowStrong, Weak, Strong, Not, And, Next, Until, Suffix, Abort, SyncAbort, Clocked}
 
 prefix-same : (w : Trace) (r : Sequence) (c : Option Boolean) → HasTightPrefix w (plain_sequence r c) None ↔ HasTightPrefix w r c

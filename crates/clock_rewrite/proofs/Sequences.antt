@@ -2,9 +2,9 @@
 use Rattle.std.proofs.Common.{refl, sym, ◌∙◌, ap, subst, List, [], ◌∷◌, ◌++◌, Option, None, Some, inl, inr}
 use Rattle.std.specs.Prelude.{◌↔◌, ◌⊎◌}
 use Rattle.clock_rewrite.proofs.Letters.{and-holds}
-use Rattle.psl_meaning.specs.Plain.{plain_sequence, one_at_tick}
-use Rattle.psl_meaning.specs.Tick.{EachHolds, IsTickWith}
-use Rattle.psl_meaning.specs.Tight.{Tight, Repeats, no_part, one_more}
+use Rattle.psl_tree.specs.Plain.{plain_sequence, one_at_tick}
+use Rattle.psl_tree.specs.Tick.{EachHolds, IsTickWith}
+use Rattle.psl_tree.specs.Tight.{Tight, Repeats, no_part, one_more}
 use Rattle.psl_tree.specs.Trees.{Boolean, Sequence, Not, Empty, One, Concat, Fuse, Either, Both, Star, Clocked}
 use Rattle.psl_tree.specs.declared.letter.Letter.{Letter}
 

@@ -1,8 +1,8 @@
 -- Satisfaction follows from its double negation.
 use Rattle.std.specs.Prelude.{Option, None, Some}
-use Rattle.psl_meaning.proofs.Choice.{stable-true}
-use Rattle.psl_meaning.specs.Satisfaction.{Sat}
-use Rattle.psl_meaning.specs.Trace.{Trace, suffix, is_place, holds_at}
+use Rattle.psl_tree.proofs.Choice.{stable-true}
+use Rattle.psl_tree.specs.Satisfaction.{Sat}
+use Rattle.psl_tree.specs.Trace.{Trace, suffix, is_place, holds_at}
 use Rattle.psl_tree.specs.Trees.{Boolean, Formula, Now, NowStrong, Weak, Strong, Not, And, Next, Until, Suffix, Abort, SyncAbort, Clocked}
 
 -- a negation does: each "some" and "or" is one

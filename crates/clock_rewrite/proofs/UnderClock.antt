@@ -5,13 +5,13 @@ use mathlib.Core.Path.{fun_ext}
 use Rattle.clock_rewrite.proofs.Gaps.{HasNoGaps, suffix-gaps, dual-gaps, cut-gaps, place-dual, place-undual}
 use Rattle.clock_rewrite.proofs.Letters.{stands, and-holds, not-holds_dual}
 use Rattle.clock_rewrite.proofs.Stable.{stable}
-use Rattle.psl_meaning.proofs.Choice.{stable-true, from-exists, exists-map, exists-same, either-same, iff-trans}
-use Rattle.psl_meaning.proofs.Traces.{plus-zero, dual-twice}
-use Rattle.psl_meaning.specs.Classical.{Exists}
-use Rattle.psl_meaning.specs.Plain.{no_tick, tick_with, at_tick, first_tick, now_at_tick, plain}
-use Rattle.psl_meaning.specs.Satisfaction.{Sat}
-use Rattle.psl_meaning.specs.Tick.{IsTick}
-use Rattle.psl_meaning.specs.Trace.{Trace, suffix, dual, cut, is_place, holds_at}
+use Rattle.psl_tree.proofs.Choice.{stable-true, from-exists, exists-map, exists-same, either-same, iff-trans}
+use Rattle.psl_tree.proofs.Traces.{plus-zero, dual-twice}
+use Rattle.psl_tree.specs.Classical.{Exists}
+use Rattle.psl_tree.specs.Plain.{no_tick, tick_with, at_tick, first_tick, now_at_tick, plain}
+use Rattle.psl_tree.specs.Satisfaction.{Sat}
+use Rattle.psl_tree.specs.Tick.{IsTick}
+use Rattle.psl_tree.specs.Trace.{Trace, suffix, dual, cut, is_place, holds_at}
 use Rattle.psl_tree.specs.Trees.{Boolean, Formula, Now, NowStrong, Not, And, Next, Until, Abort, SyncAbort}
 
 -- the rewritten formula is satisfied by the traces without gaps that satisfy the formula under the clock

@@ -1,9 +1,9 @@
 -- The clock that is in force, the forms that differ with it, and what rewriting keeps.
 use Rattle.std.specs.Prelude.{Bool as Truth, IsTrue, ◌↔◌, Option, None, Some}
 use Rattle.std.specs.Borrow.{Bor}
-use Rattle.psl_meaning.specs.Plain.{next_at_tick, until_at_tick}
-use Rattle.psl_meaning.specs.Satisfaction.{Sat}
-use Rattle.psl_meaning.specs.Trace.{trace_of}
+use Rattle.psl_tree.specs.Plain.{next_at_tick, until_at_tick}
+use Rattle.psl_tree.specs.Satisfaction.{Sat}
+use Rattle.psl_tree.specs.Trace.{trace_of}
 use Rattle.psl_tree.specs.Atoms.{AtomsOfBoolean, AtomsOfFormula}
 use Rattle.psl_tree.specs.Trees.{Boolean, Formula, And, Next, Until, boolean_of}
 use Rattle.psl_tree.specs.declared.atom.Atom.{Atom}

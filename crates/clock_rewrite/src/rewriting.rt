@@ -1,7 +1,7 @@
 ghost use Rattle.std.specs.Prelude.{◌≡◌, IfOk};
 ghost use Rattle.clock_rewrite.specs.Clock.{clock_of, HasSameWords, KeepsAtoms};
-ghost use Rattle.psl_meaning.specs.Clockless.{IsPlain};
-ghost use Rattle.psl_meaning.specs.Plain.{plain, plain_sequence};
+ghost use Rattle.psl_tree.specs.Clockless.{IsPlain};
+ghost use Rattle.psl_tree.specs.Plain.{plain, plain_sequence};
 ghost use Rattle.psl_tree.specs.Trees.{sequence_of, formula_of};
 
 use crate::rows::{next, now, now_strong, one, stop, until};

@@ -1,6 +1,6 @@
 ghost use Rattle.std.specs.Prelude.{◌≡◌, IfOk};
 ghost use Rattle.clock_rewrite.specs.Clock.{clock_of, next_under, until_under, stop_under};
-ghost use Rattle.psl_meaning.specs.Plain.{plain, plain_sequence};
+ghost use Rattle.psl_tree.specs.Plain.{plain, plain_sequence};
 ghost use Rattle.psl_tree.specs.Trees.{boolean_of, sequence_of, formula_of, One, Now, NowStrong};
 
 use crate::ticks::{next_at_tick, now_at_tick, now_strong_at_tick, one_at_tick, until_at_tick};

@@ -1,5 +1,5 @@
 ghost use Rattle.std.specs.Prelude.{◌≡◌, IfOk};
-ghost use Rattle.psl_meaning.specs.Plain.{no_tick, tick_with, at_tick, one_at_tick, now_at_tick, now_strong_at_tick, first_tick, next_at_tick, until_at_tick};
+ghost use Rattle.psl_tree.specs.Plain.{no_tick, tick_with, at_tick, one_at_tick, now_at_tick, now_strong_at_tick, first_tick, next_at_tick, until_at_tick};
 ghost use Rattle.psl_tree.specs.Trees.{boolean_of, sequence_of, formula_of};
 
 use crate::trees::{and, clock_and, next, no, not, now, until};

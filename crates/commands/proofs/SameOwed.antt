@@ -15,7 +15,7 @@ use Rattle.work_limits.specs.Sized as sized
 use Rattle.work_limits.specs.Sized.{IsSized}
 use Rattle.work_limits.specs.declared.sizes.LimitFault.TheVariants as limits
 use Rattle.psl_elaboration.specs.Answers.{Numbered, directive_of}
-use Rattle.psl_meaning.specs.Plain.{plain}
+use Rattle.psl_tree.specs.Plain.{plain}
 use Rattle.psl_tree.specs.Trees.{Formula, formula_of}
 use Rattle.psl_tree.specs.declared.directive.Directive.{Directive}
 use Rattle.psl_tree.specs.declared.directive.Kind.{Kind}

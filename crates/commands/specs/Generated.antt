@@ -1,6 +1,6 @@
 -- `gen SEED SAMPLES`: the verdict of `assert always (req -> next! ack);` on a recording that is made from the seed.
 use Rattle.std.specs.Prelude.{◌≡◌, ℕ, List, [], ◌∷◌, length, None, Result, Ok}
-use Rattle.psl_meaning.specs.Sugar.{always, implication, next_strong}
+use Rattle.psl_tree.specs.Sugar.{always, implication, next_strong}
 use Rattle.psl_tree.specs.declared.atom.Atom.{Atom}
 use Rattle.psl_tree.specs.declared.atom.Edge.TheVariants.{Value}
 use Rattle.psl_tree.specs.declared.directive.Directive.{Directive}

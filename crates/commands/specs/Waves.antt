@@ -11,9 +11,9 @@ use Rattle.psl_elaboration.specs.Answers.{IsUnit, IsLayerFault}
 use Rattle.psl_lexer.specs.declared.token.Token.{Token}
 use Rattle.psl_lexer.specs.Faults.{IsFirstFault}
 use Rattle.psl_lexer.specs.Lexed.{IsLexed}
-use Rattle.psl_meaning.specs.Plain.{plain}
+use Rattle.psl_tree.specs.Plain.{plain}
 use Rattle.psl_parser.specs.Parsing.{IsParsed, IsParseFault}
-use Rattle.psl_tree.specs.CanonicalText.{formula_text}
+use Rattle.canonical_text.specs.CanonicalText.{formula_text}
 use Rattle.psl_tree.specs.Counts.{obligations_of, shown}
 use Rattle.psl_tree.specs.declared.directive.Directive.{Directive}
 use Rattle.psl_tree.specs.declared.name.Name.{Name}

@@ -1,5 +1,5 @@
 ghost use Rattle.std.specs.Prelude.{◌≡◌, ◌∷◌, [], All, map, None, IfOk};
-ghost use Rattle.psl_meaning.specs.Plain.{plain};
+ghost use Rattle.psl_tree.specs.Plain.{plain};
 ghost use Rattle.psl_tree.specs.Atoms.{AtomsOfFormula};
 ghost use Rattle.psl_tree.specs.Counts.{obligations_of, shown};
 ghost use Rattle.psl_tree.specs.Names.{AtomInRange, AreAlike};
@@ -10,10 +10,11 @@ ghost use Rattle.commands.specs.Waves.{LinesReading, ShowStage, ShowNetlistStage
 use crate::directives::directives;
 use crate::inputs::{load_circuit, load_inputs};
 use crate::outcome::{Fault, Line, Lines};
+use canonical_text::print_fl;
 use clock_rewrite::unclock;
 use psl_base::{NoMemory, Shelf, Text};
 use psl_grammar::UnitTree;
-use psl_tree::{Directive, Fl, Names, obligations, print_fl};
+use psl_tree::{Directive, Fl, Names, obligations};
 use std::alloc::Global;
 use vcd_reader::Unknown;
 

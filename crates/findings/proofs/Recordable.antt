@@ -12,7 +12,7 @@ use Rattle.prover.specs.Tasks.{IsProvable}
 use Rattle.prover.specs.declared.finding.Finding.{Finding}
 use Rattle.prover.specs.declared.finding.Finding.TheVariants as findings
 use Rattle.prover.specs.declared.task.Task.{Task}
-use Rattle.psl_meaning.specs.Plain.{plain}
+use Rattle.psl_tree.specs.Plain.{plain}
 use Rattle.psl_tree.specs.Counts.{formula_size, obligations_of}
 use Rattle.psl_tree.specs.Trees.{Formula, formula_of}
 use Rattle.psl_tree.specs.declared.counts.TheConstants.{MOST_CONSTRUCTORS, MOST_OBLIGATIONS}

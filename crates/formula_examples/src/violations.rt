@@ -1,6 +1,6 @@
 // Formulas, and their automata.
 ghost use Rattle.std.specs.Prelude.{IfOk};
-ghost use Rattle.psl_meaning.specs.Clockless.{IsPlain};
+ghost use Rattle.psl_tree.specs.Clockless.{IsPlain};
 ghost use Rattle.psl_tree.specs.Trees.{formula_of};
 ghost use Rattle.run_terms.specs.Automata.{TestsSignals};
 

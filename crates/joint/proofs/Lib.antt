@@ -1,7 +1,10 @@
 pub mod Asked
 pub mod Circuits
 pub mod Frames
+pub mod Paths
 pub mod Pushes
+pub mod Readings
 pub mod Soundness
+pub mod States
 pub mod Tests
 pub mod Windows

@@ -1,7 +1,7 @@
 -- What an automaton tests are signals of a netlist, so their numbers are below that of the signals.
 use Rattle.std.proofs.Common.{ℕ, ◌<◌, List, [], ◌∷◌}
 use Rattle.std.specs.Prelude.{All}
-use Rattle.alternating.specs.Atoms.{AtomsOfObligations}
+use Rattle.alternating_theory.specs.Atoms.{AtomsOfObligations}
 use Rattle.alternating_theory.specs.Obligations.{Obligation}
 use Rattle.netlist.specs.Sound.{NamesBit}
 use Rattle.psl_tree.specs.Names.{AtomInRange}

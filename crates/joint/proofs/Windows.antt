@@ -8,7 +8,7 @@ use Rattle.circuit_theory.specs.Sizes.{IsTooLarge}
 use Rattle.circuit_theory.specs.Unrolled.{moved, units}
 use Rattle.netlist.specs.Design.{Design}
 use Rattle.run_formulas.specs.Adding.{held_to}
-use Rattle.window_formulas.specs.Windows as windows
+use Rattle.run_formulas.specs.Windows as windows
 use Rattle.joint_theory.specs.Bits.{bad_bit}
 use Rattle.joint_theory.specs.Queries.{base, base_variables, induction, induction_variables, joint_circuit, start_literals}
 

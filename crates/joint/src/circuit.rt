@@ -1,6 +1,6 @@
 // The circuit of the joint states.
 ghost use Rattle.std.specs.Prelude.{◌≡◌, ◌+◌, ◌<◌, ◌≤◌, length, IfOk, IfErr};
-ghost use Rattle.alternating.specs.Atoms.{AtomsOfObligations};
+ghost use Rattle.alternating_theory.specs.Atoms.{AtomsOfObligations};
 ghost use Rattle.circuit_theory.specs.Distinct as distinct;
 ghost use Rattle.clauses.specs.declared.flat.CnfFault.{CnfFault};
 ghost use Rattle.clauses.specs.declared.flat.TheConstants.{MOST_VARIABLES};

@@ -3,18 +3,24 @@
 #![tactic(auto)]
 
 mod asking;
+mod bits;
 mod circuit;
 mod each;
 mod facts;
 mod joined;
 mod literals;
 mod making;
+mod model_state;
+mod path;
 mod product;
 mod queries;
 mod reading;
+mod shape;
 mod starts;
 mod state;
 mod step;
 
 pub use joined::Joint;
 pub use making::joint;
+pub use path::read_path;
+pub use shape::Shape;

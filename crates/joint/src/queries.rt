@@ -12,8 +12,8 @@ use crate::starts::start_literals;
 use circuit_theory::Circuit;
 use clauses::{Cnf, CnfFault};
 use psl_base::NoMemory;
+use run_formulas::{base, induction};
 use std::alloc::Global;
-use window_formulas::{base, induction};
 
 /// An initial state, and a bad one among so many positions as the window.
 pub(crate) fn base_of(

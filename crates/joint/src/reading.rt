@@ -5,7 +5,8 @@ ghost use Rattle.joint_theory.specs.Queries.{path_of, query, query_variables};
 ghost use Rattle.run_terms.specs.Formulas.{values_of};
 
 use crate::joined::Joint;
-use joint_paths::{Shape, read_path as path_of_model};
+use crate::path::read_path as path_of_model;
+use crate::shape::Shape;
 use joint_theory::JointPath;
 use psl_base::{Bits, NoMemory};
 use run_gates::automaton_law;

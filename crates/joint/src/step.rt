@@ -1,6 +1,6 @@
 // What a joint state asks of the one that follows it.
 ghost use Rattle.std.specs.Prelude.{◌≡◌, suc, ◌<◌, ◌≤◌, ⊤, ◌∷◌, [], IsTrue, All, IfOk};
-ghost use Rattle.alternating.specs.Atoms.{AtomsOfObligations};
+ghost use Rattle.alternating_theory.specs.Atoms.{AtomsOfObligations};
 ghost use Rattle.circuit_theory.specs.Terms.Term.{Literal};
 ghost use Rattle.clauses.specs.Literals.{is_literal};
 ghost use Rattle.joint_theory.specs.Bits.{count_of, owed_bit};

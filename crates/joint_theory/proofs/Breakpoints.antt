@@ -10,8 +10,8 @@ use Rattle.std.proofs.lemmas.List.Kept.{IsStrictlyIncreasing-filter}
 use Rattle.psl_tree.specs.declared.letter.Letter.{Letter}
 use Rattle.alternating_theory.specs.Obligations.{Automaton}
 use Rattle.alternating_theory.specs.Positive.{met}
-use Rattle.alternating_loops.specs.Acceptance.{serves, IsRun}
-use Rattle.alternating_loops.proofs.MetOwed.{met-grows}
+use Rattle.alternating_theory.specs.Acceptance.{serves, IsRun}
+use Rattle.alternating_theory.proofs.MetOwed.{met-grows}
 use Rattle.netlist.specs.Design.{Design}
 use Rattle.netlist.specs.Valuations.{IsValuation, IsInitial as IsInitialValuation, IsStep}
 use Rattle.run_terms.specs.Letters.{letter_after}

@@ -2,7 +2,7 @@
 use Rattle.std.proofs.Common.{ℕ, suc, ◌*◌, ◌≤◌, ◌↔◌, Bool as Truth, true, false}
 use Rattle.std.specs.Prelude.{IsTrue}
 use Rattle.alternating_theory.specs.Obligations.{Automaton}
-use Rattle.alternating_loops.specs.Acceptance.{Accepts}
+use Rattle.alternating_theory.specs.Acceptance.{Accepts}
 use Rattle.clauses.specs.Literals.{clause_words, clauses_within}
 use Rattle.clauses.specs.Models.{Assignment, IsModel}
 use Rattle.netlist.specs.Design.{Design}

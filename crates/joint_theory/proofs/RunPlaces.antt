@@ -7,7 +7,7 @@ use Rattle.std.proofs.lemmas.List.{length-append, length-map, length-take-le, ge
 use Rattle.std.proofs.lemmas.List.FromFn.{length-range_with_len}
 use Rattle.psl_tree.specs.Letters.{letter_at}
 use Rattle.psl_tree.specs.declared.letter.Word.{Word}
-use Rattle.lasso_theory.specs.Courses.{next_place, places}
+use Rattle.alternating_theory.specs.Courses.{next_place, places}
 use Rattle.netlist.specs.Design.{Design}
 use Rattle.netlist.specs.Runs.{walk_of, valuation_at, bits_of, word, IsRun}
 use Rattle.netlist.specs.Valuations.{IsStep}

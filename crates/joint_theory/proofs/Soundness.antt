@@ -1,8 +1,8 @@
 -- Where a window has no open path, the automaton accepts the word of no run.
 use Rattle.std.proofs.Common.{ℕ, refl, arith}
-use Rattle.lasso_theory.specs.Courses.{letter_at as word_letter, next_place, places}
+use Rattle.alternating_theory.specs.Courses.{letter_at as word_letter, next_place, places}
 use Rattle.alternating_theory.specs.Obligations.{Automaton}
-use Rattle.alternating_loops.specs.Acceptance.{Accepts}
+use Rattle.alternating_theory.specs.Acceptance.{Accepts}
 use Rattle.netlist.specs.Design.{Design}
 use Rattle.netlist.specs.Runs.{valuation_at, word, IsRun}
 use Rattle.netlist.specs.declared.run.Run.{Run}

@@ -5,7 +5,7 @@ use Rattle.std.specs.List.{list_all, range_with_len}
 use Rattle.std.proofs.lemmas.Bool.{cases_Bool, cases_eq, both_ways, and_parts, and_from, or_left, or_right, lt-ltb, le-ltb, ltb-true, ltb-false, not-true, not_from_false, false_from_ne_true, eq-eqb, eqb-true, ne_eqb}
 use Rattle.std.proofs.lemmas.List.Elements.{All-filter}
 use Rattle.std.proofs.lemmas.List.Kept.{IsStrictlyIncreasing-filter}
-use Rattle.alternating.specs.Atoms.{AtomsOfObligations, AtomsOfPositive}
+use Rattle.alternating_theory.specs.Atoms.{AtomsOfObligations, AtomsOfPositive}
 use Rattle.alternating_theory.specs.Obligations.{Automaton, Obligation, obligation_at}
 use Rattle.alternating_theory.specs.Positive.{met}
 use Rattle.alternating_theory.proofs.MetLaws.{met-same}

@@ -1,6 +1,6 @@
 // What follows from the definitions alone.
 ghost use Rattle.std.specs.Prelude.{ℕ, suc, ◌*◌, ◌≤◌, ◌↔◌, Bool as Truth, true, false, IsTrue};
-ghost use Rattle.alternating_loops.specs.Acceptance.{Accepts};
+ghost use Rattle.alternating_theory.specs.Acceptance.{Accepts};
 ghost use Rattle.alternating_theory.specs.Obligations.{Automaton};
 ghost use Rattle.circuit_theory.specs.Circuits as circuits;
 ghost use Rattle.clauses.specs.Literals.{clause_words, clauses_within};

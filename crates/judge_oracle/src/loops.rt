@@ -1,6 +1,6 @@
 ghost use Rattle.std.specs.Prelude.{◌<◌, length, IsTrue, IfOk};
 ghost use Rattle.lasso_judge.specs.Limits.{HasSmallSequences};
-ghost use Rattle.psl_meaning.specs.Clockless.{IsPlain};
+ghost use Rattle.psl_tree.specs.Clockless.{IsPlain};
 ghost use Rattle.psl_tree.specs.Trees.{formula_of};
 
 use crate::fault::Fault;

@@ -4,10 +4,10 @@ use Rattle.std.specs.Prelude.{IsTrue, slice_index_or}
 use Rattle.std.proofs.lemmas.Nat.{div_below, mod_below}
 use Rattle.psl_tree.specs.declared.letter.Letter.{Letter}
 use Rattle.psl_tree.specs.declared.letter.Word.{Word}
-use Rattle.sere_nfa.specs.Acceptance.{state_at}
+use Rattle.psl_tree.specs.SequenceAutomata.{state_at}
 use Rattle.sere_nfa.specs.Marking.{Marking, is_marked, visit_all}
 use Rattle.sere_nfa.proofs.Reach.{EachBelow, work}
-use Rattle.sere_nfa.proofs.Steps.{StepTo}
+use Rattle.psl_tree.proofs.SequenceSteps.{StepTo}
 use Rattle.lasso_judge.specs.Arrows.{places_from, IsChart}
 use Rattle.lasso_judge.specs.Cells.{cells_back, fresh_back, ends_at, numbers_below, AreHits, fall_all, AreFallen, IsFirstFallen}
 use Rattle.lasso_judge.specs.Seen.{seen_at, course_by, IsWhole}

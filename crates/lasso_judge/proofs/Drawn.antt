@@ -5,9 +5,9 @@ use Rattle.std.proofs.lemmas.Bool.{cases_lt, both_ways, eq-eqb}
 use Rattle.std.proofs.lemmas.Bool.Decides.{nat_tests}
 use Rattle.std.proofs.lemmas.List.{length-append, get_or_append_left, get_or-append_right, get_or-map, get_or_default, length-map}
 use Rattle.psl_tree.specs.Trees.{Const, Sequence}
-use Rattle.sere_nfa.specs.Acceptance.{Edge, State, state_at, IsSound}
+use Rattle.psl_tree.specs.SequenceAutomata.{Edge, State, state_at, IsSound}
 use Rattle.std.proofs.lemmas.Nat.{div_below, mod_below}
-use Rattle.sere_nfa.specs.Construction.{nfa_of, part_of, Draft, shown as shown-draft}
+use Rattle.psl_tree.specs.SequenceConstruction.{nfa_of, part_of, Draft, shown as shown-draft}
 use Rattle.sere_nfa.proofs.Reach.{Member}
 use Rattle.lasso_judge.specs.Arrows.{edge_at, arrow_at, arrows_in, arrows_below, places_from, IsArrow}
 use Rattle.lasso_judge.specs.declared.chart.Arrow.{Arrow}

@@ -7,9 +7,9 @@ use Rattle.std.proofs.lemmas.List.{get_or-map, length-map}
 use Rattle.psl_tree.specs.Holds.{holds}
 use Rattle.psl_tree.specs.Trees.{Const}
 use Rattle.psl_tree.specs.declared.letter.Letter.{Letter}
-use Rattle.sere_nfa.specs.Acceptance.{Edge, State, Automaton, state_at, IsSound}
+use Rattle.psl_tree.specs.SequenceAutomata.{Edge, State, Automaton, state_at, IsSound}
 use Rattle.sere_nfa.proofs.Reach.{Member}
-use Rattle.sere_nfa.proofs.Steps.{StepTo}
+use Rattle.psl_tree.proofs.SequenceSteps.{StepTo}
 use Rattle.lasso_judge.specs.Arrows.{edge_at, arrow_at, label_of, arrows_below, places_from}
 use Rattle.lasso_judge.specs.Cells.{cell_of, cells_at, cells_back}
 use Rattle.lasso_judge.specs.declared.chart.Arrow.{Arrow}

@@ -5,13 +5,13 @@ use Rattle.std.proofs.lemmas.Bool.{cases_lt, cases_eq, lt-ltb, le-ltb, eq-eqb, b
 use Rattle.std.proofs.lemmas.Bool.Decides.{nat_tests}
 use Rattle.std.proofs.lemmas.List.{length-append}
 use mathlib.Core.Path.{fun_ext}
-use Rattle.psl_meaning.specs.Trace.{dual_letter}
+use Rattle.psl_tree.specs.Trace.{dual_letter}
 use Rattle.psl_tree.specs.Holds.{holds}
 use Rattle.psl_tree.specs.Trees.{Boolean}
 use Rattle.psl_tree.specs.declared.letter.Letter.{Letter}
 use Rattle.psl_tree.specs.declared.letter.Letter.TheVariants.{Top, Bottom, Holds}
 use Rattle.psl_tree.specs.declared.letter.Word.{Word}
-use Rattle.lasso_theory.specs.Courses.{Course, walk, read_from, opposite, stopped, letter_in, places, letter_at, next_place, course_of}
+use Rattle.alternating_theory.specs.Courses.{Course, walk, read_from, opposite, stopped, letter_in, places, letter_at, next_place, course_of}
 use Rattle.lasso_judge.specs.Seen.{seen, seen_at, course_by, IsWhole, sink_of}
 use Rattle.lasso_judge.specs.Tables.{value_at, Has, Leads}
 use Rattle.lasso_judge.proofs.Letters.{past}

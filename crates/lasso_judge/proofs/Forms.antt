@@ -3,18 +3,18 @@ use Rattle.std.proofs.Common.{◌≡◌, refl, sym, ap, ◌∙◌, subst, ℕ, �
 use Rattle.std.specs.Prelude.{◌↔◌, ◌&&◌, not, if◌then◌else◌, slice_index, IsTrue, Result, IfOk}
 use Rattle.std.proofs.lemmas.Result.{IfOk-weaker}
 use Rattle.std.proofs.lemmas.Bool.{both_ways, and_parts}
-use Rattle.psl_meaning.specs.Clockless.{IsPlain}
-use Rattle.psl_meaning.specs.Satisfaction.{Sat}
-use Rattle.psl_meaning.specs.Trace.{Trace, trace_of}
-use Rattle.psl_meaning.proofs.Choice.{exists-map}
+use Rattle.psl_tree.specs.Clockless.{IsPlain}
+use Rattle.psl_tree.specs.Satisfaction.{Sat}
+use Rattle.psl_tree.specs.Trace.{Trace, trace_of}
+use Rattle.psl_tree.proofs.Choice.{exists-map}
 use Rattle.psl_tree.specs.Holds.{holds}
 use Rattle.psl_tree.specs.Trees.{Boolean, Sequence, Formula, Now, NowStrong, Not, And, Next, Until, Suffix, Abort}
 use Rattle.psl_tree.specs.declared.letter.Word.{Word}
-use Rattle.lasso_theory.specs.Courses.{Course, walk, read_from, stopped, places, next_place}
-use Rattle.lasso_theory.proofs.Aborts.{abort-same}
-use Rattle.lasso_theory.proofs.Reaching.{reaches-until}
-use Rattle.lasso_theory.proofs.Walks.{suffix-next, walk-below}
-use Rattle.lasso_theory.proofs.Words.{word_read}
+use Rattle.alternating_theory.specs.Courses.{Course, walk, read_from, stopped, places, next_place}
+use Rattle.alternating_theory.proofs.CourseAborts.{abort-same}
+use Rattle.alternating_theory.proofs.Reaching.{reaches-until}
+use Rattle.alternating_theory.proofs.Walks.{suffix-next, walk-below}
+use Rattle.alternating_theory.proofs.Words.{word_read}
 use Rattle.lasso_judge.specs.Seen.{seen_at, course_by, IsWhole, sink_of}
 use Rattle.lasso_judge.specs.Tables.{value_at, Has, Leads, Tells}
 use Rattle.lasso_judge.specs.Untils.{IsReached}

@@ -4,7 +4,7 @@ use Rattle.std.proofs.Common.{◌≡◌, refl, sym, ap, ◌∙◌, subst, ℕ, �
 use Rattle.std.specs.Prelude.{IsTrue, ◌&&◌, not, if◌then◌else◌, slice_set}
 use Rattle.psl_tree.specs.Holds.{holds}
 use Rattle.psl_tree.specs.declared.letter.Letter.{Letter}
-use Rattle.sere_nfa.specs.Acceptance.{State}
+use Rattle.psl_tree.specs.SequenceAutomata.{State}
 use Rattle.sere_nfa.specs.Marking.{Marking, is_marked, visit, visit_all}
 use Rattle.sere_nfa.proofs.Reach.{EachBelow, visits-all}
 use Rattle.lasso_judge.specs.Arrows.{arrow_at, label_of}

@@ -6,12 +6,12 @@ use Rattle.std.proofs.lemmas.List.{length-append}
 use Rattle.std.proofs.lemmas.Nat.{same_from_place, div-mul-add, mod-mul-add, div_below, mod_below}
 use Rattle.psl_tree.specs.declared.letter.Letter.{Letter}
 use Rattle.psl_tree.specs.declared.letter.Word.{Word}
-use Rattle.sere_nfa.specs.Acceptance.{State, state_at}
+use Rattle.psl_tree.specs.SequenceAutomata.{State, state_at}
 use Rattle.sere_nfa.specs.Marking.{Marking, is_marked, visit_all}
 use Rattle.sere_nfa.proofs.Reach.{Member, Visits, visits-all, EachBelow, work, no-marks}
-use Rattle.sere_nfa.proofs.Steps.{StepTo}
-use Rattle.lasso_theory.specs.Courses.{Course}
-use Rattle.lasso_theory.proofs.Cells.{hits-here, hits-later, hits-least}
+use Rattle.psl_tree.proofs.SequenceSteps.{StepTo}
+use Rattle.alternating_theory.specs.Courses.{Course}
+use Rattle.alternating_theory.proofs.Cells.{hits-here, hits-later, hits-least}
 use Rattle.lasso_judge.specs.Arrows.{arrows_below}
 use Rattle.lasso_judge.specs.Cells.{cell_of, HitsFrom, AreHits, ends_at, ends_on, numbers_below}
 use Rattle.lasso_judge.specs.Seen.{seen_at, course_by}

@@ -7,7 +7,7 @@ use Rattle.std.proofs.Math.Seq.{get_or-append_seam}
 use Rattle.psl_tree.specs.Holds.{holds}
 use Rattle.psl_tree.specs.Trees.{Const}
 use Rattle.psl_tree.specs.declared.letter.Letter.{Letter}
-use Rattle.sere_nfa.specs.Acceptance.{Edge, State, state_at}
+use Rattle.psl_tree.specs.SequenceAutomata.{Edge, State, state_at}
 use Rattle.sere_nfa.specs.Views.{edge_of, edges_of}
 use Rattle.sere_nfa.specs.declared.edge.NfaEdge.{NfaEdge}
 use Rattle.sere_nfa.proofs.Reach.{Member}

@@ -7,17 +7,17 @@ use Rattle.std.proofs.lemmas.Nat.{same_from_place, div-mul-add, mod-mul-add, mod
 use Rattle.psl_tree.specs.declared.letter.Letter.{Letter}
 use Rattle.psl_tree.specs.declared.letter.Letter.TheVariants.{Top}
 use Rattle.psl_tree.specs.declared.letter.Word.{Word}
-use Rattle.psl_meaning.specs.Classical.{Exists}
-use Rattle.psl_meaning.specs.Followed.{Tops, followed}
-use Rattle.psl_meaning.specs.Trace.{Trace, first, cut}
-use Rattle.psl_meaning.proofs.Choice.{from-exists}
-use Rattle.sere_nfa.specs.Acceptance.{State, state_at, AcceptsFrom, ReachesEnd}
+use Rattle.psl_tree.specs.Classical.{Exists}
+use Rattle.psl_tree.specs.Followed.{Tops, followed}
+use Rattle.psl_tree.specs.Trace.{Trace, first, cut}
+use Rattle.psl_tree.proofs.Choice.{from-exists}
+use Rattle.psl_tree.specs.SequenceAutomata.{State, state_at, AcceptsFrom, ReachesEnd}
 use Rattle.sere_nfa.specs.Marking.{Marking, is_marked, visit}
 use Rattle.sere_nfa.proofs.Reach.{Member, Visits, visits-all, EachBelow, work}
-use Rattle.sere_nfa.proofs.Steps.{StepTo}
-use Rattle.lasso_theory.specs.Courses.{walk, read_from}
-use Rattle.lasso_theory.proofs.Cells.{lasts-most, lasts-falls}
-use Rattle.lasso_theory.proofs.Raised.{EachMore, accepts-more, first-more, below-tops, cut-letter, cut-letters}
+use Rattle.psl_tree.proofs.SequenceSteps.{StepTo}
+use Rattle.alternating_theory.specs.Courses.{walk, read_from}
+use Rattle.alternating_theory.proofs.Cells.{lasts-most, lasts-falls}
+use Rattle.alternating_theory.proofs.Raised.{EachMore, accepts-more, first-more, below-tops, cut-letter, cut-letters}
 use Rattle.lasso_judge.specs.Arrows.{arrows_below}
 use Rattle.lasso_judge.specs.Cells.{cell_of, LastsFrom, AreFallen, goes_on, lasts_at, fall, fall_all, counted_from, IsFirstFallen}
 use Rattle.lasso_judge.specs.Seen.{seen_at, course_by}

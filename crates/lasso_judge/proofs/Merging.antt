@@ -9,7 +9,7 @@ use Rattle.std.proofs.Math.Seq.{get_or-append_seam}
 use Rattle.psl_tree.specs.Trees.{Const}
 use Rattle.psl_tree.specs.declared.letter.Letter.{Letter}
 use Rattle.psl_tree.specs.declared.letter.Letter.TheVariants.{Top}
-use Rattle.sere_nfa.specs.Acceptance.{Edge, State, no_state, state_at, Steps, AcceptsFrom, ReachesEnd, LeadsWithin, IsSound}
+use Rattle.psl_tree.specs.SequenceAutomata.{Edge, State, no_state, state_at, Steps, AcceptsFrom, ReachesEnd, LeadsWithin, IsSound}
 use Rattle.sere_nfa.specs.Views.{edge_of, edges_of}
 use Rattle.sere_nfa.specs.declared.edge.NfaEdge.{NfaEdge}
 use Rattle.lasso_judge.specs.Arrows.{edge_at}

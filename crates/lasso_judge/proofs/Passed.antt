@@ -6,7 +6,7 @@ use Rattle.std.proofs.lemmas.Bool.{both_ways, cases_lt, cases_eq, lt-ltb, le-ltb
 use Rattle.std.proofs.lemmas.List.{get_or-set_same, get_or-set_other, length-set}
 use Rattle.psl_tree.specs.Holds.{holds}
 use Rattle.psl_tree.specs.declared.letter.Letter.{Letter}
-use Rattle.sere_nfa.specs.Acceptance.{Edge, State, state_at}
+use Rattle.psl_tree.specs.SequenceAutomata.{Edge, State, state_at}
 use Rattle.sere_nfa.specs.Marking.{Marking, is_marked, visit}
 use Rattle.lasso_judge.specs.Arrows.{edge_at}
 use Rattle.lasso_judge.specs.Cells.{goes_along, goes_on, NoneGoes, ArePassed}

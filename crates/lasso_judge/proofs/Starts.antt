@@ -3,18 +3,18 @@ use Rattle.std.proofs.Common.{◌≡◌, ◌↔◌, inl, inr, sym, ap, ◌∙◌
 use Rattle.std.specs.Prelude.{IsTrue, not, slice_index}
 use Rattle.std.proofs.lemmas.Bool.{both_ways, cases_Bool}
 use Rattle.std.proofs.lemmas.List.{length-append, length-map}
-use Rattle.psl_meaning.specs.Clockless.{HasNoClock}
-use Rattle.psl_meaning.specs.Satisfaction.{Sat}
-use Rattle.psl_meaning.specs.Trace.{Trace, first, cut}
-use Rattle.psl_meaning.proofs.Choice.{exists-map}
+use Rattle.psl_tree.specs.Clockless.{HasNoClock}
+use Rattle.psl_tree.specs.Satisfaction.{Sat}
+use Rattle.psl_tree.specs.Trace.{Trace, first, cut}
+use Rattle.psl_tree.proofs.Choice.{exists-map}
 use Rattle.psl_tree.specs.Trees.{Sequence, Formula, Strong, Weak, Suffix}
 use Rattle.psl_tree.specs.declared.letter.Letter.{Letter}
 use Rattle.psl_tree.specs.declared.letter.Word.{Word}
-use Rattle.sere_nfa.specs.Acceptance.{State, Automaton, AcceptsFrom}
-use Rattle.sere_nfa.specs.Construction.{nfa_of, part_of, Draft, shown}
-use Rattle.lasso_theory.specs.Courses.{Course, walk, read_from}
-use Rattle.lasso_theory.proofs.Cells.{start_of, Hits, Follows as FollowsFrom, hits-strong, follows-suffix, lasts-weak}
-use Rattle.lasso_theory.proofs.Walks.{walk-below}
+use Rattle.psl_tree.specs.SequenceAutomata.{State, Automaton, AcceptsFrom}
+use Rattle.psl_tree.specs.SequenceConstruction.{nfa_of, part_of, Draft, shown}
+use Rattle.alternating_theory.specs.Courses.{Course, walk, read_from}
+use Rattle.alternating_theory.proofs.Cells.{start_of, Hits, Follows as FollowsFrom, hits-strong, follows-suffix, lasts-weak}
+use Rattle.alternating_theory.proofs.Walks.{walk-below}
 use Rattle.lasso_judge.specs.Cells.{cell_of, HitsFrom, LastsFrom, AreHits, AreFallen}
 use Rattle.lasso_judge.specs.Merging.{IsMerged}
 use Rattle.lasso_judge.specs.Seen.{course_by, IsWhole}

@@ -5,7 +5,7 @@ use Rattle.std.specs.Prelude.{◌&&◌, ◌||◌, not, slice_index, slice_set, i
 use Rattle.std.proofs.lemmas.Bool.{cases_eq, cases_Bool, both_ways, and_parts}
 use Rattle.std.proofs.lemmas.List.{get_or-set_same, get_or-set_other}
 use Rattle.std.proofs.Math.ListN.{length-set}
-use Rattle.lasso_theory.proofs.Reaching.{reaches-here, reaches-later, reaches-least}
+use Rattle.alternating_theory.proofs.Reaching.{reaches-here, reaches-later, reaches-least}
 use Rattle.lasso_judge.specs.Tables.{value_at}
 use Rattle.lasso_judge.specs.Untils.{WalksTo, IsReached, unset, Grown, GrowsTo}
 

@@ -3,7 +3,7 @@ use Rattle.std.proofs.Common.{◌≡◌, refl, sym, ap, ◌∙◌, List, [], ◌
 use Rattle.std.specs.Prelude.{true, false, if◌then◌else◌, slice_set}
 use Rattle.sere_nfa.specs.Marking.{Marking, is_marked, visit, visit_all}
 use Rattle.psl_tree.specs.declared.letter.Letter.{Letter}
-use Rattle.sere_nfa.specs.Acceptance.{State}
+use Rattle.psl_tree.specs.SequenceAutomata.{State}
 use Rattle.lasso_judge.specs.Cells.{numbers_below, counted_from, lasts_at, fall, fall_all}
 
 pub visit_all_append : (m : Marking) (ms ns : List ℕ) → visit_all m (ms ++ ns) ≡ visit_all (visit_all m ms) ns

@@ -1,7 +1,7 @@
 -- The edges of an automaton as one list, by the state that each leads to.
 use Rattle.std.specs.Prelude.{◌≡◌, false, ℕ, zero, suc, ◌*◌, ◌^◌, ◌<◌, ◌==◌, if◌then◌else◌, List, [], ◌∷◌, ◌++◌, length, map, slice_index_or}
 use Rattle.psl_tree.specs.Trees.{Boolean, Const}
-use Rattle.sere_nfa.specs.Acceptance.{Edge, State, state_at, IsSound}
+use Rattle.psl_tree.specs.SequenceAutomata.{Edge, State, state_at, IsSound}
 use Rattle.lasso_judge.specs.declared.chart.Arrow.{Arrow}
 use Rattle.lasso_judge.specs.declared.chart.Chart.{Chart}
 

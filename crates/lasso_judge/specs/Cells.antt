@@ -2,13 +2,13 @@
 -- searches for these.
 use Rattle.std.specs.Prelude.{◌≡◌, ◌↔◌, Bool as Truth, false, not, ◌&&◌, ◌||◌, ℕ, zero, suc, ◌+◌, ◌*◌, ◌/◌, ◌%◌, ◌<◌, if◌then◌else◌, List, [], ◌∷◌, ◌++◌, length, slice_index, IsTrue}
 use Rattle.std.specs.List.{list_any}
-use Rattle.psl_meaning.specs.Classical.{Exists}
-use Rattle.psl_meaning.specs.Trace.{first, cut}
+use Rattle.psl_tree.specs.Classical.{Exists}
+use Rattle.psl_tree.specs.Trace.{first, cut}
 use Rattle.psl_tree.specs.Holds.{holds}
 use Rattle.psl_tree.specs.declared.letter.Letter.{Letter}
-use Rattle.sere_nfa.specs.Acceptance.{Edge, State, state_at, AcceptsFrom, ReachesEnd}
+use Rattle.psl_tree.specs.SequenceAutomata.{Edge, State, state_at, AcceptsFrom, ReachesEnd}
 use Rattle.sere_nfa.specs.Marking.{Marking, visit}
-use Rattle.lasso_theory.specs.Courses.{Course, walk, read_from}
+use Rattle.alternating_theory.specs.Courses.{Course, walk, read_from}
 use Rattle.lasso_judge.specs.Arrows.{edge_at, arrow_at, label_of}
 use Rattle.lasso_judge.specs.Tables.{value_at}
 use Rattle.lasso_judge.specs.declared.chart.Arrow.{Arrow}

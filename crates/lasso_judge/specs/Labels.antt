@@ -2,7 +2,7 @@
 use Rattle.std.specs.Prelude.{◌≡◌, Bool as Truth, ℕ, ◌<◌, ◌/◌, ◌%◌, if◌then◌else◌, Option, None, Some, List, [], ◌∷◌, ◌++◌, length, map, slice_index, slice_index_or, IsTrue}
 use Rattle.psl_tree.specs.Holds.{holds}
 use Rattle.psl_tree.specs.declared.letter.Letter.{Letter}
-use Rattle.sere_nfa.specs.Acceptance.{Edge, state_at}
+use Rattle.psl_tree.specs.SequenceAutomata.{Edge, state_at}
 use Rattle.lasso_judge.specs.Arrows.{edge_at, arrow_at, label_of}
 use Rattle.lasso_judge.specs.Cells.{cell_of}
 use Rattle.lasso_judge.specs.Tables.{value_at}

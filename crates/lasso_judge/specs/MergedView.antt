@@ -1,6 +1,6 @@
 -- What contracts see of a merged automaton, and what it keeps.
 use Rattle.std.specs.Prelude.{◌≡◌, ◌↔◌, ℕ, ◌<◌, List, [], length, map, IsTrue}
-use Rattle.sere_nfa.specs.Acceptance.{State, Automaton, IsSound, ReachesEnd}
+use Rattle.psl_tree.specs.SequenceAutomata.{State, Automaton, IsSound, ReachesEnd}
 use Rattle.sere_nfa.specs.Views.{edges_of}
 use Rattle.lasso_judge.specs.Tables.{value_at}
 use Rattle.lasso_judge.specs.declared.merged.MergedState.{MergedState}

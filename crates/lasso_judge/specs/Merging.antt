@@ -1,7 +1,7 @@
 -- Automata whose states that are alike are one.
 use Rattle.std.specs.Prelude.{◌≡◌, ◌↔◌, ◌==◌, ℕ, zero, suc, ◌-◌, ◌<◌, ◌≤◌, Bool as Truth, false, if◌then◌else◌, List, [], ◌∷◌, ◌++◌, length, map, slice_index, IsTrue}
 use Rattle.psl_tree.specs.declared.letter.Letter.{Letter}
-use Rattle.sere_nfa.specs.Acceptance.{Edge, State, no_state, state_at, AcceptsFrom, ReachesEnd}
+use Rattle.psl_tree.specs.SequenceAutomata.{Edge, State, no_state, state_at, AcceptsFrom, ReachesEnd}
 use Rattle.lasso_judge.specs.Tables.{value_at}
 
 -- from its last state an automaton reads the same lists as another, which has as many states

@@ -1,9 +1,9 @@
 -- A word with a loop, or its dual, as a course by a list of next places.
 use Rattle.std.specs.Prelude.{◌≡◌, Bool as Truth, ℕ, suc, ◌+◌, ◌<◌, if◌then◌else◌, List, length, slice_index}
-use Rattle.psl_meaning.specs.Trace.{dual_letter}
+use Rattle.psl_tree.specs.Trace.{dual_letter}
 use Rattle.psl_tree.specs.declared.letter.Letter.{Letter}
 use Rattle.psl_tree.specs.declared.letter.Word.{Word}
-use Rattle.lasso_theory.specs.Courses.{Course, places, letter_at}
+use Rattle.alternating_theory.specs.Courses.{Course, places, letter_at}
 
 -- a letter, or its dual
 abbrev pub seen : Truth → Letter → Letter

@@ -1,8 +1,8 @@
 -- Tables: a truth value for each place of a course.
 use Rattle.std.specs.Prelude.{◌≡◌, ◌↔◌, Bool as Truth, false, ℕ, ◌<◌, List, length, slice_index, slice_index_or, IsTrue, None}
-use Rattle.psl_meaning.specs.Satisfaction.{Sat}
+use Rattle.psl_tree.specs.Satisfaction.{Sat}
 use Rattle.psl_tree.specs.Trees.{Formula}
-use Rattle.lasso_theory.specs.Courses.{Course, read_from}
+use Rattle.alternating_theory.specs.Courses.{Course, read_from}
 
 -- the value at a place; false past the end
 abbrev pub value_at : List Truth → ℕ → Truth

@@ -1,7 +1,7 @@
 -- Which places lead over places of one table to one of another, and tables that grow to these.
 use Rattle.std.specs.Prelude.{◌≡◌, Bool as Truth, true, false, ℕ, suc, ◌+◌, ◌<◌, ◌≤◌, if◌then◌else◌, List, [], ◌∷◌, length, slice_index, IsTrue}
-use Rattle.psl_meaning.specs.Classical.{Exists}
-use Rattle.lasso_theory.specs.Courses.{walk}
+use Rattle.psl_tree.specs.Classical.{Exists}
+use Rattle.alternating_theory.specs.Courses.{walk}
 use Rattle.lasso_judge.specs.Tables.{value_at}
 
 -- some walk from the place leads over places of the left table to one of the right

@@ -1,10 +1,10 @@
 ghost use Rattle.std.specs.Prelude.{◌≡◌, ◌*◌, ◌^◌, ◌<◌, ◌≤◌, ◌++◌, ℕ, [], length, map, replicate};
 ghost use Rattle.std.specs.Prelude.{slice_index, slice_index_or, IfOk, OnOk};
-ghost use Rattle.psl_meaning.specs.Clockless.{HasNoClock};
+ghost use Rattle.psl_tree.specs.Clockless.{HasNoClock};
 ghost use Rattle.psl_tree.specs.Counts.{states_of};
 ghost use Rattle.psl_tree.specs.Trees.{sequence_of};
-ghost use Rattle.sere_nfa.specs.Acceptance.{IsSound};
-ghost use Rattle.sere_nfa.specs.Construction.{nfa_of};
+ghost use Rattle.psl_tree.specs.SequenceAutomata.{IsSound};
+ghost use Rattle.psl_tree.specs.SequenceConstruction.{nfa_of};
 ghost use Rattle.sere_nfa.specs.Views.{edges_of};
 ghost use Rattle.lasso_judge.specs.Arrows.{arrows_in, arrows_below, places_from, IsChart};
 ghost use Rattle.lasso_judge.specs.Labels.{IsLabelled};

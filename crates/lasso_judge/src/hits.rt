@@ -1,7 +1,7 @@
 ghost use Rattle.std.specs.Prelude.{◌≡◌, ◌<◌, ◌&&◌, All, [], ◌∷◌, false, length, replicate, if◌then◌else◌, IfOk, OnOk};
 ghost use Rattle.psl_tree.specs.Holds.{holds};
 ghost use Rattle.psl_tree.specs.Trees.{boolean_of};
-ghost use Rattle.sere_nfa.specs.Acceptance.{state_at};
+ghost use Rattle.psl_tree.specs.SequenceAutomata.{state_at};
 ghost use Rattle.sere_nfa.specs.Marking.{visit_all};
 ghost use Rattle.sere_nfa.specs.MarkingView.{marking_of};
 ghost use Rattle.sere_nfa.specs.Views.{edge_of, edges_of};

@@ -1,7 +1,7 @@
 ghost use Rattle.std.specs.Prelude.{◌↔◌, ◌<◌, None, length, IfOk, IsTrue};
-ghost use Rattle.psl_meaning.specs.Clockless.{IsPlain};
-ghost use Rattle.psl_meaning.specs.Satisfaction.{Sat};
-ghost use Rattle.psl_meaning.specs.Trace.{trace_of};
+ghost use Rattle.psl_tree.specs.Clockless.{IsPlain};
+ghost use Rattle.psl_tree.specs.Satisfaction.{Sat};
+ghost use Rattle.psl_tree.specs.Trace.{trace_of};
 ghost use Rattle.psl_tree.specs.Trees.{formula_of};
 ghost use Rattle.lasso_judge.specs.Limits.{HasSmallSequences};
 ghost use Rattle.lasso_judge.specs.Seen.{course_by, IsWhole};

@@ -1,6 +1,6 @@
 ghost use Rattle.std.specs.Prelude.{◌≡◌, ◌+◌, ◌*◌, ◌<◌, ◌≤◌, ◌&&◌, ◌||◌, ℕ, All, [], length, not, nat_lt, replicate};
 ghost use Rattle.std.specs.Prelude.{slice_index, IfOk, OnOk};
-ghost use Rattle.sere_nfa.specs.Acceptance.{state_at};
+ghost use Rattle.psl_tree.specs.SequenceAutomata.{state_at};
 ghost use Rattle.sere_nfa.specs.MarkingView.{marking_of};
 ghost use Rattle.sere_nfa.specs.Views.{edge_of, edges_of};
 ghost use Rattle.lasso_judge.specs.Arrows.{edge_at, IsChart, IsDrawn};

@@ -1,6 +1,6 @@
 ghost use Rattle.std.specs.Prelude.{◌≡◌, ◌↔◌, ◌^◌, ◌<◌, ◌++◌, All, map, length, slice_index, IfOk, OnOk, IsTrue};
 ghost use Rattle.psl_tree.specs.Trees.{boolean_of};
-ghost use Rattle.sere_nfa.specs.Acceptance.{IsSound, ReachesEnd, state_at};
+ghost use Rattle.psl_tree.specs.SequenceAutomata.{IsSound, ReachesEnd, state_at};
 ghost use Rattle.sere_nfa.specs.Views.{edge_of, edges_of};
 ghost use Rattle.lasso_judge.specs.Merging.{led, kept_at, merged_at, merged_below, AreClasses, IsAlive, IsClass, IsMerged, MergedAlive};
 ghost use Rattle.lasso_judge.specs.MergedView.{shown_of, states_shown};
@@ -29,7 +29,7 @@ pub(crate) struct Merged {
 }
 
 impl Model for Merged {
-    ghost use Rattle.sere_nfa.specs.Acceptance.{Automaton};
+    ghost use Rattle.psl_tree.specs.SequenceAutomata.{Automaton};
     ghost use Rattle.sere_nfa.specs.Codes.{automaton_code};
 
     ghost Value = { Automaton };

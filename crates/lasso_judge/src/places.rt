@@ -1,7 +1,7 @@
 ghost use Rattle.std.specs.Prelude.{◌≡◌, ◌==◌, ◌+◌, ◌^◌, ◌<◌, ◌≤◌, suc, nat_lt, if◌then◌else◌, IfOk};
 ghost use Rattle.psl_tree.specs.Holds.{holds};
 ghost use Rattle.psl_tree.specs.Trees.{boolean_of};
-ghost use Rattle.lasso_theory.specs.Courses.{next_place, places};
+ghost use Rattle.alternating_theory.specs.Courses.{next_place, places};
 ghost use Rattle.lasso_judge.specs.Seen.{seen, seen_at};
 ghost use Rattle.lasso_judge.specs.Tables.{Leads};
 

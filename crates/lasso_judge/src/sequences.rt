@@ -1,5 +1,5 @@
 ghost use Rattle.std.specs.Prelude.{◌≡◌, ◌+◌, ◌-◌, ◌*◌, ◌<◌, ◌≤◌, true, length, IfOk};
-ghost use Rattle.psl_meaning.specs.Clockless.{HasNoClock};
+ghost use Rattle.psl_tree.specs.Clockless.{HasNoClock};
 ghost use Rattle.psl_tree.specs.Counts.{states_of};
 ghost use Rattle.psl_tree.specs.Trees.{Formula, Strong, Weak, Suffix, sequence_of};
 ghost use Rattle.lasso_judge.specs.Cells.{cell_of};

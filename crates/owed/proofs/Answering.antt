@@ -3,7 +3,7 @@ use Rattle.std.proofs.Common.{◌≡◌, sym, subst, ◌∙◌, ap, Bool as Trut
 use Rattle.std.proofs.lemmas.List.{take_more}
 use Rattle.std.proofs.lemmas.List.Elements.{All-head, All-tail}
 use Rattle.alternating.proofs.Tested.{built-has}
-use Rattle.alternating.specs.Atoms.{AtomsOfObligations}
+use Rattle.alternating_theory.specs.Atoms.{AtomsOfObligations}
 use Rattle.alternating_theory.proofs.Negations.{opposite_built}
 use Rattle.alternating_theory.specs.Dual.{opposite_automaton}
 use Rattle.alternating_theory.specs.Built.{built}
@@ -12,8 +12,8 @@ use Rattle.clock_rewrite.proofs.Atoms.{formula-atoms}
 use Rattle.clock_rewrite.proofs.Clockless.{plain_plain}
 use Rattle.clock_rewrite.proofs.Meaning.{plain_words}
 use Rattle.clock_rewrite.specs.Clock.{HasSameWords}
-use Rattle.psl_meaning.specs.Clockless.{IsPlain}
-use Rattle.psl_meaning.specs.Plain.{plain}
+use Rattle.psl_tree.specs.Clockless.{IsPlain}
+use Rattle.psl_tree.specs.Plain.{plain}
 use Rattle.psl_tree.specs.Atoms.{AtomsOfFormula}
 use Rattle.psl_tree.specs.Names.{AtomInRange}
 use Rattle.psl_tree.specs.Trees.{Formula, And, Not, formula_of}

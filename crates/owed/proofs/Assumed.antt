@@ -1,6 +1,6 @@
 -- What is assumed by one directive more; and rewriting clocks goes through what is owed.
 use Rattle.std.proofs.Common.{◌≡◌, refl, sym, ◌∙◌, ap, List, [], ◌∷◌, ◌++◌, map, fold, Bool as Truth, true, false, if◌then◌else◌, Option, None, Some}
-use Rattle.psl_meaning.specs.Plain.{plain}
+use Rattle.psl_tree.specs.Plain.{plain}
 use Rattle.psl_tree.specs.Trees.{Formula, And, formula_of}
 use Rattle.psl_tree.specs.declared.directive.Directive.{Directive}
 use Rattle.owed.specs.Owed.{is_assumption, assumptions, joined, conjunction, under, plain_assumed, with_directive, owed, plain_owed}

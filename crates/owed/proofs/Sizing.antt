@@ -1,6 +1,6 @@
 -- Sizes of formulas under what is assumed.
 use Rattle.std.proofs.Common.{◌≡◌, sym, subst, List, Option, None, Some}
-use Rattle.psl_meaning.specs.Plain.{plain}
+use Rattle.psl_tree.specs.Plain.{plain}
 use Rattle.psl_tree.specs.Trees.{Formula, formula_of}
 use Rattle.psl_tree.specs.declared.directive.Directive.{Directive}
 use Rattle.owed.proofs.Assumed.{owed-plain}

@@ -4,9 +4,9 @@ use mathlib.Core.Path.{fun_ext}
 use Rattle.std.proofs.lemmas.List.{length-map}
 use Rattle.std.proofs.lemmas.List.FromFn.{length-range_with_len}
 use Rattle.std.specs.List.{range_with_len}
-use Rattle.alternating_loops.proofs.LawsHold.{loops}
-use Rattle.alternating_loops.specs.Acceptance.{Accepts}
-use Rattle.alternating_loops.specs.Laws.{LoopsOf}
+use Rattle.alternating_theory.proofs.LoopLawsHold.{loops}
+use Rattle.alternating_theory.specs.Acceptance.{Accepts}
+use Rattle.alternating_theory.specs.LoopLaws.{LoopsOf}
 use Rattle.alternating_theory.proofs.Negations.{opposite_built}
 use Rattle.alternating_theory.specs.Built.{built}
 use Rattle.alternating_theory.specs.Obligations.{Automaton}
@@ -16,9 +16,9 @@ use Rattle.clock_rewrite.proofs.Stable.{stable}
 use Rattle.netlist.specs.Design.{Design}
 use Rattle.netlist.specs.Runs.{bits_of, letters_from, word}
 use Rattle.netlist.specs.declared.run.Run.{Run}
-use Rattle.psl_meaning.proofs.Choice.{iff-trans}
-use Rattle.psl_meaning.specs.Satisfaction.{Sat}
-use Rattle.psl_meaning.specs.Trace.{Trace, trace_of, after, for_ever, dual, dual_at, dual_letter}
+use Rattle.psl_tree.proofs.Choice.{iff-trans}
+use Rattle.psl_tree.specs.Satisfaction.{Sat}
+use Rattle.psl_tree.specs.Trace.{Trace, trace_of, after, for_ever, dual, dual_at, dual_letter}
 use Rattle.psl_tree.specs.Letters.{letter_at}
 use Rattle.psl_tree.specs.Trees.{Formula, Not}
 use Rattle.psl_tree.specs.declared.directive.Directive.{Directive}

@@ -1,7 +1,7 @@
 -- What holds of each formula that is owed.
 use Rattle.std.specs.Prelude.{◌≡◌, ◌↔◌, ℕ, List, All, None}
-use Rattle.psl_meaning.specs.Satisfaction.{Sat}
-use Rattle.psl_meaning.specs.Trace.{Trace, dual}
+use Rattle.psl_tree.specs.Satisfaction.{Sat}
+use Rattle.psl_tree.specs.Trace.{Trace, dual}
 use Rattle.psl_tree.specs.Atoms.{AtomsOfFormula}
 use Rattle.psl_tree.specs.Names.{AtomInRange}
 use Rattle.psl_tree.specs.Trees.{Formula, formula_of}

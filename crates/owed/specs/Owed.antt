@@ -1,6 +1,6 @@
 -- What is owed of an assertion: its formula, under the assumptions of its text.
 use Rattle.std.specs.Prelude.{Bool as Truth, true, false, if◌then◌else◌, List, [], ◌∷◌, map, fold, Option, None, Some}
-use Rattle.psl_meaning.specs.Plain.{plain}
+use Rattle.psl_tree.specs.Plain.{plain}
 use Rattle.psl_tree.specs.Trees.{Formula, Not, And, formula_of}
 use Rattle.psl_tree.specs.declared.directive.Directive.{Directive}
 use Rattle.psl_tree.specs.declared.directive.Kind.{Kind}

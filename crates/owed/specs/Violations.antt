@@ -1,15 +1,15 @@
 -- The words that violate what is owed.
 use Rattle.std.specs.Prelude.{◌↔◌, ◌<◌, List, length, All, None}
-use Rattle.alternating.specs.Atoms.{AtomsOfObligations}
-use Rattle.alternating_loops.specs.Acceptance.{Accepts}
+use Rattle.alternating_theory.specs.Atoms.{AtomsOfObligations}
+use Rattle.alternating_theory.specs.Acceptance.{Accepts}
 use Rattle.alternating_theory.specs.Built.{built}
 use Rattle.alternating_theory.specs.Dual.{opposite_automaton}
 use Rattle.alternating_theory.specs.Obligations.{Automaton}
 use Rattle.netlist.specs.Design.{Design}
 use Rattle.netlist.specs.Runs.{word}
 use Rattle.netlist.specs.declared.run.Run.{Run}
-use Rattle.psl_meaning.specs.Satisfaction.{Sat}
-use Rattle.psl_meaning.specs.Trace.{trace_of}
+use Rattle.psl_tree.specs.Satisfaction.{Sat}
+use Rattle.psl_tree.specs.Trace.{trace_of}
 use Rattle.psl_tree.specs.Atoms.{AtomsOfFormula}
 use Rattle.psl_tree.specs.Names.{AtomInRange}
 use Rattle.psl_tree.specs.Trees.{Not, formula_of}

@@ -3,7 +3,7 @@ ghost use Rattle.owed.specs.Owed.{joined, owed as owed_formula, plain_assumed, p
 ghost use Rattle.owed.specs.Boxed.{formula_in};
 ghost use Rattle.owed.specs.Laws.{IsInRangeOf};
 ghost use Rattle.clock_rewrite.specs.Clock.{HasSameWords};
-ghost use Rattle.psl_meaning.specs.Clockless.{IsPlain};
+ghost use Rattle.psl_tree.specs.Clockless.{IsPlain};
 ghost use Rattle.psl_tree.specs.Trees.{formula_of};
 
 use crate::kinds::is_assumed;

@@ -1,7 +1,7 @@
 ghost use Rattle.std.specs.Prelude.{◌≡◌, List, Option, None, Some, IfOk};
 ghost use Rattle.owed.specs.Owed.{joined, plain_assumed, plain_owed, under, with_directive};
 ghost use Rattle.owed.specs.Sizes.{AreSizesOf, IsSizeOf};
-ghost use Rattle.psl_meaning.specs.Plain.{plain};
+ghost use Rattle.psl_tree.specs.Plain.{plain};
 ghost use Rattle.psl_tree.specs.Trees.{Formula, formula_of};
 ghost use Rattle.psl_tree.specs.declared.directive.Directive.{Directive};
 

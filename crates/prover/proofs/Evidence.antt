@@ -1,7 +1,7 @@
 -- What a model and a refutation of a search say of the runs of a netlist.
 use Rattle.std.proofs.Common.{◌≡◌, refl, ◌∙◌, ap, ◌≤◌, ℕ, suc, sym, subst, ◌↔◌, List, length, None, Bool as Truth, All, arith}
 use Rattle.std.proofs.lemmas.List.Elements.{All-weaker}
-use Rattle.alternating_loops.specs.Acceptance.{Accepts}
+use Rattle.alternating_theory.specs.Acceptance.{Accepts}
 use Rattle.alternating_theory.specs.Obligations.{Automaton}
 use Rattle.clauses.proofs.Soundness.{no_model}
 use Rattle.clauses.specs.declared.cnf.Cnf.{Cnf}
@@ -12,8 +12,8 @@ use Rattle.netlist.specs.Design.{Design}
 use Rattle.netlist.specs.Runs.{word}
 use Rattle.netlist.specs.Valuations.{IsValuation}
 use Rattle.netlist.specs.declared.run.Run.{Run}
-use Rattle.psl_meaning.specs.Satisfaction.{Sat}
-use Rattle.psl_meaning.specs.Trace.{trace_of}
+use Rattle.psl_tree.specs.Satisfaction.{Sat}
+use Rattle.psl_tree.specs.Trace.{trace_of}
 use Rattle.psl_tree.specs.Trees.{Formula}
 use Rattle.psl_tree.specs.declared.directive.Directive.{Directive}
 use Rattle.owed.proofs.Violating.{violating-runs}

@@ -20,8 +20,8 @@ use Rattle.netlist.specs.declared.run.Run.{Run}
 use Rattle.owed.proofs.Violating.{violating-runs}
 use Rattle.owed.specs.Owed.{owed}
 use Rattle.owed.specs.Violations.{violation_of}
-use Rattle.psl_meaning.specs.Satisfaction.{Sat}
-use Rattle.psl_meaning.specs.Trace.{trace_of}
+use Rattle.psl_tree.specs.Satisfaction.{Sat}
+use Rattle.psl_tree.specs.Trace.{trace_of}
 use Rattle.psl_tree.specs.declared.directive.Directive.{Directive}
 use Rattle.run_terms.specs.Formulas.{HasModel, values_of}
 use Rattle.prover.specs.Proving.{IsProved, IsRefuted}

@@ -10,8 +10,8 @@ use Rattle.netlist.specs.Design.{Design}
 use Rattle.netlist.specs.Runs.{bits_of, letters_from, valuation_at, word}
 use Rattle.netlist.specs.Valuations.{bit}
 use Rattle.netlist.specs.declared.run.Run.{Run}
-use Rattle.psl_meaning.specs.Satisfaction.{Sat}
-use Rattle.psl_meaning.specs.Trace.{Trace, for_ever, trace_of}
+use Rattle.psl_tree.specs.Satisfaction.{Sat}
+use Rattle.psl_tree.specs.Trace.{Trace, for_ever, trace_of}
 use Rattle.psl_tree.specs.Letters.{Bits, atoms_of, edge_at, letter_at}
 use Rattle.psl_tree.specs.declared.atom.Atom.{Atom}
 use Rattle.psl_tree.specs.declared.atom.Edge.{Edge}

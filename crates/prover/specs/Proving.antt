@@ -10,8 +10,8 @@ use Rattle.netlist.specs.Design.{Design}
 use Rattle.netlist.specs.Runs.{IsRun, word}
 use Rattle.netlist.specs.declared.run.Run.{Run}
 use Rattle.owed.specs.Owed.{owed}
-use Rattle.psl_meaning.specs.Satisfaction.{Sat}
-use Rattle.psl_meaning.specs.Trace.{trace_of}
+use Rattle.psl_tree.specs.Satisfaction.{Sat}
+use Rattle.psl_tree.specs.Trace.{trace_of}
 use Rattle.psl_tree.specs.declared.directive.Directive.{Directive}
 use Rattle.prover.specs.Queries.{clauses_of, variables_of}
 use Rattle.prover.specs.declared.finding.Query.{Query}

@@ -16,7 +16,7 @@ use Rattle.psl_tree.specs.Trees.{Boolean, Formula, Const, Test, Not, And, One, C
 use Rattle.psl_tree.specs.declared.atom.Edge.TheVariants as edges
 use Rattle.psl_tree.specs.declared.directive.Kind.TheVariants as directives
 use Rattle.psl_tree.specs.declared.name.Name.{Name}
-use Rattle.psl_meaning.specs.Sugar.{always}
+use Rattle.psl_tree.specs.Sugar.{always}
 use Rattle.psl_elaboration.specs.Answers.{IsLayerFault}
 use Rattle.psl_elaboration.specs.Directives.{kernel}
 use Rattle.psl_elaboration.specs.LookUp.{bit_of, whole_of}

@@ -13,7 +13,7 @@ use Rattle.psl_grammar.specs.declared.tree.Expression.TheVariants as expressions
 use Rattle.psl_tree.specs.Trees.{Boolean, Sequence, Formula, Const, Test, Not, Empty, One, Star, Clocked, Now, NowStrong, Weak, Strong}
 use Rattle.psl_tree.specs.declared.atom.Edge as atom_edge
 use Rattle.psl_tree.specs.declared.name.Name.{Name}
-use Rattle.psl_meaning.specs.Sugar.{eventually, always}
+use Rattle.psl_tree.specs.Sugar.{eventually, always}
 use Rattle.psl_sugar.specs.Booleans.{number, some_bit}
 use Rattle.psl_sugar.specs.Comparisons.{comparison_row}
 use Rattle.psl_sugar.specs.Connectives.{boolean_row, formula_row}

@@ -6,7 +6,7 @@ use Rattle.psl_grammar.specs.declared.tree.Count as code_count
 use Rattle.psl_grammar.specs.declared.tree.Expression as code_expression
 use Rattle.psl_tree.specs.declared.name.Name.{Name}
 use Rattle.psl_tree.specs.Trees.{Boolean, Sequence, Formula, Empty, Star, Strong, Not}
-use Rattle.psl_meaning.specs.Sugar.{eventually, always}
+use Rattle.psl_tree.specs.Sugar.{eventually, always}
 use Rattle.psl_sugar.specs.Budget.{GivesBoolean, GivesSequence, GivesFormula}
 use Rattle.psl_sugar.specs.Properties.{never, next}
 use Rattle.psl_sugar.specs.Sequences.{repeated, goto, goto_repeated, occurrences}

@@ -1,6 +1,6 @@
 -- What each atom of the operands has, each atom of a property made of them has.
 use Rattle.std.proofs.Common.{ℕ, zero, suc, ◌+◌, ◌-◌}
-use Rattle.psl_meaning.specs.Sugar.{eventually, always}
+use Rattle.psl_tree.specs.Sugar.{eventually, always}
 use Rattle.psl_sugar.specs.Properties.{never, never_sequence, eventually_sequence, until, until_overlapping, before, before_overlapping, next, next_steps, next_times, next_event, next_event_times, joined, joined_parts, next_range, next_event_range, covered, covered_at}
 use Rattle.psl_sugar.specs.declared.operator.Quantifier.{Quantifier}
 use Rattle.psl_sugar.specs.declared.operator.Quantifier.TheVariants as quantifier

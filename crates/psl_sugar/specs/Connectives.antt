@@ -1,6 +1,6 @@
 -- Operators that Booleans and properties have alike: a row for each (IEEE 1850, clauses 5 and 6.2).
 use Rattle.psl_tree.specs.Trees.{Boolean, Formula, And, Or}
-use Rattle.psl_meaning.specs.Sugar.{disjunction, implication}
+use Rattle.psl_tree.specs.Sugar.{disjunction, implication}
 use Rattle.psl_sugar.specs.Booleans.{boolean_implication, boolean_iff}
 use Rattle.psl_sugar.specs.Properties.{iff}
 use Rattle.psl_sugar.specs.declared.connectives.Connective.{Connective}

@@ -2,7 +2,7 @@
 -- table, for a strong or a weak operator.
 use Rattle.std.specs.Prelude.{ℕ, zero, suc, ◌+◌, ◌-◌}
 use Rattle.psl_tree.specs.Trees.{Boolean, Sequence, Formula, Concat, Now, Strong, Not, And, Next, Until, Suffix, Abort, SyncAbort, Clocked}
-use Rattle.psl_meaning.specs.Sugar.{disjunction, implication, eventually, always, next_strong, next_weak}
+use Rattle.psl_tree.specs.Sugar.{disjunction, implication, eventually, always, next_strong, next_weak}
 use Rattle.psl_sugar.specs.Sequences.{any_letter, any_letters}
 use Rattle.psl_sugar.specs.declared.abort.AbortOperator.{AbortOperator}
 use Rattle.psl_sugar.specs.declared.abort.AbortOperator.TheVariants as aborts

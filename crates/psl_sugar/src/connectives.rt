@@ -1,5 +1,5 @@
 // Operators that Booleans and properties have alike.
-ghost use Rattle.psl_meaning.specs.Sugar.{disjunction, implication};
+ghost use Rattle.psl_tree.specs.Sugar.{disjunction, implication};
 ghost use Rattle.psl_sugar.specs.Booleans.{boolean_implication, boolean_iff};
 ghost use Rattle.psl_sugar.specs.Budget.{GivesBoolean, GivesFormula};
 ghost use Rattle.psl_sugar.specs.Connectives.{boolean_row, formula_row};

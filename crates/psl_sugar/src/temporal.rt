@@ -1,5 +1,5 @@
 // Operators before a property that need no count.
-ghost use Rattle.psl_meaning.specs.Sugar.{eventually, always};
+ghost use Rattle.psl_tree.specs.Sugar.{eventually, always};
 ghost use Rattle.psl_sugar.specs.Budget.{GivesFormula};
 ghost use Rattle.psl_sugar.specs.Properties.{never, next};
 

@@ -1,2 +1,14 @@
+pub mod Choice
 pub mod Drops
 pub mod FirstNames
+pub mod RowsHold
+pub mod SequenceAutomata
+pub mod SequenceEndings
+pub mod SequenceFusions
+pub mod SequenceJoins
+pub mod SequenceMeans
+pub mod SequenceNumbers
+pub mod SequenceProducts
+pub mod SequenceSteps
+pub mod Traces
+pub mod Values

@@ -1,5 +1,10 @@
 //! The trees that a text of the Property Specification Language stands for, the letters and words
 //! on which they are judged, and what a Boolean says of a letter.
+//!
+//! And what formulas mean, as definitions and lemmas: traces, tight satisfaction, satisfaction with and
+//! without a clock, the three views of a finite word and the rewriting of clocks; and the automata of
+//! sequences, which accept the lists of letters that satisfy these tightly. `worked_examples` states
+//! examples of the definitions.
 #![tactic(auto)]
 
 mod atom;
@@ -10,9 +15,8 @@ mod directive;
 mod fl;
 mod letter;
 mod name;
-mod naming;
-mod printing;
 mod range;
+mod rows;
 mod sere;
 
 pub use atom::{Atom, Atoms, Edge, same_atom};
@@ -22,6 +26,6 @@ pub use directive::{Directive, Kind, Unit};
 pub use fl::Fl;
 pub use letter::{Letter, Letters, Word, holds};
 pub use name::{Name, Names};
-pub use printing::print_fl;
 pub use range::{are_in_range, is_in_range};
+pub use rows::worked_examples;
 pub use sere::Sere;

@@ -1,7 +1,7 @@
 -- What a netlist's tables, latches and names are of.
 use Rattle.std.proofs.Common.{ℕ, ◌<◌, List}
 use Rattle.std.specs.Prelude.{All}
-use Rattle.alternating.specs.Atoms.{AtomsOfPositive}
+use Rattle.alternating_theory.specs.Atoms.{AtomsOfPositive}
 use Rattle.alternating_theory.specs.Positive.{Positive, Const, Holds, Owed, And, Or}
 use Rattle.netlist.specs.Design.{Design}
 use Rattle.netlist.specs.Sound.{IsSound, NamesBit}

@@ -1,6 +1,6 @@
 // Positive combinations on the letter of a position and the obligations of the next one.
 ghost use Rattle.std.specs.Prelude.{◌≡◌, ℕ, ◌+◌, ◌<◌, ◌≤◌};
-ghost use Rattle.alternating.specs.Atoms.{AtomsOfPositive};
+ghost use Rattle.alternating_theory.specs.Atoms.{AtomsOfPositive};
 ghost use Rattle.alternating.specs.Views.{positive_of};
 ghost use Rattle.alternating_theory.specs.Positive.{OwesWithin};
 ghost use Rattle.circuit_theory.specs.Terms.{Term};

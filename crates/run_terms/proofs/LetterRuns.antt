@@ -4,8 +4,8 @@ use Rattle.std.specs.List.{range_with_len}
 use Rattle.std.proofs.lemmas.Bool.{cases_lt, lt-ltb}
 use Rattle.std.proofs.lemmas.List.Elements.{filter_agree}
 use Rattle.std.proofs.lemmas.List.FromFn.{length-map-range_with_len}
-use Rattle.lasso_theory.specs.Courses as lasso
-use Rattle.lasso_theory.specs.Courses.{letter_in, places}
+use Rattle.alternating_theory.specs.Courses as lasso
+use Rattle.alternating_theory.specs.Courses.{letter_in, places}
 use Rattle.netlist.specs.Design.{Design}
 use Rattle.netlist.specs.Runs.{bits_of, valuation_at, word}
 use Rattle.netlist.specs.Valuations.{bit}

@@ -3,7 +3,7 @@ use Rattle.std.proofs.Common.{◌≡◌, ℕ, ◌+◌, ◌*◌, ◌<◌, ◌≤�
 use Rattle.std.specs.Prelude.{All}
 use Rattle.std.specs.Bool.{IsTrue}
 use Rattle.std.proofs.Math.Nat.{mul-one}
-use Rattle.alternating.specs.Atoms.{AtomsOfPositive}
+use Rattle.alternating_theory.specs.Atoms.{AtomsOfPositive}
 use Rattle.alternating_theory.specs.Positive.{Positive, Const, Holds, Owed, And, Or, OwesWithin, met}
 use Rattle.clauses.specs.Models.{Assignment}
 use Rattle.circuit_theory.specs.Terms.{Term, value, term_within, term_size}

@@ -1,6 +1,6 @@
 -- What is asked of an automaton, so that terms over bits can say what it says.
 use Rattle.std.specs.Prelude.{ℕ, ◌<◌, length}
-use Rattle.alternating.specs.Atoms.{AtomsOfObligations}
+use Rattle.alternating_theory.specs.Atoms.{AtomsOfObligations}
 use Rattle.alternating_theory.specs.Obligations.{Automaton, obligation_at}
 use Rattle.alternating_theory.specs.Positive.{OwesWithin}
 use Rattle.netlist.specs.Design.{Design}

@@ -1,12 +1,12 @@
 // What follows from the definitions alone.
 ghost use Rattle.std.specs.Prelude.{ℕ, suc, ◌+◌, ◌*◌, ◌<◌, ◌≤◌, ◌^◌, ◌↔◌, ◌≡◌, ℤ, Bool as Truth, false, cond, nat_lt, nat_le, List, length, map, slice_index_or, Option, None, Some, All, IsTrue};
 ghost use Rattle.std.specs.List.{list_all};
-ghost use Rattle.alternating.specs.Atoms.{AtomsOfPositive};
+ghost use Rattle.alternating_theory.specs.Atoms.{AtomsOfPositive};
 ghost use Rattle.alternating_theory.specs.Positive.{Positive, OwesWithin, met};
 ghost use Rattle.circuit_theory.specs.Terms.{term_size, term_within, value, Term};
 ghost use Rattle.clauses.specs.Literals.{clause_within};
 ghost use Rattle.clauses.specs.Models.{is_true, Assignment};
-ghost use Rattle.lasso_theory.specs.Courses.{places, letter_at as letter_of_word};
+ghost use Rattle.alternating_theory.specs.Courses.{places, letter_at as letter_of_word};
 ghost use Rattle.netlist.specs.Design.{marks_of, Design};
 ghost use Rattle.netlist.specs.Runs.{bits_of, valuation_at, word};
 ghost use Rattle.netlist.specs.Sound.{IsSound, NamesBit};

@@ -16,7 +16,7 @@ use Rattle.psl_tree.specs.declared.atom.Atom.{Atom}
 use Rattle.netlist.specs.Design.{Design}
 use Rattle.netlist.specs.Sound as netlists
 use Rattle.netlist.specs.Sound.{NamesBit}
-use Rattle.alternating.specs.Atoms.{AtomsOfObligations, AtomsOfPositive}
+use Rattle.alternating_theory.specs.Atoms.{AtomsOfObligations, AtomsOfPositive}
 use Rattle.alternating_theory.specs.Obligations.{Automaton, Obligation, obligation_at}
 use Rattle.run_terms.specs.Combinations.{positive_term}
 use Rattle.run_terms.specs.Moves.{first_literals, move_terms}

@@ -12,7 +12,7 @@ use Rattle.psl_tree.specs.Names.{AtomInRange}
 use Rattle.psl_tree.specs.declared.letter.Letter.{Letter}
 use Rattle.psl_tree.specs.declared.name.Name.{Name}
 use Rattle.netlist.specs.Sound.{NamesBit}
-use Rattle.alternating.specs.Atoms.{AtomsOfPositive}
+use Rattle.alternating_theory.specs.Atoms.{AtomsOfPositive}
 use Rattle.alternating_theory.specs.Obligations.{Automaton, obligation_at}
 use Rattle.alternating_theory.specs.Positive.{met}
 use Rattle.alternating_theory.proofs.Reached.{met-owed, owed-within}

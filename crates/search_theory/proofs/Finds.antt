@@ -8,7 +8,7 @@ use Rattle.std.proofs.lemmas.List.Folds.{list_all-append}
 use Rattle.std.proofs.lemmas.List.FromFn.{length-map-range_with_len}
 use Rattle.clauses.specs.Models.{Assignment, is_true}
 use Rattle.circuit_theory.specs.Terms.{value}
-use Rattle.lasso_theory.specs.Courses as lasso
+use Rattle.alternating_theory.specs.Courses as lasso
 use Rattle.psl_tree.specs.Letters.{letter_at}
 use Rattle.psl_tree.specs.Names.{AtomInRange}
 use Rattle.psl_tree.specs.declared.letter.Letter.{Letter}

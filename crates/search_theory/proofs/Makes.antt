@@ -10,7 +10,7 @@ use Rattle.clauses.specs.Models.{Assignment, is_true}
 use Rattle.circuit_theory.specs.Distinct.{following}
 use Rattle.circuit_theory.specs.Relations.{is_related}
 use Rattle.circuit_theory.specs.Terms.{value}
-use Rattle.lasso_theory.specs.Courses as lasso
+use Rattle.alternating_theory.specs.Courses as lasso
 use Rattle.psl_tree.specs.Names.{AtomInRange}
 use Rattle.psl_tree.specs.declared.letter.Letter.{Letter}
 use Rattle.netlist.specs.Design.{Design}

@@ -8,7 +8,7 @@ use Rattle.circuit_theory.specs.Circuits.{AreSame}
 use Rattle.circuit_theory.specs.Relations.{circuit_of}
 use Rattle.circuit_theory.specs.Unrolled.{positions_of}
 use Rattle.circuit_theory.proofs.Agreement.{same-met}
-use Rattle.lasso_theory.specs.Courses as lasso
+use Rattle.alternating_theory.specs.Courses as lasso
 use Rattle.psl_tree.specs.Letters.{letter_at}
 use Rattle.netlist.specs.Design.{Design}
 use Rattle.netlist.specs.Runs.{bits_of, word}

@@ -5,16 +5,16 @@ use Rattle.std.proofs.lemmas.Bool.{or_cases, or_left, or_right, and_parts, and_f
 use Rattle.std.proofs.lemmas.Nat.{div-mul-add, mod-mul-add, mul-add-lt}
 use Rattle.psl_tree.specs.declared.letter.Letter.{Letter}
 use Rattle.psl_tree.specs.declared.letter.Word.{Word}
-use Rattle.lasso_theory.specs.Courses.{letter_at, next_place, places}
+use Rattle.alternating_theory.specs.Courses.{letter_at, next_place, places}
 use Rattle.alternating_theory.specs.Obligations.{Obligation, Automaton, obligation_at}
 use Rattle.alternating_theory.specs.Positive.{met, owes}
 use Rattle.alternating_theory.specs.Trimmed.{count_below}
 use Rattle.alternating_theory.proofs.Reached.{owed-within}
 use Rattle.alternating_theory.proofs.Settled.{same-or_more, count-at_most}
-use Rattle.alternating_loops.specs.Acceptance as acceptance
-use Rattle.alternating_loops.specs.Acceptance.{IsRun, AcceptsAlong, Accepts}
-use Rattle.alternating_loops.proofs.Accepts.{count-strict, some-of, is-some}
-use Rattle.alternating_loops.proofs.MetOwed.{met-grows}
+use Rattle.alternating_theory.specs.Acceptance as acceptance
+use Rattle.alternating_theory.specs.Acceptance.{IsRun, AcceptsAlong, Accepts}
+use Rattle.alternating_theory.proofs.Accepts.{count-strict, some-of, is-some}
+use Rattle.alternating_theory.proofs.MetOwed.{met-grows}
 use Rattle.run_terms.specs.Automata.{IsSound}
 use Rattle.search_theory.specs.Numbers.{place_after, is_kept, serves, IsSearched, AreSmall}
 

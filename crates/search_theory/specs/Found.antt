@@ -7,7 +7,7 @@ use Rattle.netlist.specs.Design.{Design}
 use Rattle.netlist.specs.Runs.{IsRun, word}
 use Rattle.netlist.specs.declared.run.Run.{Run}
 use Rattle.alternating_theory.specs.Obligations.{Automaton}
-use Rattle.alternating_loops.specs.Acceptance.{Accepts}
+use Rattle.alternating_theory.specs.Acceptance.{Accepts}
 use Rattle.run_terms.specs.Positions.{valuation_of}
 use Rattle.search_theory.specs.Searches.{begins, search_size, search_width}
 

@@ -1,10 +1,10 @@
 // What follows from the definitions alone.
 ghost use Rattle.std.specs.Prelude.{◌↔◌, ◌*◌, ◌<◌, ◌≤◌, ◌≡◌, ℕ, suc, Bool as Truth, length, IsTrue};
 ghost use Rattle.alternating_theory.specs.Obligations.{Automaton};
-ghost use Rattle.alternating_loops.specs.Acceptance.{Accepts};
+ghost use Rattle.alternating_theory.specs.Acceptance.{Accepts};
 ghost use Rattle.clauses.specs.Literals.{clause_words, clauses_within};
 ghost use Rattle.clauses.specs.Models.{Assignment, IsModel};
-ghost use Rattle.lasso_theory.specs.Courses.{letter_at, places};
+ghost use Rattle.alternating_theory.specs.Courses.{letter_at, places};
 ghost use Rattle.netlist.specs.Design.{Design};
 ghost use Rattle.netlist.specs.Sound as netlists;
 ghost use Rattle.psl_tree.specs.declared.counts.TheConstants.{MOST_OBLIGATIONS};

@@ -9,15 +9,15 @@ use Rattle.std.proofs.lemmas.List.{length-map}
 use Rattle.std.proofs.lemmas.List.Elements.{All-from_recursion}
 use Rattle.psl_tree.specs.Counts.{states_of}
 use Rattle.psl_tree.specs.Trees.{Sequence, Empty, One, Concat, Fuse, Either, Both, Star, Clocked}
-use Rattle.psl_meaning.specs.Clockless.{HasNoClock}
-use Rattle.sere_nfa.specs.Construction.{Part, part_of}
+use Rattle.psl_tree.specs.Clockless.{HasNoClock}
+use Rattle.psl_tree.specs.SequenceConstruction.{Part, part_of}
 use Rattle.sere_nfa.specs.Views.{edges_of, draft_of, drafts_of, part_of_code, TargetsWithin, StatesWithin, PartWithin}
 use Rattle.sere_nfa.specs.declared.edge.NfaEdge.{NfaEdge}
 use Rattle.sere_nfa.specs.declared.part.Part as code_part
 use Rattle.sere_nfa.specs.declared.state.State as code_state
-use Rattle.sere_nfa.proofs.Steps.{Within}
-use Rattle.sere_nfa.proofs.Numbers.{EachWithin}
-use Rattle.sere_nfa.proofs.Means.{IsPartOf, part-means}
+use Rattle.psl_tree.proofs.SequenceSteps.{Within}
+use Rattle.psl_tree.proofs.SequenceNumbers.{EachWithin}
+use Rattle.psl_tree.proofs.SequenceMeans.{IsPartOf, part-means}
 
 targets-recursion : (low high : ℕ) (edges : List NfaEdge) → Within low high (edges_of edges) → AllByRecursion (λ edge. (low ≤ edge.target) × (edge.target < high)) edges
 targets-recursion low high [] w = tt

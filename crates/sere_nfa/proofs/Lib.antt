@@ -1,14 +1,6 @@
-pub mod Automata
 pub mod Built
-pub mod Endings
-pub mod Fusions
 pub mod InPlace
-pub mod Joins
 pub mod Loops
-pub mod Means
-pub mod Numbers
-pub mod Products
 pub mod Reach
 pub mod Shown
 pub mod SourceLoops
-pub mod Steps

@@ -1,8 +1,8 @@
 -- Steps of the loops that pair edges and states.
 use Rattle.std.proofs.Common.{◌≡◌, ℕ, ◌+◌, ◌<◌, length, take, get_or, List, [], ◌∷◌, ◌++◌, map, ap, sym, ◌∙◌, append_assoc, append-nil}
 use Rattle.std.proofs.lemmas.List.{map-append, take_more}
-use Rattle.sere_nfa.specs.Acceptance.{Edge}
-use Rattle.sere_nfa.specs.Construction.{Draft, edge_pair, edge_pairs, state_pair, state_pairs}
+use Rattle.psl_tree.specs.SequenceAutomata.{Edge}
+use Rattle.psl_tree.specs.SequenceConstruction.{Draft, edge_pair, edge_pairs, state_pair, state_pairs}
 use Rattle.sere_nfa.specs.Views.{edge_of, edges_of, draft_of, drafts_of}
 use Rattle.sere_nfa.specs.declared.edge.NfaEdge.{NfaEdge}
 use Rattle.sere_nfa.specs.declared.state.State as code_state

@@ -5,9 +5,9 @@ use Rattle.std.proofs.Common.{All, append_assoc, append-nil, ◌≡◌, ◌⊎�
 use Rattle.std.proofs.lemmas.List.{get_or-set_same, get_or-set_other, length-append}
 use Rattle.std.proofs.Math.ListN.{length-set}
 use Rattle.psl_tree.specs.declared.letter.Letter.TheVariants.{Top}
-use Rattle.sere_nfa.specs.Acceptance.{Edge, State, state_at, Steps, AcceptsFrom, ReachesEnd}
+use Rattle.psl_tree.specs.SequenceAutomata.{Edge, State, state_at, Steps, AcceptsFrom, ReachesEnd}
 use Rattle.sere_nfa.specs.Marking.{is_marked, MarksAlive, sources_in, sources_from, AddsSources, finals_from, Marking, visit, visit_all}
-use Rattle.sere_nfa.proofs.Steps.{never}
+use Rattle.psl_tree.proofs.SequenceSteps.{never}
 use Rattle.std.proofs.lemmas.Bool.{eq-eqb, cases_eq}
 use Rattle.std.proofs.lemmas.Bool.Decides.{nat_tests}
 

@@ -4,17 +4,17 @@ use Rattle.std.specs.Prelude.{None}
 use Rattle.std.specs.List.{AllByRecursion}
 use Rattle.std.proofs.lemmas.List.{length-map, map-append}
 use Rattle.std.proofs.lemmas.List.Elements.{All-from_recursion, recursion_from_All}
-use Rattle.psl_meaning.specs.Tight.{Tight}
+use Rattle.psl_tree.specs.Tight.{Tight}
 use Rattle.psl_tree.specs.Trees.{Sequence}
 use Rattle.psl_tree.specs.declared.letter.Letter.{Letter}
-use Rattle.sere_nfa.specs.Acceptance.{Edge, State, Automaton, state_at, Accepts, LeadsWithin, IsSound}
-use Rattle.psl_meaning.specs.Clockless.{HasNoClock}
-use Rattle.sere_nfa.specs.Construction.{part_of, shown, finished, nfa_of}
+use Rattle.psl_tree.specs.SequenceAutomata.{Edge, State, Automaton, state_at, Accepts, LeadsWithin, IsSound}
+use Rattle.psl_tree.specs.Clockless.{HasNoClock}
+use Rattle.psl_tree.specs.SequenceConstruction.{part_of, shown, finished, nfa_of}
 use Rattle.sere_nfa.specs.Views.{edges_of, state_of, states_of_code, draft_of, drafts_of, part_of_code}
 use Rattle.sere_nfa.specs.declared.edge.NfaEdge.{NfaEdge}
 use Rattle.sere_nfa.specs.declared.part.Part as code_part
 use Rattle.sere_nfa.specs.declared.state.State as code_state
-use Rattle.sere_nfa.proofs.Automata.{finished-accepts, finished-sound}
+use Rattle.psl_tree.proofs.SequenceAutomata.{finished-accepts, finished-sound}
 use Rattle.sere_nfa.proofs.Built.{built-means}
 
 -- the program's state of a number

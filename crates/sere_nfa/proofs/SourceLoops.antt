@@ -1,7 +1,7 @@
 -- Steps of the loops that gather the sources of each state.
 use Rattle.std.proofs.Common.{◌≡◌, ℕ, zero, suc, ◌+◌, ◌<◌, List, [], ◌∷◌, ◌++◌, map, length, take, get_or, set, refl, ap, sym, subst, ◌∙◌, arith}
 use Rattle.std.proofs.lemmas.List.{map-append, take_more, length-map, length-take-le}
-use Rattle.sere_nfa.specs.Acceptance.{Edge, State}
+use Rattle.psl_tree.specs.SequenceAutomata.{Edge, State}
 use Rattle.sere_nfa.specs.Marking.{sources_in, sources_from, AddsSources}
 use Rattle.sere_nfa.specs.Views.{edge_of, edges_of, state_of, states_of_code}
 use Rattle.sere_nfa.specs.declared.edge.NfaEdge.{NfaEdge}

@@ -3,7 +3,7 @@ use Rattle.std.specs.Prelude.{ℕ, Bool as Truth, List, refl}
 use Rattle.std.specs.Coded.{Coded, code_by, coded×, coded_ℕ, coded_bool, coded_list}
 use Rattle.psl_tree.specs.Codes.{boolean_code}
 use Rattle.psl_tree.specs.Trees.{Boolean}
-use Rattle.sere_nfa.specs.Acceptance.{Edge, State, Automaton}
+use Rattle.psl_tree.specs.SequenceAutomata.{Edge, State, Automaton}
 
 abbrev pub edge_code : Coded Edge
 edge_code = code_by (Boolean × ℕ) (coded× boolean_code coded_ℕ) (λ edge. (edge.label, edge.target)) (λ pair. record { label = pair.0; target = pair.1 }) (λ _. refl)

@@ -1,7 +1,7 @@
 -- The search for the states from which a final state is reached: which are marked, and which of
 -- these wait for the states before them.
 use Rattle.std.specs.Prelude.{◌≡◌, ◌↔◌, ℕ, suc, ◌<◌, Bool as Truth, true, false, ◌==◌, if◌then◌else◌, List, [], ◌∷◌, ◌++◌, length, slice_index_or, slice_set, IsTrue}
-use Rattle.sere_nfa.specs.Acceptance.{Edge, State, ReachesEnd}
+use Rattle.psl_tree.specs.SequenceAutomata.{Edge, State, ReachesEnd}
 
 -- whether a state is marked; none past the end is
 abbrev pub is_marked : List Truth → ℕ → Truth

@@ -1,5 +1,5 @@
 -- What contracts see of the program's automaton, and what it keeps.
-use Rattle.sere_nfa.specs.Acceptance.{Automaton, IsSound}
+use Rattle.psl_tree.specs.SequenceAutomata.{Automaton, IsSound}
 use Rattle.sere_nfa.specs.Marking.{MarksAlive}
 use Rattle.sere_nfa.specs.Views.{states_of_code}
 use Rattle.sere_nfa.specs.declared.nfa.Nfa.TheInside.{Inside}

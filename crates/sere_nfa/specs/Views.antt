@@ -2,8 +2,8 @@
 use Rattle.std.specs.Prelude.{ℕ, ◌≤◌, ◌<◌, List, map, All}
 use Rattle.std.specs.Option.{option_map}
 use Rattle.psl_tree.specs.Trees.{boolean_of}
-use Rattle.sere_nfa.specs.Acceptance.{Edge, State}
-use Rattle.sere_nfa.specs.Construction.{Draft, Part}
+use Rattle.psl_tree.specs.SequenceAutomata.{Edge, State}
+use Rattle.psl_tree.specs.SequenceConstruction.{Draft, Part}
 use Rattle.sere_nfa.specs.declared.edge.NfaEdge.{NfaEdge}
 use Rattle.sere_nfa.specs.declared.state.State as code_state
 use Rattle.sere_nfa.specs.declared.part.Part as code_part

@@ -1,8 +1,8 @@
 ghost use Rattle.std.specs.Prelude.{◌≡◌, ◌+◌, ◌^◌, ◌<◌, length, IfOk};
 ghost use Rattle.psl_tree.specs.Counts.{states_of};
 ghost use Rattle.psl_tree.specs.Trees.{sequence_of};
-ghost use Rattle.psl_meaning.specs.Clockless.{HasNoClock};
-ghost use Rattle.sere_nfa.specs.Construction.{part_of};
+ghost use Rattle.psl_tree.specs.Clockless.{HasNoClock};
+ghost use Rattle.psl_tree.specs.SequenceConstruction.{part_of};
 ghost use Rattle.sere_nfa.specs.Views.{part_of_code, PartWithin};
 
 use crate::part::{Part, both, concat, either, empty, fuse, one, star};

@@ -1,6 +1,6 @@
 ghost use Rattle.std.specs.Prelude.{◌≡◌, ◌++◌, map, IfOk, OnOk};
 ghost use Rattle.psl_tree.specs.Trees.{boolean_of, And};
-ghost use Rattle.sere_nfa.specs.Construction.{narrowed, edge_pair};
+ghost use Rattle.psl_tree.specs.SequenceConstruction.{narrowed, edge_pair};
 ghost use Rattle.sere_nfa.specs.Views.{edge_of, edges_of};
 
 use crate::Few;

@@ -1,11 +1,11 @@
 ghost use Rattle.std.specs.Prelude.{◌≡◌, ◌≤◌, ◌<◌, ◌↔◌, All, None, List, length, IfOk, IsTrue};
-ghost use Rattle.psl_meaning.specs.Tight.{Tight};
+ghost use Rattle.psl_tree.specs.Tight.{Tight};
 ghost use Rattle.psl_tree.specs.Counts.{states_of};
 ghost use Rattle.psl_tree.specs.Trees.{sequence_of};
 ghost use Rattle.psl_tree.specs.declared.letter.Letter.{Letter};
-ghost use Rattle.sere_nfa.specs.Acceptance.{Accepts, ReachesEnd, state_at};
-ghost use Rattle.psl_meaning.specs.Clockless.{HasNoClock};
-ghost use Rattle.sere_nfa.specs.Construction.{nfa_of};
+ghost use Rattle.psl_tree.specs.SequenceAutomata.{Accepts, ReachesEnd, state_at};
+ghost use Rattle.psl_tree.specs.Clockless.{HasNoClock};
+ghost use Rattle.psl_tree.specs.SequenceConstruction.{nfa_of};
 ghost use Rattle.sere_nfa.specs.Views.{edges_of};
 
 use crate::alive::alive_marks;
@@ -40,7 +40,7 @@ pub struct Nfa {
 }
 
 impl Model for Nfa {
-    ghost use Rattle.sere_nfa.specs.Acceptance.{Automaton};
+    ghost use Rattle.psl_tree.specs.SequenceAutomata.{Automaton};
     ghost use Rattle.sere_nfa.specs.Codes.{automaton_code};
 
     ghost Value = { Automaton };

@@ -1,6 +1,6 @@
 ghost use Rattle.std.specs.Prelude.{◌≡◌, ◌+◌, ◌*◌, ◌^◌, ◌<◌, length, IfOk};
 ghost use Rattle.psl_tree.specs.Trees.{boolean_of};
-ghost use Rattle.sere_nfa.specs.Construction.{empty_part, one_part, concat_part, fuse_part, either_part, both_part, star_part};
+ghost use Rattle.psl_tree.specs.SequenceConstruction.{empty_part, one_part, concat_part, fuse_part, either_part, both_part, star_part};
 ghost use Rattle.sere_nfa.specs.Views.{part_of_code, PartWithin};
 
 use crate::Few;

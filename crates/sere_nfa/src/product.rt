@@ -1,5 +1,5 @@
 ghost use Rattle.std.specs.Prelude.{◌≡◌, ◌+◌, ◌*◌, ◌^◌, ◌<◌, ◌++◌, map, OnOk, IfOk};
-ghost use Rattle.sere_nfa.specs.Construction.{edge_pair, state_pair, state_pairs};
+ghost use Rattle.psl_tree.specs.SequenceConstruction.{edge_pair, state_pair, state_pairs};
 ghost use Rattle.sere_nfa.specs.Views.{edge_of, edges_of, draft_of, drafts_of, TargetsWithin, StatesWithin};
 
 use crate::Few;

@@ -1,7 +1,7 @@
 ghost use Rattle.std.specs.Prelude.{◌≡◌, ◌++◌, map, OnOk, IfOk};
 ghost use Rattle.std.specs.Option.{option_map};
 ghost use Rattle.psl_tree.specs.Trees.{boolean_of};
-ghost use Rattle.sere_nfa.specs.Construction.{either_of, both_of, joined, fused};
+ghost use Rattle.psl_tree.specs.SequenceConstruction.{either_of, both_of, joined, fused};
 ghost use Rattle.sere_nfa.specs.Views.{draft_of, drafts_of};
 
 use crate::edge::{Edges, add_copies, add_narrowed, both_hold};

@@ -14,7 +14,7 @@ use Rattle.netlist.specs.Runs.{IsRun, bits_of, valuation_at, word}
 use Rattle.netlist.specs.Sound.{IsSound, NamesBit}
 use Rattle.netlist.specs.Valuations.{bit}
 use Rattle.netlist.specs.declared.run.Run.{Run}
-use Rattle.psl_meaning.specs.Trace.{Trace, first, joined, suffix, trace_of}
+use Rattle.psl_tree.specs.Trace.{Trace, first, joined, suffix, trace_of}
 use Rattle.psl_tree.specs.Letters.{Bits, atom_at, atoms_of, atoms_of_bit, atoms_of_name, edge_at, letter_at}
 use Rattle.psl_tree.specs.Names.{indices}
 use Rattle.psl_tree.specs.declared.atom.Atom.{Atom}

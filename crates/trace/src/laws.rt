@@ -3,7 +3,7 @@ ghost use Rattle.netlist.specs.Design.{Design};
 ghost use Rattle.netlist.specs.Runs.{IsRun, word};
 ghost use Rattle.netlist.specs.Sound.{IsSound};
 ghost use Rattle.netlist.specs.declared.run.Run.{Run};
-ghost use Rattle.psl_meaning.specs.Trace.{first, trace_of};
+ghost use Rattle.psl_tree.specs.Trace.{first, trace_of};
 ghost use Rattle.trace.specs.Examples.{AreTraced};
 ghost use Rattle.trace.specs.Letters.{letters_over};
 ghost use Rattle.trace.specs.Trace.{count_of, trace_sampled, trace_text};

@@ -3,13 +3,13 @@ use Rattle.std.proofs.Common.{◌≡◌, refl, sym, subst, ℕ, zero, suc, List,
 use Rattle.std.specs.Prelude.{IsTrue}
 use Rattle.clock_rewrite.proofs.Clockless.{plain_plain}
 use Rattle.clock_rewrite.proofs.Meaning.{plain_words}
-use Rattle.lasso_theory.proofs.Raised.{Below, LessLetter, raised}
-use Rattle.psl_meaning.proofs.Traces.{neutral-followed, strong-followed, weak-followed}
-use Rattle.psl_meaning.specs.Followed.{Past, Nothing, Tops, Bottoms, followed}
-use Rattle.psl_meaning.specs.Plain.{plain}
-use Rattle.psl_meaning.specs.Satisfaction.{Sat}
-use Rattle.psl_meaning.specs.Trace.{Trace, dual, holds_at, is_place, trace_of}
-use Rattle.psl_meaning.specs.Views.{neutral, strong, weak}
+use Rattle.alternating_theory.proofs.Raised.{Below, LessLetter, raised}
+use Rattle.psl_tree.proofs.Traces.{neutral-followed, strong-followed, weak-followed}
+use Rattle.psl_tree.specs.Followed.{Past, Nothing, Tops, Bottoms, followed}
+use Rattle.psl_tree.specs.Plain.{plain}
+use Rattle.psl_tree.specs.Satisfaction.{Sat}
+use Rattle.psl_tree.specs.Trace.{Trace, dual, holds_at, is_place, trace_of}
+use Rattle.psl_tree.specs.Views.{neutral, strong, weak}
 use Rattle.psl_tree.specs.Trees.{Boolean, Formula, formula_of}
 use Rattle.psl_tree.specs.declared.directive.Directive.{Directive}
 use Rattle.psl_tree.specs.declared.letter.Letter.{Letter}

@@ -2,7 +2,7 @@
 use Rattle.std.proofs.Common.{◌≡◌, ◌∙◌, sym, subst, ℕ, List, [], ◌∷◌, length, map}
 use Rattle.std.specs.List.{filter, range_with_len}
 use Rattle.std.proofs.lemmas.List.FromFn.{length-map-range_with_len}
-use Rattle.lasso_theory.proofs.Raised.{LessLetter}
+use Rattle.alternating_theory.proofs.Raised.{LessLetter}
 use Rattle.netlist.specs.Design.{Design}
 use Rattle.netlist.specs.Runs.{IsRun}
 use Rattle.netlist.specs.Sound.{IsSound}

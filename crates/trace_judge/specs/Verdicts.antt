@@ -3,7 +3,7 @@ use Rattle.std.specs.Prelude.{◌≡◌, ℕ, ◌<◌, ◌≤◌, length, Option
 use Rattle.netlist.specs.Design.{Design}
 use Rattle.netlist.specs.Runs.{IsRun, word}
 use Rattle.netlist.specs.declared.run.Run.{Run}
-use Rattle.psl_meaning.specs.Trace.{first, trace_of}
+use Rattle.psl_tree.specs.Trace.{first, trace_of}
 use Rattle.psl_tree.specs.declared.directive.Directive.{Directive}
 use Rattle.trace.specs.Trace.{count_of, trace_text}
 use Rattle.trace.specs.Words.{HasWords}

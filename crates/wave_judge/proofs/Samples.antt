@@ -4,14 +4,14 @@ use Rattle.std.specs.Prelude.{IsTrue}
 use Rattle.std.specs.List.{filter}
 use Rattle.std.proofs.lemmas.List.{drop_all, get_or-take, length-map, length-take-le, get_or-map, take_all}
 use Rattle.std.proofs.lemmas.List.FromFn.{length-map-range_with_len, get_or-map-range_with_len}
-use Rattle.psl_meaning.specs.Followed.{Past, Nothing, Tops, Bottoms}
+use Rattle.psl_tree.specs.Followed.{Past, Nothing, Tops, Bottoms}
 use Rattle.psl_tree.specs.declared.atom.Atom.{Atom}
 use Rattle.psl_tree.specs.Holds.{holds}
 use Rattle.psl_tree.specs.Trees.{Test}
 use Rattle.vcd_reader.specs.Sampled.{Sampled, atom_at, atoms_of, letter_at, letters_of}
 use Rattle.alternating_theory.specs.Obligations.{Automaton, value_on}
 use Rattle.alternating.proofs.Stepping.{bits_pack, start_tells}
-use Rattle.alternating.specs.Atoms.{AtomsOfObligations, is_among}
+use Rattle.alternating_theory.specs.Atoms.{AtomsOfObligations, is_among}
 use Rattle.alternating.specs.Packed.{is_set, PacksLetter}
 use Rattle.alternating.specs.Stepped.{value_at, values_of}
 use Rattle.wave_judge.specs.Letter.{TellsLetter, TellColumns}

@@ -9,10 +9,10 @@ use Rattle.alternating.proofs.Stepping.{mapped-value, never-value, start_tells}
 use Rattle.alternating.specs.Stepped.{value_at, values_of}
 use Rattle.alternating_theory.specs.Obligations.{Automaton, obligation_at, value_of, value_on}
 use Rattle.alternating_theory.specs.Positive.{met}
-use Rattle.psl_meaning.specs.Followed.{Past, Tops}
-use Rattle.psl_meaning.specs.Satisfaction.{Sat}
-use Rattle.psl_meaning.specs.Trace.{trace_of}
-use Rattle.psl_meaning.specs.Views.{weak}
+use Rattle.psl_tree.specs.Followed.{Past, Tops}
+use Rattle.psl_tree.specs.Satisfaction.{Sat}
+use Rattle.psl_tree.specs.Trace.{trace_of}
+use Rattle.psl_tree.specs.Views.{weak}
 use Rattle.psl_tree.specs.Trees.{Formula, formula_of}
 use Rattle.psl_tree.specs.declared.directive.Directive.{Directive}
 use Rattle.psl_tree.specs.declared.letter.Letter.{Letter}

@@ -6,13 +6,13 @@ use mathlib.Core.Path.{fun_ext}
 use Rattle.clock_rewrite.proofs.Clockless.{plain_plain}
 use Rattle.clock_rewrite.proofs.Gaps.{HasNoGaps}
 use Rattle.clock_rewrite.proofs.Meaning.{plain-same}
-use Rattle.lasso_theory.proofs.Raised.{LessLetter, below-letters, bottom-less, less-same, less-top, raised}
-use Rattle.psl_meaning.proofs.Traces.{below-zero, zero-below, suc-below, suc-minus, strong-followed, weak-followed}
-use Rattle.psl_meaning.specs.Followed.{Tops, Bottoms, followed}
-use Rattle.psl_meaning.specs.Plain.{plain}
-use Rattle.psl_meaning.specs.Satisfaction.{Sat}
-use Rattle.psl_meaning.specs.Trace.{Trace, trace_of}
-use Rattle.psl_meaning.specs.Views.{strong, weak}
+use Rattle.alternating_theory.proofs.Raised.{LessLetter, below-letters, bottom-less, less-same, less-top, raised}
+use Rattle.psl_tree.proofs.Traces.{below-zero, zero-below, suc-below, suc-minus, strong-followed, weak-followed}
+use Rattle.psl_tree.specs.Followed.{Tops, Bottoms, followed}
+use Rattle.psl_tree.specs.Plain.{plain}
+use Rattle.psl_tree.specs.Satisfaction.{Sat}
+use Rattle.psl_tree.specs.Trace.{Trace, trace_of}
+use Rattle.psl_tree.specs.Views.{strong, weak}
 use Rattle.psl_tree.specs.Trees.{Formula}
 use Rattle.psl_tree.specs.declared.letter.Letter.{Letter}
 use Rattle.psl_tree.specs.declared.letter.Letter.TheVariants.{Top, Bottom}

@@ -6,7 +6,7 @@ use Rattle.std.proofs.lemmas.Bool.{or_left, or_right, cases_lt}
 use Rattle.std.proofs.lemmas.List.{take-append-le, take_at, get_or_push, length_push}
 use Rattle.std.proofs.lemmas.List.Elements.{All-from_recursion, recursion_from_All, All-contains_itself, All-contains, All-weaker}
 use Rattle.std.proofs.lemmas.List.Folds.{list_any-append}
-use Rattle.alternating.specs.Atoms.{is_among}
+use Rattle.alternating_theory.specs.Atoms.{is_among}
 use Rattle.psl_tree.specs.Atoms.{AtomsOfBoolean, AtomsOfSequence, AtomsOfFormula}
 use Rattle.psl_tree.specs.Counts.{boolean_size, sequence_size, formula_size}
 use Rattle.psl_tree.specs.Holds.{is_same_atom, edge_number}

@@ -4,10 +4,10 @@ use Rattle.std.specs.Prelude.{◌↔◌}
 use Rattle.std.proofs.lemmas.Bool.{cases_lt}
 use Rattle.alternating_theory.specs.Laws.{ValuesOf}
 use Rattle.alternating_theory.specs.Obligations.{Automaton}
-use Rattle.alternating.specs.Atoms.{KeepsAtoms as AutomatonKeeps}
+use Rattle.alternating_theory.specs.Atoms.{KeepsAtoms as AutomatonKeeps}
 use Rattle.alternating.specs.Limits.{HasLargeSequence}
 use Rattle.clock_rewrite.specs.Clock.{HasSameWords, KeepsAtoms as ClockKeeps}
-use Rattle.psl_meaning.specs.Views as views
+use Rattle.psl_tree.specs.Views as views
 use Rattle.psl_tree.specs.declared.counts.TheConstants.{MOST_OBLIGATIONS}
 use Rattle.psl_tree.specs.Counts.{obligations_of}
 use Rattle.psl_tree.specs.Trees.{Formula, formula_of}

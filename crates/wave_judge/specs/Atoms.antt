@@ -1,6 +1,6 @@
 -- The atoms that a formula tests.
 use Rattle.std.specs.Prelude.{IsTrue, ◌≡◌, ◌≤◌, ◌<◌, ℕ, false, if◌then◌else◌, List, [], ◌∷◌, ◌++◌, length, take, All, Contains, slice_index_or}
-use Rattle.alternating.specs.Atoms.{is_among}
+use Rattle.alternating_theory.specs.Atoms.{is_among}
 use Rattle.psl_tree.specs.Atoms.{AtomsOfFormula}
 use Rattle.psl_tree.specs.Counts.{formula_size}
 use Rattle.psl_tree.specs.Trees.{Formula}

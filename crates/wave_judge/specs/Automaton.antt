@@ -1,11 +1,11 @@
 -- What the automaton of a directive says.
 use Rattle.std.specs.Prelude.{Bool as Truth, IsTrue, ◌↔◌, List, None}
-use Rattle.alternating.specs.Atoms.{AtomsOfObligations}
+use Rattle.alternating_theory.specs.Atoms.{AtomsOfObligations}
 use Rattle.alternating_theory.specs.Obligations.{Automaton, value_on}
-use Rattle.psl_meaning.specs.Followed.{Nothing, Tops, Bottoms}
-use Rattle.psl_meaning.specs.Satisfaction.{Sat}
-use Rattle.psl_meaning.specs.Trace.{trace_of}
-use Rattle.psl_meaning.specs.Views as views
+use Rattle.psl_tree.specs.Followed.{Nothing, Tops, Bottoms}
+use Rattle.psl_tree.specs.Satisfaction.{Sat}
+use Rattle.psl_tree.specs.Trace.{trace_of}
+use Rattle.psl_tree.specs.Views as views
 use Rattle.psl_tree.specs.Atoms.{AtomsOfFormula}
 use Rattle.psl_tree.specs.declared.atom.Atom.{Atom}
 use Rattle.psl_tree.specs.declared.directive.Directive.{Directive}

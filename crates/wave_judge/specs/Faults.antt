@@ -1,7 +1,7 @@
 -- Why a unit is not judged: the first directive whose automaton would be too large.
 use Rattle.std.specs.Prelude.{◌≡◌, ◌<◌, ◌≤◌, ℕ, List, Some, None, All, take, slice_get}
 use Rattle.alternating.specs.Limits.{HasLargeSequence}
-use Rattle.psl_meaning.specs.Plain.{plain}
+use Rattle.psl_tree.specs.Plain.{plain}
 use Rattle.psl_tree.specs.Counts.{obligations_of}
 use Rattle.psl_tree.specs.declared.counts.TheConstants.{MOST_OBLIGATIONS}
 use Rattle.psl_tree.specs.declared.directive.Directive.{Directive}

@@ -1,8 +1,8 @@
 -- What a verdict says.
 use Rattle.std.specs.Prelude.{◌≡◌, ◌↔◌, IsTrue, List, [], ◌∷◌, None}
-use Rattle.psl_meaning.specs.Satisfaction.{Sat}
-use Rattle.psl_meaning.specs.Trace.{trace_of}
-use Rattle.psl_meaning.specs.Views as views
+use Rattle.psl_tree.specs.Satisfaction.{Sat}
+use Rattle.psl_tree.specs.Trace.{trace_of}
+use Rattle.psl_tree.specs.Views as views
 use Rattle.psl_tree.specs.declared.directive.Directive.{Directive}
 use Rattle.psl_tree.specs.declared.letter.Letter.{Letter}
 use Rattle.psl_tree.specs.Trees.{formula_of}

@@ -1,8 +1,8 @@
 -- From which letter on a verdict is settled: whatever letters come then, for ever, it stays.
 use Rattle.std.specs.Prelude.{◌≡◌, ◌≤◌, ◌<◌, ℕ, List, [], ◌∷◌, length, take, Option, None, Some}
-use Rattle.psl_meaning.specs.Satisfaction.{Sat}
-use Rattle.psl_meaning.specs.Trace.{Trace, after, trace_of}
-use Rattle.psl_meaning.specs.Views as views
+use Rattle.psl_tree.specs.Satisfaction.{Sat}
+use Rattle.psl_tree.specs.Trace.{Trace, after, trace_of}
+use Rattle.psl_tree.specs.Views as views
 use Rattle.psl_tree.specs.declared.directive.Directive.{Directive}
 use Rattle.psl_tree.specs.declared.letter.Letter.{Letter}
 use Rattle.psl_tree.specs.Trees.{Formula, formula_of}

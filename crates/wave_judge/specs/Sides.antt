@@ -1,6 +1,6 @@
 -- The two ways in which letters settle a verdict, and what a search for its point keeps.
 use Rattle.std.specs.Prelude.{◌≡◌, ◌≤◌, ℕ, suc, Bool as Truth, true, false, not, List, length}
-use Rattle.psl_meaning.specs.Followed.{Past, Tops, Bottoms}
+use Rattle.psl_tree.specs.Followed.{Past, Tops, Bottoms}
 use Rattle.psl_tree.specs.declared.letter.Letter.{Letter}
 use Rattle.psl_tree.specs.Trees.{Formula}
 use Rattle.vcd_reader.specs.Sampled.{Sampled}

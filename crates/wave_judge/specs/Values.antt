@@ -1,6 +1,6 @@
 -- The values of all obligations at a sample, and the answers that they come to.
 use Rattle.std.specs.Prelude.{◌≡◌, ◌≤◌, ◌*◌, ℕ, List, length, take, drop}
-use Rattle.psl_meaning.specs.Followed.{Nothing, Tops, Bottoms}
+use Rattle.psl_tree.specs.Followed.{Nothing, Tops, Bottoms}
 use Rattle.psl_tree.specs.declared.letter.Letter.{Letter}
 use Rattle.vcd_reader.specs.Sampled.{Sampled, letters_of}
 use Rattle.alternating_theory.specs.Obligations.{Automaton, value_on}

@@ -1,7 +1,7 @@
 ghost use Rattle.std.specs.Prelude.{◌≡◌, ◌⊎◌, ℕ, List, All};
-ghost use Rattle.psl_meaning.specs.Satisfaction.{Sat};
-ghost use Rattle.psl_meaning.specs.Trace.{trace_of};
-ghost use Rattle.psl_meaning.specs.Views.{weak, strong};
+ghost use Rattle.psl_tree.specs.Satisfaction.{Sat};
+ghost use Rattle.psl_tree.specs.Trace.{trace_of};
+ghost use Rattle.psl_tree.specs.Views.{weak, strong};
 ghost use Rattle.psl_tree.specs.declared.directive.Directive.{Directive};
 ghost use Rattle.psl_tree.specs.declared.letter.Letter.{Letter};
 ghost use Rattle.psl_tree.specs.Trees.{Formula};

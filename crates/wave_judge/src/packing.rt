@@ -1,7 +1,7 @@
 ghost use Rattle.std.specs.Prelude.{◌≡◌, ◌<◌, ◌^◌, [], ◌∷◌, length, All, IfOk, OnOk};
 ghost use Rattle.psl_tree.specs.Holds.{holds};
 ghost use Rattle.psl_tree.specs.Trees.{Test, boolean_of, sequence_of, formula_of};
-ghost use Rattle.alternating.specs.Atoms.{is_among};
+ghost use Rattle.alternating_theory.specs.Atoms.{is_among};
 ghost use Rattle.vcd_reader.specs.Sampled.{AtomInRange, letter_at};
 ghost use Rattle.wave_judge.specs.Letter.{TellsLetter};
 ghost use Rattle.wave_judge.specs.Atoms.{atoms_in_boolean, atoms_in_sequence, atoms_in, with_new, AreTested};

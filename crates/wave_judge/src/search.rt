@@ -1,5 +1,5 @@
 ghost use Rattle.std.specs.Prelude.{◌≡◌, ◌+◌, ◌-◌, ◌*◌, ◌≤◌, ◌^◌, ◌<◌, true, length, All, IsTrue, IfOk};
-ghost use Rattle.alternating.specs.Atoms.{AtomsOfObligations, is_among};
+ghost use Rattle.alternating_theory.specs.Atoms.{AtomsOfObligations, is_among};
 ghost use Rattle.vcd_reader.specs.Sampled.{AtomInRange, letters_of};
 ghost use Rattle.wave_judge.specs.Sides.{values_in, settles, is_settled, IsSpan, IsStep};
 ghost use Rattle.wave_judge.specs.Values.{IsStand, first_letters};

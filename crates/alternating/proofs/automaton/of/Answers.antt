@@ -1,11 +1,11 @@
 use Rattle.std.proofs.Common.{sym, subst}
 use Rattle.psl_tree.specs.Trees.{formula_of}
-use Rattle.alternating_loops.specs.Laws.{LoopsOf}
-use Rattle.alternating_loops.proofs.LawsHold.{loops}
+use Rattle.alternating_theory.specs.LoopLaws.{LoopsOf}
+use Rattle.alternating_theory.proofs.LoopLawsHold.{loops}
 use Rattle.alternating_theory.specs.Laws.{ValuesOf, NamesOf, SizeOf}
 use Rattle.alternating_theory.specs.Obligations.{Automaton}
 use Rattle.alternating_theory.proofs.LawsHold.{values, names, size}
-use Rattle.alternating.specs.Atoms.{KeepsAtoms}
+use Rattle.alternating_theory.specs.Atoms.{KeepsAtoms}
 use Rattle.alternating.proofs.Tested.{keeps-atoms}
 use Rattle.alternating.proofs.automaton.of.Goals as goal
 

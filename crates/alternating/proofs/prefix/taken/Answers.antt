@@ -1,5 +1,5 @@
 use Rattle.std.proofs.Common.{rules, ◌∙◌, ◌-◌, ap, sym, List, ◌∷◌, length, drop}
-use Rattle.sere_nfa.specs.Acceptance.{Edge}
+use Rattle.psl_tree.specs.SequenceAutomata.{Edge}
 use Rattle.sere_nfa.specs.Views.{edge_of, edges_of}
 use Rattle.sere_nfa.specs.declared.edge.NfaEdge.{NfaEdge}
 use Rattle.alternating_theory.specs.Construction.{taken, taken_edge}

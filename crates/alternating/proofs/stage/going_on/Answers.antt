@@ -1,5 +1,5 @@
 use Rattle.std.proofs.Common.{rules, ◌∙◌, ap, List}
-use Rattle.sere_nfa.specs.Acceptance.{Edge, State}
+use Rattle.psl_tree.specs.SequenceAutomata.{Edge, State}
 use Rattle.sere_nfa.specs.Views.{edges_of}
 use Rattle.sere_nfa.specs.declared.edge.NfaEdge.{NfaEdge}
 use Rattle.alternating_theory.specs.Going.{goes_on}

@@ -1,5 +1,5 @@
 use Rattle.psl_tree.specs.Trees.{formula_of}
-use Rattle.psl_meaning.specs.Clockless.{IsPlain}
+use Rattle.psl_tree.specs.Clockless.{IsPlain}
 use Rattle.automaton_examples.proofs.automata.large.Given as goal
 
 abbrev pub invariant-loop-aborted : goal.invariant-loop-aborted

@@ -1,4 +1,4 @@
-use Rattle.psl_meaning.specs.Clockless.{HasNoClock}
+use Rattle.psl_tree.specs.Clockless.{HasNoClock}
 use Rattle.psl_tree.specs.Trees.{sequence_of}
 use Rattle.automaton_examples.proofs.lassos.after.Given as goal
 

@@ -1,5 +1,5 @@
 use Rattle.std.proofs.Common.{◌≡◌, drop}
-use Rattle.alternating.specs.Atoms.{is_among}
+use Rattle.alternating_theory.specs.Atoms.{is_among}
 use Rattle.block_step.proofs.letters.column_of.Given as goal
 
 abbrev pub invariant-loop-number : goal.invariant-loop-number

@@ -1,6 +1,6 @@
 use Rattle.std.proofs.Common.{◌≡◌, ◌∙◌, ap}
 use Rattle.clock_rewrite.specs.Clock.{clock_of}
-use Rattle.psl_meaning.specs.Plain.{plain}
+use Rattle.psl_tree.specs.Plain.{plain}
 use Rattle.psl_tree.specs.Trees.{formula_of}
 use Rattle.clock_rewrite.proofs.Answer.{answer_clockless, answer_words, answer_atoms}
 use Rattle.clock_rewrite.proofs.rewriting.unclock.Goals as goal

@@ -1,6 +1,6 @@
 use Rattle.std.proofs.Common.{List, sym, subst}
 use Rattle.alternating.proofs.Tested.{built-has}
-use Rattle.alternating.specs.Atoms.{AtomsOfObligations}
+use Rattle.alternating_theory.specs.Atoms.{AtomsOfObligations}
 use Rattle.alternating_theory.specs.Built.{built}
 use Rattle.alternating_theory.specs.Obligations.{Automaton}
 use Rattle.psl_tree.specs.Names.{AtomInRange}

@@ -1,6 +1,6 @@
 use Rattle.std.proofs.Common.{sym, subst, ◌<◌, length, arith}
 use Rattle.psl_tree.specs.Trees.{sequence_of}
-use Rattle.sere_nfa.specs.Acceptance.{Automaton}
+use Rattle.psl_tree.specs.SequenceAutomata.{Automaton}
 use Rattle.lasso_judge.specs.Merging.{IsMerged}
 use Rattle.lasso_judge.proofs.Drawn.{some-state}
 use Rattle.lasso_judge.proofs.chart.merged_automaton.Goals as goal

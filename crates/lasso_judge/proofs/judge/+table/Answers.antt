@@ -1,6 +1,6 @@
 use Rattle.std.proofs.Common.{ap, sym, subst, Bool as Truth, Vec, Global, ℕ, List, length}
 use Rattle.std.specs.Prelude.{not}
-use Rattle.psl_meaning.specs.Clockless.{IsPlain}
+use Rattle.psl_tree.specs.Clockless.{IsPlain}
 use Rattle.psl_tree.specs.Trees.{boolean_of, sequence_of, formula_of}
 use Rattle.psl_tree.specs.declared.fl.Fl.{Fl}
 use Rattle.lasso_judge.specs.Seen.{course_by}

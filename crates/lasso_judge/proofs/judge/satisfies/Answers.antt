@@ -1,7 +1,7 @@
 use Rattle.std.proofs.Common.{◌∙◌, ◌+◌, ◌<◌, sym, subst, false, ℕ, List, length, arith}
 use Rattle.std.proofs.lemmas.List.{get_or_default}
 use Rattle.psl_tree.specs.Trees.{formula_of}
-use Rattle.lasso_theory.specs.Courses.{places, next_place}
+use Rattle.alternating_theory.specs.Courses.{places, next_place}
 use Rattle.lasso_judge.specs.Seen.{course_by, IsWhole}
 use Rattle.lasso_judge.specs.Tables.{Leads, Tells}
 use Rattle.lasso_judge.proofs.Followed.{own-whole}

@@ -1,6 +1,6 @@
 use Rattle.std.proofs.Common.{ap, length, List, arith}
 use Rattle.std.proofs.lemmas.List.{length-map}
-use Rattle.sere_nfa.specs.Acceptance.{Edge}
+use Rattle.psl_tree.specs.SequenceAutomata.{Edge}
 use Rattle.sere_nfa.specs.Views.{edge_of}
 use Rattle.sere_nfa.specs.declared.edge.NfaEdge.{NfaEdge}
 use Rattle.lasso_judge.proofs.Drawn.{taken}

@@ -1,7 +1,7 @@
 use Rattle.std.proofs.Common.{◌≡◌, ◌∙◌, refl, ap, subst, ℕ, ◌*◌, ◌/◌, ◌%◌, Bool as Truth, List, length}
 use Rattle.std.specs.Prelude.{slice_index}
 use Rattle.psl_tree.specs.declared.letter.Letter.{Letter}
-use Rattle.sere_nfa.specs.Acceptance.{Edge, State, state_at}
+use Rattle.psl_tree.specs.SequenceAutomata.{Edge, State, state_at}
 use Rattle.sere_nfa.specs.Views.{edges_of}
 use Rattle.sere_nfa.specs.declared.edge.NfaEdge.{NfaEdge}
 use Rattle.lasso_judge.specs.Cells.{NoneGoes}

@@ -1,5 +1,5 @@
 use Rattle.lasso_judge.specs.Tables.{Leads}
-use Rattle.lasso_theory.specs.Courses.{next_place}
+use Rattle.alternating_theory.specs.Courses.{next_place}
 use Rattle.lasso_judge.proofs.places.next_places.Given as goal
 
 abbrev pub invariant-loop-place : goal.invariant-loop-place

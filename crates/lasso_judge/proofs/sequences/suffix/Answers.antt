@@ -1,7 +1,7 @@
 use Rattle.std.proofs.Common.{refl, ◌-◌, sym, subst, Bool as Truth, List, length}
 use Rattle.std.specs.Prelude.{not}
 use Rattle.psl_tree.specs.Trees.{sequence_of}
-use Rattle.sere_nfa.specs.Construction.{nfa_of}
+use Rattle.psl_tree.specs.SequenceConstruction.{nfa_of}
 use Rattle.lasso_judge.specs.Cells.{cell_of}
 use Rattle.lasso_judge.specs.Tables.{value_at, Has}
 use Rattle.lasso_judge.proofs.Starts.{starts-as, suffix-tells}

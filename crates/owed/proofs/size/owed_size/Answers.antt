@@ -1,5 +1,5 @@
 use Rattle.std.specs.Prelude.{None}
-use Rattle.psl_meaning.specs.Plain.{plain}
+use Rattle.psl_tree.specs.Plain.{plain}
 use Rattle.psl_tree.specs.Trees.{formula_of}
 use Rattle.owed.proofs.Sizing.{owed-size}
 use Rattle.owed.proofs.size.owed_size.Goals as goal

@@ -1,6 +1,6 @@
 use Rattle.std.proofs.Common.{◌≡◌, ◌++◌, take, map}
 use Rattle.psl_tree.specs.Trees.{boolean_of}
-use Rattle.sere_nfa.specs.Construction.{narrowed}
+use Rattle.psl_tree.specs.SequenceConstruction.{narrowed}
 use Rattle.sere_nfa.specs.Views.{edges_of}
 use Rattle.sere_nfa.proofs.edge.add_narrowed.Given as goal
 

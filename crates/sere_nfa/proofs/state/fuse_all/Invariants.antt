@@ -1,4 +1,4 @@
-use Rattle.sere_nfa.specs.Construction.{fused}
+use Rattle.psl_tree.specs.SequenceConstruction.{fused}
 use Rattle.sere_nfa.specs.Views.{draft_of}
 use Rattle.sere_nfa.proofs.InPlace.{ChangedBelow}
 use Rattle.sere_nfa.proofs.state.fuse_all.Given as goal

@@ -1,5 +1,5 @@
 use Rattle.std.proofs.Common.{rules}
-use Rattle.sere_nfa.specs.Construction.{joined}
+use Rattle.psl_tree.specs.SequenceConstruction.{joined}
 use Rattle.sere_nfa.specs.Views.{draft_of}
 use Rattle.sere_nfa.proofs.InPlace.{changed-none, changed-more, changed-all}
 use Rattle.sere_nfa.proofs.state.join_all.Goals as goal

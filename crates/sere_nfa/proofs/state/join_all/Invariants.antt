@@ -1,4 +1,4 @@
-use Rattle.sere_nfa.specs.Construction.{joined}
+use Rattle.psl_tree.specs.SequenceConstruction.{joined}
 use Rattle.sere_nfa.specs.Views.{draft_of}
 use Rattle.sere_nfa.proofs.InPlace.{ChangedBelow}
 use Rattle.sere_nfa.proofs.state.join_all.Given as goal

@@ -1,4 +1,4 @@
-use Rattle.alternating.specs.Atoms.{is_among}
+use Rattle.alternating_theory.specs.Atoms.{is_among}
 use Rattle.psl_tree.specs.Trees.{formula_of}
 use Rattle.vcd_reader.specs.Sampled.{AtomInRange}
 use Rattle.wave_judge.proofs.Searching.{step-point}

@@ -1,9 +1,9 @@
 use Rattle.psl_tree.specs.Trees.{Not}
-use Rattle.alternating_loops.specs.Laws.{LoopsOf}
-use Rattle.alternating_loops.proofs.LawsHold.{loops}
+use Rattle.alternating_theory.specs.LoopLaws.{LoopsOf}
+use Rattle.alternating_theory.proofs.LoopLawsHold.{loops}
 use Rattle.alternating_theory.specs.Laws.{ValuesOf, NamesOf, SizeOf}
 use Rattle.alternating_theory.proofs.LawsHold.{values, names}
-use Rattle.alternating.specs.Atoms.{KeepsAtoms}
+use Rattle.alternating_theory.specs.Atoms.{KeepsAtoms}
 use Rattle.alternating.proofs.Duals.{of-negation, negation-size}
 use Rattle.alternating.proofs.Tested.{keeps-atoms}
 use Rattle.alternating.proofs.automaton.Alternating.dual.Goals as goal

@@ -1,5 +1,5 @@
 use Rattle.std.proofs.Common.{◌∙◌, ap, List, [], map}
-use Rattle.psl_meaning.specs.Followed.{Tops}
+use Rattle.psl_tree.specs.Followed.{Tops}
 use Rattle.alternating_theory.specs.Obligations.{Automaton, Obligation}
 use Rattle.alternating.specs.Stepped.{values_of}
 use Rattle.alternating.specs.Views.{obligations_of_code}

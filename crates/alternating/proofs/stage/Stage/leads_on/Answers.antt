@@ -1,5 +1,5 @@
 use Rattle.std.proofs.Common.{false}
-use Rattle.sere_nfa.specs.Acceptance.{State}
+use Rattle.psl_tree.specs.SequenceAutomata.{State}
 use Rattle.alternating_theory.specs.Going.{goes_on}
 use Rattle.alternating.proofs.Edges.{mark-at}
 use Rattle.alternating.proofs.stage.Stage.leads_on.Goals as goal

@@ -1,6 +1,6 @@
 use Rattle.std.proofs.Common.{◌≡◌, ◌∙◌, ◌<◌, ap, subst, sym, arith, length, All}
 use Rattle.std.proofs.lemmas.List.{length-map}
-use Rattle.sere_nfa.specs.Acceptance.{Automaton, State, LeadsWithin, state_at}
+use Rattle.psl_tree.specs.SequenceAutomata.{Automaton, State, LeadsWithin, state_at}
 use Rattle.sere_nfa.specs.declared.edge.NfaEdge.{NfaEdge}
 use Rattle.sere_nfa.proofs.Shown.{edges-below}
 use Rattle.lasso_judge.specs.MergedView.{shown_of, states_shown}

@@ -1,6 +1,6 @@
 use Rattle.std.proofs.Common.{◌≡◌, ◌∙◌, ◌<◌, ap, subst, sym, arith, length}
 use Rattle.std.proofs.lemmas.List.{length-map}
-use Rattle.sere_nfa.specs.Acceptance.{Automaton, State, state_at}
+use Rattle.psl_tree.specs.SequenceAutomata.{Automaton, State, state_at}
 use Rattle.lasso_judge.specs.MergedView.{shown_of, states_shown}
 use Rattle.lasso_judge.specs.declared.merged.MergedState.{MergedState}
 use Rattle.lasso_judge.proofs.Merging.{shown-merged}

@@ -5,8 +5,8 @@ use Rattle.owed.proofs.Answering.{owed-clockless}
 use Rattle.prover.proofs.Evidence.{are-sized, plain-violates}
 use Rattle.prover.proofs.Small.{small-sequences}
 use Rattle.prover.proofs.context.Prover.judged.Goals as goal
-use Rattle.psl_meaning.specs.Satisfaction.{Sat}
-use Rattle.psl_meaning.specs.Trace.{trace_of}
+use Rattle.psl_tree.specs.Satisfaction.{Sat}
+use Rattle.psl_tree.specs.Trace.{trace_of}
 use Rattle.psl_tree.specs.Trees.{Formula, formula_of}
 use Rattle.psl_tree.specs.declared.letter.Word.{Word}
 

@@ -1,7 +1,7 @@
 use Rattle.std.proofs.Common.{◌≡◌, ◌∙◌, ◌<◌, ap, subst, sym, arith, length, All}
 use Rattle.sere_nfa.specs.declared.edge.NfaEdge.{NfaEdge}
 use Rattle.std.proofs.lemmas.List.{length-map}
-use Rattle.sere_nfa.specs.Acceptance.{Automaton, State, LeadsWithin, state_at}
+use Rattle.psl_tree.specs.SequenceAutomata.{Automaton, State, LeadsWithin, state_at}
 use Rattle.sere_nfa.specs.Views.{state_of, states_of_code}
 use Rattle.sere_nfa.specs.declared.state.State as code_state
 use Rattle.sere_nfa.proofs.Shown.{shown-state, edges-below}

@@ -1,6 +1,6 @@
 use Rattle.std.proofs.Common.{◌≡◌, ◌∙◌, ◌<◌, ap, subst, sym, arith, length}
 use Rattle.std.proofs.lemmas.List.{length-map}
-use Rattle.sere_nfa.specs.Acceptance.{Automaton, State, state_at}
+use Rattle.psl_tree.specs.SequenceAutomata.{Automaton, State, state_at}
 use Rattle.sere_nfa.specs.Views.{state_of, states_of_code}
 use Rattle.sere_nfa.specs.declared.state.State as code_state
 use Rattle.sere_nfa.proofs.Shown.{shown-state}

@@ -1,5 +1,5 @@
 use Rattle.std.proofs.Common.{◌≡◌, ◌++◌, take, map}
-use Rattle.sere_nfa.specs.Construction.{edge_pair}
+use Rattle.psl_tree.specs.SequenceConstruction.{edge_pair}
 use Rattle.sere_nfa.specs.Views.{edge_of, edges_of}
 use Rattle.sere_nfa.proofs.product.Product.add_pairs.Given as goal
 

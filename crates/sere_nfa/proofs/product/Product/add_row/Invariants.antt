@@ -1,5 +1,5 @@
 use Rattle.std.proofs.Common.{◌≡◌, ◌++◌, take, map}
-use Rattle.sere_nfa.specs.Construction.{state_pair}
+use Rattle.psl_tree.specs.SequenceConstruction.{state_pair}
 use Rattle.sere_nfa.specs.Views.{draft_of, drafts_of}
 use Rattle.sere_nfa.proofs.product.Product.add_row.Given as goal
 

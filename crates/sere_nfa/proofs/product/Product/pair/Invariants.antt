@@ -1,5 +1,5 @@
 use Rattle.std.proofs.Common.{◌≡◌, take}
-use Rattle.sere_nfa.specs.Construction.{edge_pairs}
+use Rattle.psl_tree.specs.SequenceConstruction.{edge_pairs}
 use Rattle.sere_nfa.specs.Views.{edges_of}
 use Rattle.sere_nfa.proofs.product.Product.pair.Given as goal
 

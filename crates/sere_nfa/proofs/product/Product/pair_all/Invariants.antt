@@ -1,5 +1,5 @@
 use Rattle.std.proofs.Common.{◌≡◌, take}
-use Rattle.sere_nfa.specs.Construction.{state_pairs}
+use Rattle.psl_tree.specs.SequenceConstruction.{state_pairs}
 use Rattle.sere_nfa.specs.Views.{drafts_of}
 use Rattle.sere_nfa.proofs.product.Product.pair_all.Given as goal
 

@@ -1,7 +1,0 @@
-use Rattle.joint_paths.proofs.States.{states-more}
-use Rattle.joint_paths.proofs.path.read_states.Goals as goal
-
-pub loop-position-preserved : goal.loop-position-preserved
-loop-position-preserved c =
-    states-more c.args.shape.netlist.now c.args.shape.violation.now c.args.shape.visits c.loop-position.position c.args.shape.size c.args.values.now c.loop-position.states c.push.new.self c.in_ok-read_state.field-0
-    c.requires.size c.loop-position.invariant c.in_ok-read_state.ensures c.in_ok-push.ensures.ok

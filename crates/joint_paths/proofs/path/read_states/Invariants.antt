@@ -1,7 +1,0 @@
-use Rattle.std.proofs.Common.{◌≡◌}
-use Rattle.joint_theory.specs.Queries.{path_in}
-use Rattle.run_terms.specs.Formulas.{values_of}
-use Rattle.joint_paths.proofs.path.read_states.Given as goal
-
-abbrev pub invariant-loop-position : goal.invariant-loop-position
-invariant-loop-position l = l.states ≡ (path_in l.fn.shape.netlist.now l.fn.shape.violation.now l.fn.shape.visits l.position (values_of l.values)).states

@@ -1,9 +1,0 @@
-pub mod Aborts
-pub mod Cells
-pub mod Ends
-pub mod LawsHold
-pub mod Raised
-pub mod Reaching
-pub mod Stable
-pub mod Walks
-pub mod Words

@@ -1,4 +1,0 @@
-pub mod Choice
-pub mod RowsHold
-pub mod Traces
-pub mod Values
