@@ -22,5 +22,3 @@ mod step;
 
 pub use joined::Joint;
 pub use making::joint;
-pub use path::read_path;
-pub use shape::Shape;

@@ -4,8 +4,8 @@ ghost use Rattle.joint_theory.specs.Bits.{joint_width, state_in};
 ghost use Rattle.run_terms.specs.Formulas.{values_of};
 ghost use Rattle.run_terms.specs.Positions.{before_of};
 
-use crate::Shape;
 use crate::bits::{read_bits, read_count, read_numbers};
+use crate::shape::Shape;
 use joint_theory::JointState;
 use psl_base::{Bits, NoMemory};
 use std::alloc::Global;

@@ -8,8 +8,8 @@ ghost use Rattle.joint_theory.specs.Queries.{joint_size, path_in, path_of, query
 ghost use Rattle.run_terms.specs.Automata.{IsSound, TestsSignals};
 ghost use Rattle.run_terms.specs.Formulas.{values_of};
 
-use crate::Shape;
 use crate::model_state::read_state;
+use crate::shape::Shape;
 use joint_theory::{JointPath, JointStates, query_law};
 use netlist::soundness_law;
 use psl_base::{Bits, NoMemory};
@@ -53,7 +53,7 @@ fn first_bad(values: &[bool], size: usize, place: usize, window: usize) -> usize
 
 /// The path that a model of a query for open paths of a kind stands for: one of the initial kind ends with the first bad
 /// state, and one of the other kind has one state more than the window.
-pub fn read_path(
+pub(crate) fn read_path(
     alloc: Global,
     shape: Shape<'_>,
     window: u32,

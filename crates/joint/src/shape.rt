@@ -7,7 +7,7 @@ use netlist::Netlist;
 
 /// A netlist, an automaton and a number of visits, and how many variables a position of their joint states has.
 #[derive(Clone, Copy, Debug)]
-pub struct Shape<'a> {
+pub(crate) struct Shape<'a> {
     pub netlist: &'a Netlist,
     pub violation: &'a Alternating,
     pub visits: u32,

@@ -19,7 +19,7 @@ pub fn add_clause(cnf: &mut Cnf, clause: &[i32]) -> Result<(), CnfFault>
 }
 
 /// A literal is true.
-pub fn add_unit(cnf: &mut Cnf, literal: i32) -> Result<(), CnfFault>
+pub(crate) fn add_unit(cnf: &mut Cnf, literal: i32) -> Result<(), CnfFault>
     requires { IsTrue (is_within cnf.old.variables literal) }
     ensures { Adds cnf.old cnf.new ((literal ∷ []) ∷ []) result }
 {

@@ -9,7 +9,7 @@ mod literals;
 mod variables;
 mod windows;
 
-pub use adding::{add_clause, add_somewhere, add_unit, add_units};
+pub use adding::{add_clause, add_somewhere, add_units};
 pub use held::held_to;
 pub use literals::moved;
 pub use variables::following;
