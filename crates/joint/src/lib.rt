@@ -15,7 +15,6 @@ mod path;
 mod product;
 mod queries;
 mod reading;
-mod shape;
 mod starts;
 mod state;
 mod step;

@@ -5,7 +5,7 @@ ghost use Rattle.run_terms.specs.Formulas.{values_of};
 ghost use Rattle.run_terms.specs.Positions.{before_of};
 
 use crate::bits::{read_bits, read_count, read_numbers};
-use crate::shape::Shape;
+use crate::product::Product;
 use joint_theory::JointState;
 use psl_base::{Bits, NoMemory};
 use std::alloc::Global;
@@ -30,16 +30,15 @@ fn read_before(
 /// The joint state whose bits begin at a place of values.
 pub(crate) fn read_state(
     alloc: Global,
-    shape: Shape<'_>,
+    product: Product<'_>,
     values: &[bool],
     base: usize,
 ) -> Result<JointState, NoMemory>
-    requires fits { base + joint_width shape.netlist.now shape.violation.now shape.visits ≤ length values.now }
-    requires few { shape.visits < 2 ^ 32 - 1 }
+    requires fits { base + joint_width product.netlist.now product.violation.now product.visits ≤ length values.now }
     ensures { IfOk result (λ state. state
-        ≡ state_in shape.entry.netlist.now shape.entry.violation.now shape.entry.visits 0 (λ variable. values_of values.now (base + variable))) }
+        ≡ state_in product.entry.netlist.now product.entry.violation.now product.entry.visits 0 (λ variable. values_of values.now (base + variable))) }
 {
-    let (signals, obligations) = (shape.netlist.signals(), shape.violation.len());
+    let (signals, obligations) = (product.netlist.signals(), product.violation.len());
     let valuation = base + 1 + signals as usize;
     let owed = valuation + signals as usize;
     let pending = owed + obligations as usize;
@@ -48,6 +47,6 @@ pub(crate) fn read_state(
         valuation: read_bits(alloc, values, valuation, signals)?,
         owed: read_numbers(alloc, values, owed, obligations)?,
         pending: read_numbers(alloc, values, pending, obligations)?,
-        count: read_count(values, pending + obligations as usize, shape.visits + 1),
+        count: read_count(values, pending + obligations as usize, product.visits + 1),
     })
 }

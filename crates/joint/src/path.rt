@@ -9,7 +9,7 @@ ghost use Rattle.run_terms.specs.Automata.{IsSound, TestsSignals};
 ghost use Rattle.run_terms.specs.Formulas.{values_of};
 
 use crate::model_state::read_state;
-use crate::shape::Shape;
+use crate::product::Product;
 use joint_theory::{JointPath, JointStates, query_law};
 use netlist::soundness_law;
 use psl_base::{Bits, NoMemory};
@@ -18,19 +18,19 @@ use std::alloc::Global;
 /// The states at the first so many positions, each of which has so many variables.
 fn read_states(
     alloc: Global,
-    shape: Shape<'_>,
+    product: Product<'_>,
+    size: usize,
     values: &[bool],
     count: usize,
 ) -> Result<JointPath, NoMemory>
-    requires size { shape.size ≡ joint_size shape.netlist.now shape.violation.now shape.visits }
-    requires wide { joint_width shape.netlist.now shape.violation.now shape.visits ≤ shape.size }
-    requires fits { count * shape.size ≤ length values.now }
-    requires few { shape.visits < 2 ^ 32 - 1 }
-    ensures { IfOk result (λ path. path ≡ path_in shape.entry.netlist.now shape.entry.violation.now shape.entry.visits count (values_of values.now)) }
+    requires size { size ≡ joint_size product.netlist.now product.violation.now product.visits }
+    requires wide { joint_width product.netlist.now product.violation.now product.visits ≤ size }
+    requires fits { count * size ≤ length values.now }
+    ensures { IfOk result (λ path. path ≡ path_in product.entry.netlist.now product.entry.violation.now product.entry.visits count (values_of values.now)) }
 {
     let mut states = JointStates::new(alloc);
     for position in 0..count {
-        states.push(read_state(alloc, shape, values, position * shape.size)?)?;
+        states.push(read_state(alloc, product, values, position * size)?)?;
     }
     Ok(JointPath { states })
 }
@@ -55,40 +55,41 @@ fn first_bad(values: &[bool], size: usize, place: usize, window: usize) -> usize
 /// state, and one of the other kind has one state more than the window.
 pub(crate) fn read_path(
     alloc: Global,
-    shape: Shape<'_>,
+    product: Product<'_>,
+    size: usize,
     window: u32,
     initial: bool,
     model: &Bits,
 ) -> Result<JointPath, NoMemory>
-    requires tests { TestsSignals shape.netlist.now shape.violation.now }
-    requires sound { IsSound shape.violation.now }
-    requires few { shape.visits < 2 ^ 32 - 1 }
-    requires size { shape.size ≡ joint_size shape.netlist.now shape.violation.now shape.visits }
+    requires tests { TestsSignals product.netlist.now product.violation.now }
+    requires sound { IsSound product.violation.now }
+    requires size { size ≡ joint_size product.netlist.now product.violation.now product.visits }
     requires values { length model.now
-        ≡ query_variables shape.netlist.now shape.violation.now shape.visits window initial }
+        ≡ query_variables product.netlist.now product.violation.now product.visits window initial }
     requires model { IsModel (values_of model.now)
-        (query shape.netlist.now shape.violation.now shape.visits window initial) }
+        (query product.netlist.now product.violation.now product.visits window initial) }
     ensures is { IfOk result (λ path. path
-        ≡ path_of shape.entry.netlist.now shape.entry.violation.now shape.entry.visits window initial (values_of model.now)) }
+        ≡ path_of product.entry.netlist.now product.entry.violation.now product.entry.visits window initial (values_of model.now)) }
     ensures open { IfOk result (λ path.
-        IsOpen shape.entry.netlist.now shape.entry.violation.now shape.entry.visits window initial path) }
+        IsOpen product.entry.netlist.now product.entry.violation.now product.entry.visits window initial path) }
 {
     query_law();
-    soundness_law(shape.netlist);
+    soundness_law(product.netlist);
     let values = model.as_slice();
-    let count = count(shape, values, window, initial);
-    read_states(alloc, shape, values, count)
+    let count = count(product, size, values, window, initial);
+    read_states(alloc, product, size, values, count)
 }
 
 /// How many states the path has.
-fn count(shape: Shape<'_>, values: &[bool], window: u32, initial: bool) -> usize
-    requires wide { joint_width shape.netlist.now shape.violation.now shape.visits ≤ shape.size }
-    requires fits { window * shape.size ≤ length values.now }
-    ensures { result ≡ count_in values.now shape.entry.size
-        (joint_width shape.entry.netlist.now shape.entry.violation.now shape.entry.visits - 1) window initial }
+fn count(product: Product<'_>, size: usize, values: &[bool], window: u32, initial: bool) -> usize
+    requires wide { joint_width product.netlist.now product.violation.now product.visits ≤ size }
+    requires fits { window * size ≤ length values.now }
+    ensures { result ≡ count_in values.now size
+        (joint_width product.entry.netlist.now product.entry.violation.now product.entry.visits - 1) window initial }
 {
     if initial {
-        first_bad(values, shape.size, shape.bad(), window as usize) + 1
+        let bad = product.width as usize - 1;
+        first_bad(values, size, bad, window as usize) + 1
     } else {
         window as usize + 1
     }

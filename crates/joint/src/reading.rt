@@ -6,7 +6,6 @@ ghost use Rattle.run_terms.specs.Formulas.{values_of};
 
 use crate::joined::Joint;
 use crate::path::read_path as path_of_model;
-use crate::shape::Shape;
 use joint_theory::JointPath;
 use psl_base::{Bits, NoMemory};
 use run_gates::automaton_law;
@@ -31,13 +30,8 @@ impl<'a> Joint<'a> {
             IsOpen self.now.design self.now.automaton self.now.visits window initial path) }
     {
         automaton_law(self.product.violation);
-        let shape = Shape {
-            netlist: self.product.netlist,
-            violation: self.product.violation,
-            visits: self.product.visits,
-            size: self.circuit.gates.len(),
-        };
-        let path = path_of_model(alloc, shape, window, initial, model)?;
+        let size = self.circuit.gates.len();
+        let path = path_of_model(alloc, self.product, size, window, initial, model)?;
         Ok(path)
     }
 }

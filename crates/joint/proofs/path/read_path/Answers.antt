@@ -9,37 +9,37 @@ use Rattle.joint.proofs.path.read_path.Goals as goal
 
 pub count-count-requires-clause-wide : goal.count-count-requires-clause-wide
 count-count-requires-clause-wide c =
-    let design = c.args.shape.netlist.now in
-    let automaton = c.args.shape.violation.now in
-    omega (arith, c.requires.size, width-fits design automaton c.args.shape.visits c.soundness_law.ensures.sound c.requires.sound c.requires.tests)
+    let design = c.args.product.netlist.now in
+    let automaton = c.args.product.violation.now in
+    omega (arith, c.requires.size, width-fits design automaton c.args.product.visits c.soundness_law.ensures.sound c.requires.sound c.requires.tests)
 
 pub count-count-requires-clause-fits : goal.count-count-requires-clause-fits
 count-count-requires-clause-fits c =
-    let design = c.args.shape.netlist.now in
-    let automaton = c.args.shape.violation.now in
-    rw c.as_slice-values.ensures (window-fits design automaton c.args.shape.visits c.args.shape.size c.args.window c.args.initial c.args.model.now c.requires.size c.requires.values)
+    let design = c.args.product.netlist.now in
+    let automaton = c.args.product.violation.now in
+    rw c.as_slice-values.ensures (window-fits design automaton c.args.product.visits c.args.size c.args.window c.args.initial c.args.model.now c.requires.size c.requires.values)
 
 pub read_states-requires-clause-wide : goal.read_states-requires-clause-wide
 read_states-requires-clause-wide c =
-    let design = c.args.shape.netlist.now in
-    let automaton = c.args.shape.violation.now in
-    omega (arith, c.requires.size, width-fits design automaton c.args.shape.visits c.soundness_law.ensures.sound c.requires.sound c.requires.tests)
+    let design = c.args.product.netlist.now in
+    let automaton = c.args.product.violation.now in
+    omega (arith, c.requires.size, width-fits design automaton c.args.product.visits c.soundness_law.ensures.sound c.requires.sound c.requires.tests)
 
 pub read_states-requires-clause-fits : goal.read_states-requires-clause-fits
 read_states-requires-clause-fits c =
-    let design = c.args.shape.netlist.now in
-    let automaton = c.args.shape.violation.now in
+    let design = c.args.product.netlist.now in
+    let automaton = c.args.product.violation.now in
     let values = c.args.model.now in
-    let is_open = c.query_law.ensures.paths design automaton c.args.shape.visits c.args.window c.args.initial (values_of values) c.soundness_law.ensures.sound c.requires.sound c.requires.tests c.requires.model in
+    let is_open = c.query_law.ensures.paths design automaton c.args.product.visits c.args.window c.args.initial (values_of values) c.soundness_law.ensures.sound c.requires.sound c.requires.tests c.requires.model in
     rw (c.count-count.ensures, c.as_slice-values.ensures)
-    (states-fit design automaton c.args.shape.visits c.args.shape.size c.args.window c.args.initial values c.requires.size c.requires.values is_open)
+    (states-fit design automaton c.args.product.visits c.args.size c.args.window c.args.initial values c.requires.size c.requires.values is_open)
 
 pub returns-clause-is : goal.returns-clause-is
 returns-clause-is c =
-    let design = c.args.shape.netlist.now in
-    let automaton = c.args.shape.violation.now in
-    let visits = c.args.shape.visits in
-    let size = c.args.shape.size in
+    let design = c.args.product.netlist.now in
+    let automaton = c.args.product.violation.now in
+    let visits = c.args.product.visits in
+    let size = c.args.size in
     let window = c.args.window in
     let initial = c.args.initial in
     let values = c.args.model.now in
@@ -52,9 +52,9 @@ returns-clause-is c =
 
 pub returns-clause-open : goal.returns-clause-open
 returns-clause-open c =
-    let design = c.args.shape.netlist.now in
-    let automaton = c.args.shape.violation.now in
-    let visits = c.args.shape.visits in
+    let design = c.args.product.netlist.now in
+    let automaton = c.args.product.violation.now in
+    let visits = c.args.product.visits in
     let values = c.args.model.now in
     let is_open = c.query_law.ensures.paths design automaton visits c.args.window c.args.initial (values_of values) c.soundness_law.ensures.sound c.requires.sound c.requires.tests c.requires.model in
     path-open design automaton visits c.args.window c.args.initial c.read_states.result (path_of design automaton visits c.args.window c.args.initial (values_of values)) is_open
