@@ -1,9 +1,7 @@
-//! Examples of circuits: netlists and hierarchies of models, as texts, flattened, ordered and as clauses, with answers by
-//! hand. It holds tests alone.
+//! Examples of circuits: netlists and hierarchies of models, flattened, ordered and as clauses, with answers by hand. It
+//! holds tests alone.
 #![tactic(auto)]
 
-#[cfg(test)]
-mod blif_files;
 #[cfg(test)]
 mod circuits;
 #[cfg(test)]
@@ -12,8 +10,6 @@ mod flat_models;
 mod flat_netlists;
 #[cfg(test)]
 mod hierarchies;
-#[cfg(test)]
-mod models;
 #[cfg(test)]
 mod netlists;
 #[cfg(test)]
