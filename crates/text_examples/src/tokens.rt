@@ -1,233 +1,135 @@
-use psl_base::Place;
-use psl_lexer::TokenKind::{self, *};
-use psl_lexer::{LexFault, Tokens, lex, one_answer};
+// What no case shows: which token each keyword and punctuation is, where tokens end, and where they stand.
+use psl_base::{NoMemory, Place};
+use psl_lexer::{LexFault, Tokens, lex};
 use std::alloc::Global;
 use std::test::Fail;
 
 /// Each keyword and punctuation, and its kind.
-const SINGLE: [(&[u8], TokenKind); 71] = [
-    (b"always", Always),
-    (b"never", Never),
-    (b"next", Next),
-    (b"next_a", NextA),
-    (b"next_e", NextE),
-    (b"next_event", NextEvent),
-    (b"next_event_a", NextEventA),
-    (b"next_event_e", NextEventE),
-    (b"until", Until),
-    (b"until_", UntilOverlap),
-    (b"before", Before),
-    (b"before_", BeforeOverlap),
-    (b"abort", Abort),
-    (b"async_abort", AsyncAbort),
-    (b"sync_abort", SyncAbort),
-    (b"within", Within),
-    (b"inf", Inf),
-    (b"true", True),
-    (b"false", False),
-    (b"posedge", Posedge),
-    (b"negedge", Negedge),
-    (b"assert", Assert),
-    (b"assume", Assume),
-    (b"cover", Cover),
-    (b"report", Report),
-    (b"vunit", Vunit),
-    (b"sequence", Sequence),
-    (b"property", Property),
-    (b"default", Default),
-    (b"clock", Clock),
-    (b"next!", NextStrong),
-    (b"next_a!", NextAStrong),
-    (b"next_e!", NextEStrong),
-    (b"next_event!", NextEventStrong),
-    (b"next_event_a!", NextEventAStrong),
-    (b"next_event_e!", NextEventEStrong),
-    (b"eventually!", EventuallyStrong),
-    (b"until!", UntilStrong),
-    (b"before!", BeforeStrong),
-    (b"until!_", UntilStrongOverlap),
-    (b"before!_", BeforeStrongOverlap),
-    (b"|->", Implies),
-    (b"|=>", ImpliesNext),
-    (b"<->", Iff),
-    (b"[->", GotoOpen),
-    (b"[+]", PlusRepeat),
-    (b"[*", StarOpen),
-    (b"[=", EqualsOpen),
-    (b"->", Arrow),
-    (b"&&", AndAnd),
-    (b"||", OrOr),
-    (b"==", EqualEqual),
-    (b"!=", NotEqual),
-    (b"<=", LessEqual),
-    (b">=", GreaterEqual),
-    (b"(", ParenOpen),
-    (b")", ParenClose),
-    (b"{", BraceOpen),
-    (b"}", BraceClose),
-    (b"[", BracketOpen),
-    (b"]", BracketClose),
-    (b";", Semicolon),
-    (b":", Colon),
-    (b".", Dot),
-    (b"@", At),
-    (b"!", Not),
-    (b"&", Ampersand),
-    (b"|", Bar),
-    (b"=", Equals),
-    (b"<", Less),
-    (b">", Greater),
-];
+const SINGLE: &str = "
+always Always
+never Never
+next Next
+next_a NextA
+next_e NextE
+next_event NextEvent
+next_event_a NextEventA
+next_event_e NextEventE
+until Until
+until_ UntilOverlap
+before Before
+before_ BeforeOverlap
+abort Abort
+async_abort AsyncAbort
+sync_abort SyncAbort
+within Within
+inf Inf
+true True
+false False
+posedge Posedge
+negedge Negedge
+assert Assert
+assume Assume
+cover Cover
+report Report
+vunit Vunit
+sequence Sequence
+property Property
+default Default
+clock Clock
+next! NextStrong
+next_a! NextAStrong
+next_e! NextEStrong
+next_event! NextEventStrong
+next_event_a! NextEventAStrong
+next_event_e! NextEventEStrong
+eventually! EventuallyStrong
+until! UntilStrong
+before! BeforeStrong
+until!_ UntilStrongOverlap
+before!_ BeforeStrongOverlap
+|-> Implies
+|=> ImpliesNext
+<-> Iff
+[-> GotoOpen
+[+] PlusRepeat
+[* StarOpen
+[= EqualsOpen
+-> Arrow
+&& AndAnd
+|| OrOr
+== EqualEqual
+!= NotEqual
+<= LessEqual
+>= GreaterEqual
+( ParenOpen
+) ParenClose
+{ BraceOpen
+} BraceClose
+[ BracketOpen
+] BracketClose
+; Semicolon
+: Colon
+. Dot
+@ At
+! Not
+& Ampersand
+| Bar
+= Equals
+< Less
+> Greater
+";
 
-/// Texts, and their tokens.
-const TEXTS: [(&[u8], &[(TokenKind, &[u8])]); 16] = [
+/// Texts, and the kinds and the bytes of their tokens. A byte that is no ASCII is shown as a question mark.
+const TEXTS: [(&[u8], &str); 16] = [
     (
         b"a|->b||c|d|=>e|=f",
-        &[
-            (Name, b"a"),
-            (Implies, b"|->"),
-            (Name, b"b"),
-            (OrOr, b"||"),
-            (Name, b"c"),
-            (Bar, b"|"),
-            (Name, b"d"),
-            (ImpliesNext, b"|=>"),
-            (Name, b"e"),
-            (Bar, b"|"),
-            (Equals, b"="),
-            (Name, b"f"),
-        ],
+        "Name a Implies |-> Name b OrOr || Name c Bar | Name d ImpliesNext |=> Name e Bar | Equals = Name f",
     ),
     (
         b"[->[*[=[+][",
-        &[
-            (GotoOpen, b"[->"),
-            (StarOpen, b"[*"),
-            (EqualsOpen, b"[="),
-            (PlusRepeat, b"[+]"),
-            (BracketOpen, b"["),
-        ],
+        "GotoOpen [-> StarOpen [* EqualsOpen [= PlusRepeat [+] BracketOpen [",
     ),
     (
         b"next!=b next!b",
-        &[
-            (Next, b"next"),
-            (NotEqual, b"!="),
-            (Name, b"b"),
-            (NextStrong, b"next!"),
-            (Name, b"b"),
-        ],
+        "Next next NotEqual != Name b NextStrong next! Name b",
     ),
     (
         b"until!_x until!_=until!_!=",
-        &[
-            (UntilStrong, b"until!"),
-            (Name, b"_x"),
-            (UntilStrongOverlap, b"until!_"),
-            (Equals, b"="),
-            (UntilStrongOverlap, b"until!_"),
-            (NotEqual, b"!="),
-        ],
+        "UntilStrong until! Name _x UntilStrongOverlap until!_ Equals = UntilStrongOverlap until!_ NotEqual !=",
     ),
     (
         b"until!=until_!before!__",
-        &[
-            (Until, b"until"),
-            (NotEqual, b"!="),
-            (UntilOverlap, b"until_"),
-            (Not, b"!"),
-            (BeforeStrong, b"before!"),
-            (Name, b"__"),
-        ],
+        "Until until NotEqual != UntilOverlap until_ Not ! BeforeStrong before! Name __",
     ),
     (
         b"eventually eventually! eventually!=",
-        &[
-            (Name, b"eventually"),
-            (EventuallyStrong, b"eventually!"),
-            (Name, b"eventually"),
-            (NotEqual, b"!="),
-        ],
+        "Name eventually EventuallyStrong eventually! Name eventually NotEqual !=",
     ),
     (
         b"X!F always1 Always a$b_1",
-        &[
-            (Name, b"X"),
-            (Not, b"!"),
-            (Name, b"F"),
-            (Name, b"always1"),
-            (Name, b"Always"),
-            (Name, b"a$b_1"),
-        ],
+        "Name X Not ! Name F Name always1 Name Always Name a$b_1",
     ),
-    (
-        b"===!==",
-        &[
-            (EqualEqual, b"=="),
-            (Equals, b"="),
-            (NotEqual, b"!="),
-            (Equals, b"="),
-        ],
-    ),
+    (b"===!==", "EqualEqual == Equals = NotEqual != Equals ="),
     (
         b"a<->b<=c<d->e>=f>g<==>>=<",
-        &[
-            (Name, b"a"),
-            (Iff, b"<->"),
-            (Name, b"b"),
-            (LessEqual, b"<="),
-            (Name, b"c"),
-            (Less, b"<"),
-            (Name, b"d"),
-            (Arrow, b"->"),
-            (Name, b"e"),
-            (GreaterEqual, b">="),
-            (Name, b"f"),
-            (Greater, b">"),
-            (Name, b"g"),
-            (LessEqual, b"<="),
-            (Equals, b"="),
-            (Greater, b">"),
-            (GreaterEqual, b">="),
-            (Less, b"<"),
-        ],
+        "Name a Iff <-> Name b LessEqual <= Name c Less < Name d Arrow -> Name e GreaterEqual >= Name f Greater > Name g LessEqual <= Equals = Greater > GreaterEqual >= Less <",
     ),
     (
         b"1_0a 12 4'b01_0 4'b012 8'HfF 3'o7 64'hffff_ffff_ffff_ffff",
-        &[
-            (Number, b"1_0"),
-            (Name, b"a"),
-            (Number, b"12"),
-            (Constant, b"4'b01_0"),
-            (Constant, b"4'b01"),
-            (Number, b"2"),
-            (Constant, b"8'HfF"),
-            (Constant, b"3'o7"),
-            (Constant, b"64'hffff_ffff_ffff_ffff"),
-        ],
+        "Number 1_0 Name a Number 12 Constant 4'b01_0 Constant 4'b01 Number 2 Constant 8'HfF Constant 3'o7 Constant 64'hffff_ffff_ffff_ffff",
     ),
     (
         b"18446744073709551615 1_'D1_",
-        &[(Number, b"18446744073709551615"), (Constant, b"1_'D1_")],
+        "Number 18446744073709551615 Constant 1_'D1_",
     ),
-    (
-        b"\\a+b \\next\t\\\xff\n",
-        &[(Name, b"a+b"), (Name, b"next"), (Name, b"\xff")],
-    ),
+    (b"\\a+b \\next\t\\\xff\n", "Name a+b Name next Name ?"),
     (
         b"\"\" \"a\\\"b\\\\\" \"//\"",
-        &[
-            (Quoted, b"\"\""),
-            (Quoted, b"\"a\\\"b\\\\\""),
-            (Quoted, b"\"//\""),
-        ],
+        "Quoted \"\" Quoted \"a\\\"b\\\\\" Quoted \"//\"",
     ),
-    (
-        b"a//b\nc/*d\n**/e/**/f//",
-        &[(Name, b"a"), (Name, b"c"), (Name, b"e"), (Name, b"f")],
-    ),
-    (b"\x0b\x0c\t", &[]),
-    (b"", &[]),
+    (b"a//b\nc/*d\n**/e/**/f//", "Name a Name c Name e Name f"),
+    (b"\x0b\x0c\t", ""),
+    (b"", ""),
 ];
 
 /// The tokens of a short text.
@@ -238,17 +140,30 @@ fn read(alloc: Global, text: &[u8]) -> Result<Tokens, LexFault> {
     lex(alloc, text)
 }
 
+/// The kinds and the bytes of tokens.
+fn shown(alloc: Global, tokens: &Tokens) -> Result<String, NoMemory> {
+    let mut all = String::new(alloc);
+    for token in tokens.as_slice() {
+        if !all.is_empty() {
+            all.push(' ')?;
+        }
+        let kind = token.kind;
+        all.push_str(format!(in alloc; "{kind:?} ")?.as_str())?;
+        for byte in token.text.as_slice() {
+            all.push(if byte.is_ascii() { *byte as char } else { '?' })?;
+        }
+    }
+    Ok(all)
+}
+
 #[test]
 fn reads_each_keyword_and_punctuation(rt: HostRuntime) -> Result<(), Fail> {
-    for (text, kind) in SINGLE {
-        let tokens = read(rt.alloc(), text)?;
-        assert_eq!(rt; tokens.len(), 1);
-        let token = tokens.at(0);
-        assert_eq!(rt; token.kind, kind);
-        assert_eq!(rt; token.text.as_slice(), text);
-        assert_eq!(rt; (token.start, token.end as usize), (0, text.len()));
+    for line in SINGLE.trim().split('\n') {
+        let (text, kind) = line.split_once(' ').ok_or("a line without a kind")?;
+        let tokens = read(rt.alloc(), text.as_bytes())?;
+        let wanted = format!(in rt.alloc(); "{kind} {text}")?;
+        assert_eq!(rt; shown(rt.alloc(), &tokens)?, wanted);
     }
-    one_answer();
     Ok(())
 }
 
@@ -256,11 +171,7 @@ fn reads_each_keyword_and_punctuation(rt: HostRuntime) -> Result<(), Fail> {
 fn takes_the_longest_token(rt: HostRuntime) -> Result<(), Fail> {
     for (text, wanted) in TEXTS {
         let tokens = read(rt.alloc(), text)?;
-        assert_eq!(rt; tokens.len(), wanted.len());
-        for (token, (kind, spelled)) in tokens.as_slice().iter().zip(wanted) {
-            assert_eq!(rt; token.kind, *kind);
-            assert_eq!(rt; token.text.as_slice(), *spelled);
-        }
+        assert_eq!(rt; shown(rt.alloc(), &tokens)?.as_str(), wanted);
     }
     Ok(())
 }
