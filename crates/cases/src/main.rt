@@ -10,7 +10,7 @@ mod reading;
 mod running;
 
 use crate::fault::Fault;
-use crate::reading::{Read, read_cases};
+use crate::reading::read_cases;
 use crate::running::difference;
 use commands::one_refusal;
 use std::process::ExitCode;
@@ -34,11 +34,14 @@ fn tell(rt: &impl Eprint, name: &str, title: &str, found: &str) -> Result<(), Fa
 fn run_file(rt: &(impl Files + AllocGlobal + Print + Eprint), name: &str) -> Result<Counts, Fault> {
     let alloc = rt.alloc();
     let text = fs::read_to_string(rt, name)?;
-    let Read { common, cases } = read_cases(alloc, text.as_str())?;
+    let all = read_cases(alloc, text.as_str())?;
     let mut counts = Counts { ran: 0, wrong: 0 };
-    for case in cases.as_slice() {
+    let Some((common, cases)) = all.as_slice().split_first() else {
+        return Ok(counts);
+    };
+    for case in cases {
         counts.ran = counts.ran.saturating_add(1);
-        if let Some(found) = difference(alloc, &common, case)? {
+        if let Some(found) = difference(alloc, common, case)? {
             counts.wrong = counts.wrong.saturating_add(1);
             tell(rt, name, case.title, found.as_str())?;
         }
