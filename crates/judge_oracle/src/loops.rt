@@ -60,8 +60,10 @@ fn letter(alloc: Global, sample: &str) -> Result<Letter, Fault> {
 
 fn is_told(sample: &str, mark: &str, name: &str) -> bool {
     for word in sample.split_whitespace() {
-        if word.strip_prefix(mark) == Some(name) {
-            return true;
+        if let Some(rest) = word.strip_prefix(mark) {
+            if rest == name {
+                return true;
+            }
         }
     }
     false
