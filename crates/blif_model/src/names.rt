@@ -10,7 +10,6 @@ use std::marker::Model;
 pub const SIGNAL_LIMIT: usize = 65_536;
 
 /// Names of which no two are equal, numbered from 0 in the order in which they came.
-#[derive(Drop)]
 pub struct NameTable<'a> {
     places: HashMap<&'a [u8], usize>,
     texts: Vec<&'a [u8]>,
@@ -27,6 +26,16 @@ impl<'a> Model for NameTable<'a> {
     ghost view = { λ table. map (λ text. text.now) table.texts.items };
 
     ghost invariant = { λ table. (text : List ℕ) → get_by (λ key. bytes_eq text key.now) table.places ≡ place_of (map (λ other. other.now) table.texts.items) text };
+}
+
+// Written out, so that a caller's proof sees one call where a value is dropped.
+impl Drop for NameTable<'_> {
+    fn drop(self) {
+        let NameTable {
+            places: _,
+            texts: _,
+        } = self;
+    }
 }
 
 impl<'a> NameTable<'a> {

@@ -31,7 +31,6 @@ use std::alloc::Global;
 use std::marker::Model;
 
 /// What is known of a model after some of its own lines.
-#[derive(Drop)]
 pub struct Reader<'a> {
     signals: Signals<'a>,
     lines: Items<Item<ModelLine>>,
@@ -63,6 +62,22 @@ impl<'a> Model for Reader<'a> {
     } };
 
     ghost invariant = { λ reader. IfSome reader.clocking (IsClockingWithin reader.signals.whole) };
+}
+
+// Written out, so that a caller's proof sees one call where a value is dropped.
+impl Drop for Reader<'_> {
+    fn drop(self) {
+        let Reader {
+            signals: _,
+            lines: _,
+            table: _,
+            clocking: _,
+            begun: _,
+            titled: _,
+            ended: _,
+            marks: _,
+        } = self;
+    }
 }
 
 impl<'a> Reader<'a> {
@@ -300,7 +315,16 @@ impl<'a> Reader<'a> {
         ensures within { IfOk result (λ own. All (IsWithin self.entry.named.whole) own.firsts) }
     {
         self.close()?;
-        let Reader { signals, lines, .. } = self;
+        let Reader {
+            signals,
+            lines,
+            table: _,
+            clocking: _,
+            begun: _,
+            titled: _,
+            ended: _,
+            marks: _,
+        } = self;
         let (names, driven, firsts) = signals.into_parts();
         let count = names.len() as u32;
         let model = FlatModel {

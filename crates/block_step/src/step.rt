@@ -17,7 +17,6 @@ use std::marker::Model;
 use std::mem;
 
 /// What steps over blocks of 64 letters need, made once for an automaton. Contracts see the automaton.
-#[derive(Drop)]
 pub struct Blocks<'a> {
     automaton: &'a Alternating,
     plan: Plan,
@@ -41,6 +40,21 @@ impl<'a> Model for Blocks<'a> {
     ghost view = { automaton_of };
 
     ghost invariant = { HasRoom };
+}
+
+// Written out, so that a caller's proof sees one call where a value is dropped.
+impl Drop for Blocks<'_> {
+    fn drop(self) {
+        let Blocks {
+            automaton: _,
+            plan: _,
+            order: _,
+            tests: _,
+            after: _,
+            words: _,
+            stale: _,
+        } = self;
+    }
 }
 
 impl<'a> Blocks<'a> {

@@ -24,7 +24,6 @@ use psl_base::{Bits, NoMemory};
 use std::alloc::Global;
 
 /// What the solver works with.
-#[derive(Drop)]
 pub(crate) struct Solver<'a> {
     pub(crate) formula: &'a Cnf,
     pub(crate) propagator: Propagator,
@@ -34,6 +33,21 @@ pub(crate) struct Solver<'a> {
     lemma: Lemma,
     signed: Vec<i32>,
     heuristics: Heuristics,
+}
+
+// Written out, so that a caller's proof sees one call where a value is dropped.
+impl Drop for Solver<'_> {
+    fn drop(self) {
+        let Solver {
+            formula: _,
+            propagator: _,
+            log: _,
+            analyzer: _,
+            lemma: _,
+            signed: _,
+            heuristics: _,
+        } = self;
+    }
 }
 
 impl<'a> Solver<'a> {
@@ -188,7 +202,15 @@ impl<'a> Solver<'a> {
     pub(crate) fn into_log(self) -> Log
         ensures { result ≡ self.entry.log }
     {
-        let Solver { log, .. } = self;
+        let Solver {
+            formula: _,
+            propagator: _,
+            log,
+            analyzer: _,
+            lemma: _,
+            signed: _,
+            heuristics: _,
+        } = self;
         log
     }
 }

@@ -2,7 +2,7 @@ use clauses::Log;
 
 /// The evidence that each run of a netlist satisfies what is owed of an assertion: for a number of visits and a window,
 /// that no joint path is open. Whoever has the text and the netlist can check it without the prover.
-#[derive(Debug, Drop)]
+#[derive(Debug)]
 pub struct Certificate {
     /// The number of the assertion in its text, counted from 1.
     pub assertion: u32,
@@ -14,4 +14,17 @@ pub struct Certificate {
     pub base: Log,
     /// It refutes the formula of the induction.
     pub induction: Log,
+}
+
+// Written out, so that a caller's proof sees one call where a value is dropped.
+impl Drop for Certificate {
+    fn drop(self) {
+        let Certificate {
+            assertion: _,
+            visits: _,
+            window: _,
+            base: _,
+            induction: _,
+        } = self;
+    }
 }

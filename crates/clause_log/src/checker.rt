@@ -26,7 +26,6 @@ pub const MOST_LEMMAS: usize = 1_000_000_000;
 /// A checker that takes the entries of a log one after another, and holds the lemmas that are live.
 ///
 /// Contracts see the formula, how many lemmas may be live at once, and the lemmas that were taken.
-#[derive(Drop)]
 pub struct LogChecker<'a> {
     formula: &'a Cnf,
     limit: u32,
@@ -48,6 +47,19 @@ impl<'a> Model for LogChecker<'a> {
     ghost view = { state_of };
 
     ghost invariant = { IsChecker };
+}
+
+// Written out, so that a caller's proof sees one call where a value is dropped.
+impl Drop for LogChecker<'_> {
+    fn drop(self) {
+        let LogChecker {
+            formula: _,
+            limit: _,
+            lemmas: _,
+            falsified: _,
+            codes: _,
+        } = self;
+    }
 }
 
 impl<'a> LogChecker<'a> {

@@ -10,12 +10,22 @@ use std::alloc::Global;
 /// A formula in conjunctive normal form: its variables, numbered from 1, and clauses over them.
 ///
 /// There are at most `MOST_VARIABLES` variables, and each literal is of one of them.
-#[derive(Debug, Drop)]
+#[derive(Debug)]
 pub struct Cnf {
     pub variables: u32,
     pub clauses: Clauses,
     pub ghost few: { variables ≤ MOST_VARIABLES },
     pub ghost within: { IsTrue (clauses_within variables clauses) },
+}
+
+// Written out, so that a caller's proof sees one call where a value is dropped.
+impl Drop for Cnf {
+    fn drop(self) {
+        let Cnf {
+            variables: _,
+            clauses: _,
+        } = self;
+    }
 }
 
 impl Cnf {

@@ -34,7 +34,7 @@ enum Shape {
 /// log follow on.
 ///
 /// It takes four bytes for a literal and for a hint, and twelve for an entry.
-#[derive(Debug, Drop)]
+#[derive(Debug)]
 pub struct Log {
     literals: Vec<i32>,
     hints: Vec<u32>,
@@ -53,6 +53,18 @@ impl Model for Log {
     ghost view = { log_of };
 
     ghost invariant = { IsLog };
+}
+
+// Written out, so that a caller's proof sees one call where a value is dropped.
+impl Drop for Log {
+    fn drop(self) {
+        let Log {
+            literals: _,
+            hints: _,
+            shapes: _,
+            lemmas: _,
+        } = self;
+    }
 }
 
 impl Log {

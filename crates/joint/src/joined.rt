@@ -3,7 +3,7 @@ use circuit_theory::Circuit;
 use std::marker::Model;
 
 /// The joint states of a netlist and an automaton, up to a number of visits, as one circuit.
-#[derive(Debug, Drop)]
+#[derive(Debug)]
 pub struct Joint<'a> {
     pub(crate) product: Product<'a>,
     pub(crate) circuit: Circuit,
@@ -24,4 +24,14 @@ impl<'a> Model for Joint<'a> {
     ghost view = { joined_of };
 
     ghost invariant = { IsJoined };
+}
+
+// Written out, so that a caller's proof sees one call where a value is dropped.
+impl Drop for Joint<'_> {
+    fn drop(self) {
+        let Joint {
+            product: _,
+            circuit: _,
+        } = self;
+    }
 }

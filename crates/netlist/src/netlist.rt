@@ -9,7 +9,7 @@ use std::marker::Model;
 
 /// A netlist: signals of one bit, numbered from 0, that inputs, latches and tables drive. Beside what contracts see, an
 /// order is kept in which the tables can be computed.
-#[derive(Debug, Drop)]
+#[derive(Debug)]
 pub struct Netlist {
     signals: u32,
     inputs: Signals,
@@ -29,6 +29,20 @@ impl Model for Netlist {
     ghost view = { design_of };
 
     ghost invariant = { IsKept };
+}
+
+// Written out, so that a caller's proof sees one call where a value is dropped.
+impl Drop for Netlist {
+    fn drop(self) {
+        let Netlist {
+            signals: _,
+            inputs: _,
+            latches: _,
+            tables: _,
+            names: _,
+            order: _,
+        } = self;
+    }
 }
 
 impl Netlist {

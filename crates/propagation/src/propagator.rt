@@ -24,7 +24,6 @@ use trail::{Trail, opposite};
 ///
 /// Literals are numbers: 2v for the variable v, counted from 0, and 2v + 1 for its negation. Clauses are numbered from
 /// 1, in the order in which they come, and keep their numbers.
-#[derive(Drop)]
 pub struct Propagator {
     clauses: Store,
     trail: Trail,
@@ -48,6 +47,20 @@ impl Model for Propagator {
     ghost view = { state_of };
 
     ghost invariant = { IsPropagator };
+}
+
+// Written out, so that a caller's proof sees one call where a value is dropped.
+impl Drop for Propagator {
+    fn drop(self) {
+        let Propagator {
+            clauses: _,
+            trail: _,
+            pairs: _,
+            lists: _,
+            working: _,
+            head: _,
+        } = self;
+    }
 }
 
 impl Propagator {

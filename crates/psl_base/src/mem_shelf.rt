@@ -16,7 +16,7 @@ use std::marker::Model;
 /// number of bytes that all their names and contents may have together. The calls are numbered
 /// together from 1, and those whose number is listed fail; so does a new name or a piece that goes
 /// past the room. A name that is not there cannot be selected, which is no fault.
-#[derive(Debug, Drop)]
+#[derive(Debug)]
 pub struct MemShelf {
     files: PackedFiles,
     selected: Option<usize>,
@@ -38,6 +38,22 @@ impl Model for MemShelf {
     ghost view = { memory_of };
 
     ghost invariant = { IsShelf };
+}
+
+// Written out, so that a caller's proof sees one call where a value is dropped.
+impl Drop for MemShelf {
+    fn drop(self) {
+        let MemShelf {
+            files: _,
+            selected: _,
+            cursor: _,
+            is_written: _,
+            calls: _,
+            read_faults: _,
+            write_faults: _,
+            fail: _,
+        } = self;
+    }
 }
 
 impl MemShelf {

@@ -15,7 +15,6 @@ use std::marker::Model;
 
 /// The values that signals have at samples, with the signals' names. It is kept as lists of changes,
 /// whose letters stand in the bytes of the file; so which bits are unknown is known without a bit more.
-#[derive(Drop)]
 pub struct Recording {
     names: Names,
     bytes: Bytes,
@@ -23,6 +22,20 @@ pub struct Recording {
     starts: Vec<u32>,
     samples: u32,
     unknown: Unknown,
+}
+
+// Written out, so that a caller's proof sees one call where a value is dropped.
+impl Drop for Recording {
+    fn drop(self) {
+        let Recording {
+            names: _,
+            bytes: _,
+            changes: _,
+            starts: _,
+            samples: _,
+            unknown: _,
+        } = self;
+    }
 }
 
 /// What is kept of a recording beside its bytes: the names, the changes of each signal, how many bytes stand before the token
