@@ -31,11 +31,13 @@ impl MeasuredFl {
     ) -> Result<MeasuredFl, SugarFault>
         ensures { FormulasRow (until_row operator strength) left right result }
     {
+        let left = left?;
+        let right = right?;
         match operator {
-            UntilOperator::Until => left?.until(alloc, strength, right?),
-            UntilOperator::UntilOverlap => left?.until_overlapping(alloc, strength, right?),
-            UntilOperator::Before => left?.before(alloc, strength, right?),
-            UntilOperator::BeforeOverlap => left?.before_overlapping(alloc, strength, right?),
+            UntilOperator::Until => left.until(alloc, strength, right),
+            UntilOperator::UntilOverlap => left.until_overlapping(alloc, strength, right),
+            UntilOperator::Before => left.before(alloc, strength, right),
+            UntilOperator::BeforeOverlap => left.before_overlapping(alloc, strength, right),
         }
     }
 
