@@ -1,4 +1,4 @@
-ghost use Rattle.std.specs.Prelude.{◌≤◌, All, IfOk};
+ghost use Rattle.std.specs.Prelude.{◌<◌, ◌≤◌, length, All, IfOk};
 ghost use Rattle.psl_tree.specs.Atoms.{AtomsOfFormula};
 ghost use Rattle.psl_tree.specs.Counts.{formula_size};
 ghost use Rattle.psl_tree.specs.Names.{AtomInRange};
@@ -16,7 +16,7 @@ use psl_grammar::UnitTree;
 use psl_layer::resolve;
 use psl_lexer::lex;
 use psl_parser::parse;
-use psl_tree::{MOST_OBLIGATIONS, Unit};
+use psl_tree::{Fl, MOST_OBLIGATIONS, Unit, Word};
 use std::alloc::Global;
 use vcd_reader::Recording;
 use wave_judge::judge;
@@ -100,11 +100,15 @@ pub fn difference(alloc: Global, row: &Row) -> Result<Option<String>, Fault> {
 
 /// What the judge and the plain recursion give.
 fn recording_difference(alloc: Global, row: &Row) -> Result<Option<String>, Fault> {
-    let wanted = row.verdicts;
     let recording = recording(alloc, row.samples)?;
-    let unit = directives(alloc, row.text, &recording)?;
-    let judged = judged(alloc, &unit, &recording)?;
-    let satisfied = satisfied(alloc, &unit, &recording)?;
+    difference_on(alloc, row, &recording)
+}
+
+fn difference_on(alloc: Global, row: &Row, recording: &Recording) -> Result<Option<String>, Fault> {
+    let wanted = row.verdicts;
+    let unit = directives(alloc, row.text, recording)?;
+    let judged = judged(alloc, &unit, recording)?;
+    let satisfied = satisfied(alloc, &unit, recording)?;
     if judged.as_str() == wanted && satisfied.as_str() == wanted {
         return Ok(None);
     }
@@ -114,6 +118,49 @@ fn recording_difference(alloc: Global, row: &Row) -> Result<Option<String>, Faul
     Ok(Some(text))
 }
 
+/// The directives of a text over the names of a recording without samples.
+fn directives_alone(alloc: Global, text: &str) -> Result<Unit, Fault>
+    ensures { IfOk result (λ unit. All (λ directive. formula_size (formula_of directive.formula) ≤ 4096) unit) }
+{
+    let recording = recording(alloc, NO_SAMPLES)?;
+    directives(alloc, text, &recording)
+}
+
+/// What is said of directives on a word with a loop, a letter for each directive.
+#[derive(Drop)]
+struct Said {
+    by_automata: String,
+    by_duals: String,
+    by_judge: String,
+}
+
+fn said_of(alloc: Global, unit: &Unit, word: &Word) -> Result<Said, Fault>
+    requires small { All (λ directive. formula_size (formula_of directive.formula) ≤ 4096) unit.now }
+    requires looped { 0 < length word.now.looped }
+{
+    let mut said = Said {
+        by_automata: String::new(alloc),
+        by_duals: String::new(alloc),
+        by_judge: String::new(alloc),
+    };
+    for directive in unit.as_slice() {
+        let [by_automaton, by_dual, by_judge] = answers_of(alloc, &directive.formula, word)?;
+        said.by_automata.push(letter(by_automaton))?;
+        said.by_duals.push(letter(by_dual))?;
+        said.by_judge.push(letter(by_judge))?;
+    }
+    Ok(said)
+}
+
+/// What is said of a formula.
+fn answers_of(alloc: Global, formula: &Fl, word: &Word) -> Result<[bool; 3], Fault>
+    requires small { formula_size (formula_of formula.now) ≤ 4096 }
+    requires looped { 0 < length word.now.looped }
+{
+    let formula = unclock(alloc, formula, None)?;
+    loop_answers(alloc, &formula, word)
+}
+
 /// What the automata, their duals and the lasso judge give on a word with a loop.
 fn loop_difference(
     alloc: Global,
@@ -121,24 +168,20 @@ fn loop_difference(
     stem: &str,
     looped: &str,
 ) -> Result<Option<String>, Fault> {
-    let wanted = row.verdicts;
     let word = word(alloc, stem, looped)?;
-    let unit = directives(alloc, row.text, &recording(alloc, NO_SAMPLES)?)?;
-    let mut accepted = String::new(alloc);
-    let mut refused = String::new(alloc);
-    let mut satisfied = String::new(alloc);
-    for directive in unit.as_slice() {
-        let formula = unclock(alloc, &directive.formula, None)?;
-        let [by_automaton, by_dual, by_judge] = loop_answers(alloc, &formula, &word)?;
-        accepted.push(letter(by_automaton))?;
-        refused.push(letter(by_dual))?;
-        satisfied.push(letter(by_judge))?;
-    }
-    if accepted.as_str() == wanted && refused.as_str() == wanted && satisfied.as_str() == wanted {
+    let unit = directives_alone(alloc, row.text)?;
+    let said = said_of(alloc, &unit, &word)?;
+    difference_of(alloc, row.verdicts, &said)
+}
+
+fn difference_of(alloc: Global, wanted: &str, said: &Said) -> Result<Option<String>, Fault> {
+    let (by_automata, by_duals) = (said.by_automata.as_str(), said.by_duals.as_str());
+    let by_judge = said.by_judge.as_str();
+    if by_automata == wanted && by_duals == wanted && by_judge == wanted {
         return Ok(None);
     }
-    let automata = automata_text(alloc, accepted.as_str(), refused.as_str())?;
-    let text = loop_text(alloc, wanted, automata.as_str(), satisfied.as_str())?;
+    let automata = automata_text(alloc, by_automata, by_duals)?;
+    let text = loop_text(alloc, wanted, automata.as_str(), by_judge)?;
     Ok(Some(text))
 }
 
@@ -163,14 +206,22 @@ fn size_difference(alloc: Global, row: &Row) -> Result<Option<String>, Fault> {
     let Some(most) = plain_decimal(MOST_OBLIGATIONS, wanted.as_bytes()) else {
         return Err(Fault::Row);
     };
-    let unit = directives(alloc, row.text, &recording(alloc, NO_SAMPLES)?)?;
+    let unit = directives_alone(alloc, row.text)?;
     for directive in unit.as_slice() {
-        let formula = unclock(alloc, &directive.formula, None)?;
-        let count = of(alloc, &formula)?.len();
-        if count as u64 > most {
+        let count = obligations_of(alloc, &directive.formula)?;
+        if u64::from(count) > most {
             let text = format!(in alloc; "wanted: at most {wanted} obligations, found: {count}")?;
             return Ok(Some(text));
         }
     }
     Ok(None)
+}
+
+/// How many obligations the automaton of a formula has.
+fn obligations_of(alloc: Global, formula: &Fl) -> Result<u32, Fault>
+    requires { formula_size (formula_of formula.now) ≤ 4096 }
+{
+    let formula = unclock(alloc, formula, None)?;
+    let automaton = of(alloc, &formula)?;
+    Ok(automaton.len())
 }

@@ -25,6 +25,13 @@ const W: [&str; 2] = ["w0", "w1"];
 /// A recording: of each sample the names of those signals and bits that are 1, or `-`. `none` is a recording without
 /// samples.
 pub fn recording(alloc: Global, samples: &str) -> Result<Recording, Fault> {
+    let text = text_of(alloc, samples)?;
+    let mut shelf = shelf_of(alloc, text.as_bytes())?;
+    Ok(read_vcd(alloc, &mut shelf, "r.vcd", Unknown::Zero)?)
+}
+
+/// The text of the recording.
+fn text_of(alloc: Global, samples: &str) -> Result<String, Fault> {
     let mut text = String::from_str(alloc, HEAD)?;
     if samples != "none" {
         for (number, sample) in samples.split(';').enumerate() {
@@ -32,13 +39,17 @@ pub fn recording(alloc: Global, samples: &str) -> Result<Recording, Fault> {
             add_sample(&mut text, sample)?;
         }
     }
+    Ok(text)
+}
+
+/// A shelf with a recording of this text.
+fn shelf_of(alloc: Global, text: &[u8]) -> Result<MemShelf, Fault> {
     let mut files = Files::new(alloc);
     files.push(File {
         name: Bytes::from_slice(alloc, b"r.vcd")?,
-        content: Bytes::from_slice(alloc, text.as_bytes())?,
+        content: Bytes::from_slice(alloc, text)?,
     })?;
-    let mut shelf = MemShelf::new(alloc, &files, 0, 0, &Numbers::new(alloc))?;
-    Ok(read_vcd(alloc, &mut shelf, "r.vcd", Unknown::Zero)?)
+    Ok(MemShelf::new(alloc, &files, 0, 0, &Numbers::new(alloc))?)
 }
 
 /// The value of each signal at a sample.
