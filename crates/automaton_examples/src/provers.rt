@@ -78,11 +78,19 @@ fn finding(
     Ok(found)
 }
 
+// What is found of the example up to a depth.
+fn found(alloc: Global, edge: Edge, depth: u32) -> Result<Finding, Fail>
+    requires some { 1 ≤ depth }
+    requires few { depth < 2 ^ 32 - 1 }
+{
+    let netlist = example(alloc)?;
+    let assertion = assertion(alloc, edge)?;
+    finding(alloc, &netlist, &assertion, depth)
+}
+
 #[test]
 fn an_input_may_be_1(rt: HostRuntime) -> Result<(), Fail> {
-    let netlist = example(rt.alloc())?;
-    let assertion = assertion(rt.alloc(), Edge::Value)?;
-    let Finding::Violated(run) = finding(rt.alloc(), &netlist, &assertion, 3)? else {
+    let Finding::Violated(run) = found(rt.alloc(), Edge::Value, 3)? else {
         return Err("no run was found".into());
     };
     assert_eq!(rt; run.stem.len() + run.loop_part.len(), 1);
@@ -91,9 +99,7 @@ fn an_input_may_be_1(rt: HostRuntime) -> Result<(), Fail> {
 
 #[test]
 fn nothing_rises_at_first(rt: HostRuntime) -> Result<(), Fail> {
-    let netlist = example(rt.alloc())?;
-    let assertion = assertion(rt.alloc(), Edge::Rise)?;
-    let Finding::Proved(certificate) = finding(rt.alloc(), &netlist, &assertion, 3)? else {
+    let Finding::Proved(certificate) = found(rt.alloc(), Edge::Rise, 3)? else {
         return Err("no proof was found".into());
     };
     assert_eq!(rt; certificate.visits, 0);
@@ -102,9 +108,7 @@ fn nothing_rises_at_first(rt: HostRuntime) -> Result<(), Fail> {
 
 #[test]
 fn one_valuation_does_not_tell(rt: HostRuntime) -> Result<(), Fail> {
-    let netlist = example(rt.alloc())?;
-    let assertion = assertion(rt.alloc(), Edge::Rise)?;
-    let Finding::Depth(paths) = finding(rt.alloc(), &netlist, &assertion, 1)? else {
+    let Finding::Depth(paths) = found(rt.alloc(), Edge::Rise, 1)? else {
         return Err("a depth of 1 was enough".into());
     };
     assert_eq!(rt; paths.len(), 2);

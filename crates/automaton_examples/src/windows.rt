@@ -3,6 +3,7 @@ ghost use Rattle.std.specs.Prelude.{◌≡◌, length, IfOk};
 ghost use Rattle.circuit_theory.specs.Circuits.{IsSound};
 
 use circuit_theory::{Circuit, Gate, Gates, Literals};
+use clauses::CnfFault;
 use psl_base::NoMemory;
 use run_formulas::{base, induction};
 use std::alloc::Global;
@@ -22,16 +23,24 @@ fn example(alloc: Global) -> Result<Circuit, NoMemory>
     })
 }
 
+// How many variables and words the first formula of a window has.
+fn base_sizes(alloc: Global, window: u32) -> Result<(u32, usize), CnfFault> {
+    let circuit = example(alloc)?;
+    let formula = base(alloc, &circuit, &[-1], 1, window)?;
+    Ok((formula.variables, formula.clauses.words()))
+}
+
+// How many the second has.
+fn induction_sizes(alloc: Global, window: u32) -> Result<(u32, usize), CnfFault> {
+    let circuit = example(alloc)?;
+    let formula = induction(alloc, &circuit, 1, window)?;
+    Ok((formula.variables, formula.clauses.words()))
+}
+
 #[test]
 fn a_window_has_formulas(rt: HostRuntime) -> Result<(), Fail> {
-    let circuit = example(rt.alloc())?;
-    let first = base(rt.alloc(), &circuit, &[-1], 1, 2)?;
-    assert_eq!(rt; first.variables, 6);
-    assert_eq!(rt; first.clauses.words(), 35);
-    let none = base(rt.alloc(), &circuit, &[-1], 1, 0)?;
-    assert_eq!(rt; none.clauses.words(), 1);
-    let other = induction(rt.alloc(), &circuit, 1, 2)?;
-    assert_eq!(rt; other.variables, 10);
-    assert_eq!(rt; other.clauses.words(), 64);
+    assert_eq!(rt; base_sizes(rt.alloc(), 2)?, (6, 35));
+    assert_eq!(rt; base_sizes(rt.alloc(), 0)?, (0, 1));
+    assert_eq!(rt; induction_sizes(rt.alloc(), 2)?, (10, 64));
     Ok(())
 }

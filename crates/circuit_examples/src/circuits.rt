@@ -22,35 +22,48 @@ fn example(alloc: Global) -> Result<Circuit, NoMemory>
     })
 }
 
+// How many variables, clauses and words the formula of two steps has.
+fn unrolled(alloc: Global) -> Result<(u32, usize, usize), CnfFault> {
+    let circuit = example(alloc)?;
+    let formula = unroll(alloc, &circuit, 2)?;
+    Ok((
+        formula.variables,
+        formula.clauses.len(),
+        formula.clauses.words(),
+    ))
+}
+
 #[test]
 fn a_circuit_is_unrolled(rt: HostRuntime) -> Result<(), Fail> {
-    let circuit = example(rt.alloc())?;
-    let formula = unroll(rt.alloc(), &circuit, 2)?;
-    assert_eq!(rt; formula.variables, 6);
-    assert_eq!(rt; formula.clauses.len(), 9);
-    assert_eq!(rt; formula.clauses.words(), 28);
+    assert_eq!(rt; unrolled(rt.alloc())?, (6, 9, 28));
     Ok(())
+}
+
+// How many variables and words the formula of three steps has whose states are different.
+fn different(alloc: Global) -> Result<(u32, usize), CnfFault> {
+    let circuit = example(alloc)?;
+    let mut formula = unroll(alloc, &circuit, 3)?;
+    if formula.variables == 9 {
+        distinct(alloc, &circuit, 3, &mut formula)?;
+    }
+    Ok((formula.variables, formula.clauses.words()))
 }
 
 #[test]
 fn states_are_different(rt: HostRuntime) -> Result<(), Fail> {
-    let circuit = example(rt.alloc())?;
-    let mut formula = unroll(rt.alloc(), &circuit, 3)?;
-    if formula.variables == 9 {
-        distinct(rt.alloc(), &circuit, 3, &mut formula)?;
-    }
-    assert_eq!(rt; formula.variables, 12);
-    assert_eq!(rt; formula.clauses.words(), 76);
+    assert_eq!(rt; different(rt.alloc())?, (12, 76));
     Ok(())
+}
+
+// The fault of too many steps.
+fn fault_of_most(alloc: Global) -> Result<Option<CnfFault>, NoMemory> {
+    let circuit = example(alloc)?;
+    Ok(unroll(alloc, &circuit, u32::MAX).err())
 }
 
 #[test]
 fn what_is_too_large_is_refused(rt: HostRuntime) -> Result<(), Fail> {
-    let circuit = example(rt.alloc())?;
-    let Err(fault) = unroll(rt.alloc(), &circuit, u32::MAX) else {
-        return Err("not refused".into());
-    };
-    assert!(rt; fault == CnfFault::TooLarge);
+    assert!(rt; fault_of_most(rt.alloc())? == Some(CnfFault::TooLarge));
     assert!(rt; fits(1_000, 40) && !fits(1_000, 41));
     Ok(())
 }

@@ -4,7 +4,7 @@ ghost use Rattle.netlist.specs.Sound.{NamesBit};
 
 use netlist::{Init, Latch, Latches, Mark, Netlist, Rows, Run, Signals, Table, Tables, Valuations};
 use psl_base::{Bits, NoMemory, Text};
-use psl_tree::{Atom, Edge, Letter, Letters, Name, Names};
+use psl_tree::{Atom, Edge, Letter, Letters, Name, Names, Word};
 use std::alloc::Global;
 use std::test::Fail;
 
@@ -126,14 +126,27 @@ fn gives(alloc: Global, netlist: &Netlist, free: [bool; 3], wanted: &[u8]) -> Re
     Ok(into.as_slice() == bits(alloc, wanted)?.as_slice())
 }
 
+// Whether each valuation of the free signals gives the one that is wanted.
+fn all_are_given(alloc: Global, netlist: &Netlist) -> Result<bool, NoMemory>
+    requires signals { netlist.now.signals ≡ 7 }
+    requires free { length (free_of netlist.now) ≡ 3 }
+{
+    Ok(
+        gives(alloc, netlist, [false, false, false], b"0001100")?
+            && gives(alloc, netlist, [true, false, true], b"1011100")?
+            && gives(alloc, netlist, [false, true, false], b"0100100")?
+            && gives(alloc, netlist, [true, true, true], b"1110101")?,
+    )
+}
+
+fn valuations_are_filled(alloc: Global) -> Result<bool, NoMemory> {
+    let netlist = example(alloc)?;
+    all_are_given(alloc, &netlist)
+}
+
 #[test]
 fn a_valuation_is_filled(rt: HostRuntime) -> Result<(), Fail> {
-    let alloc = rt.alloc();
-    let netlist = example(alloc)?;
-    assert!(rt; gives(alloc, &netlist, [false, false, false], b"0001100")?);
-    assert!(rt; gives(alloc, &netlist, [true, false, true], b"1011100")?);
-    assert!(rt; gives(alloc, &netlist, [false, true, false], b"0100100")?);
-    assert!(rt; gives(alloc, &netlist, [true, true, true], b"1110101")?);
+    assert!(rt; valuations_are_filled(rt.alloc())?);
     Ok(())
 }
 
@@ -159,12 +172,16 @@ const RUNS: &str = "|00011000100100 1001100|01001001001100 |00111000110100";
 const NO_RUNS: &str =
     "|000110001001000001100 0001100| |01001000001100 |00011000101100 0001100|01101000011100";
 
+// How many of the cases are runs of the example.
+fn runs_of_example(alloc: Global, cases: &str) -> Result<usize, NoMemory> {
+    let netlist = example(alloc)?;
+    runs_among(alloc, &netlist, cases)
+}
+
 #[test]
 fn eight_runs(rt: HostRuntime) -> Result<(), Fail> {
-    let alloc = rt.alloc();
-    let netlist = example(alloc)?;
-    assert_eq!(rt; runs_among(alloc, &netlist, RUNS)?, 3);
-    assert_eq!(rt; runs_among(alloc, &netlist, NO_RUNS)?, 0);
+    assert_eq!(rt; runs_of_example(rt.alloc(), RUNS)?, 3);
+    assert_eq!(rt; runs_of_example(rt.alloc(), NO_RUNS)?, 0);
     Ok(())
 }
 
@@ -193,20 +210,25 @@ fn add_numbers(all: &mut Vec<u32>, atoms: &[Atom]) -> Result<(), NoMemory> {
     Ok(())
 }
 
-#[test]
-fn a_word_has_the_edges_of_its_loop(rt: HostRuntime) -> Result<(), Fail> {
-    let alloc = rt.alloc();
-    let netlist = example(alloc)?;
+// The word of a run of the example, a stem of one valuation and a loop of two.
+fn word(alloc: Global) -> Result<Word, NoMemory> {
     let mut stem = Valuations::new(alloc);
     stem.push(bits(alloc, b"0001100")?)?;
     let mut loop_part = Valuations::new(alloc);
     loop_part.push(bits(alloc, b"0100100")?)?;
     loop_part.push(bits(alloc, b"0001100")?)?;
-    let word = netlist.word_of(alloc, &Run { stem, loop_part })?;
+    let run = Run { stem, loop_part };
+    let netlist = example(alloc)?;
+    netlist.word_of(alloc, &run)
+}
+
+#[test]
+fn a_word_has_the_edges_of_its_loop(rt: HostRuntime) -> Result<(), Fail> {
+    let word = word(rt.alloc())?;
     // q is signal 1, n is 3, and the constant 4 has no edge
-    let stem = shown(alloc, &word.stem)?;
+    let stem = shown(rt.alloc(), &word.stem)?;
     assert_eq!(rt; stem.as_slice(), [9, 12, 99, 3, 4, 11, 12, 99].as_slice());
-    let looped = shown(alloc, &word.looped)?;
+    let looped = shown(rt.alloc(), &word.looped)?;
     assert_eq!(rt;
         looped.as_slice(),
         [5, 9, 10, 12, 99, 3, 4, 11, 12, 99].as_slice()
@@ -214,15 +236,27 @@ fn a_word_has_the_edges_of_its_loop(rt: HostRuntime) -> Result<(), Fail> {
     Ok(())
 }
 
+// How many inputs, latches, tables and names the example has.
+fn parts(alloc: Global) -> Result<(usize, usize, usize, usize), NoMemory> {
+    let netlist = example(alloc)?;
+    Ok((
+        netlist.inputs().len(),
+        netlist.latches().len(),
+        netlist.tables().len(),
+        netlist.names().len(),
+    ))
+}
+
+// How many signals the example has, and its bulk.
+fn sizes(alloc: Global) -> Result<(u32, u64), NoMemory> {
+    let netlist = example(alloc)?;
+    Ok((netlist.signals(), netlist.bulk()))
+}
+
 #[test]
 fn reads_its_parts(rt: HostRuntime) -> Result<(), Fail> {
-    let netlist = example(rt.alloc())?;
-    assert_eq!(rt; netlist.signals(), 7);
-    assert_eq!(rt; netlist.inputs().len(), 1);
-    assert_eq!(rt; netlist.latches().len(), 2);
-    assert_eq!(rt; netlist.tables().len(), 4);
-    assert_eq!(rt; netlist.names().len(), 7);
+    assert_eq!(rt; parts(rt.alloc())?, (1, 2, 4, 7));
     // seven signals, and one mark, none, none and three
-    assert_eq!(rt; netlist.bulk(), 11);
+    assert_eq!(rt; sizes(rt.alloc())?, (7, 11));
     Ok(())
 }

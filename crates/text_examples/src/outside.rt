@@ -51,15 +51,15 @@ fn reads_whole_or_says_why(rt: HostRuntime) -> Result<(), Fail> {
         ("a", 5, &[2], Err(ReadAllFault::ReadFault)),
         ("a", 5, &[3], Err(ReadAllFault::ReadFault)),
     ];
-    for (name, limit, fail, want) in cases {
-        assert!(rt; limit < 1000);
+    for (name, limit, fail, want) in &cases {
+        assert!(rt; *limit < 1000);
         let mut shelf = shelf_of(alloc, &[("a", b"hello"), ("empty", b"")], 0, 0, fail)?;
-        let got = read_all(alloc, &mut shelf, name, limit);
+        let got = read_all(alloc, &mut shelf, name, *limit);
         let shown = match &got {
             Ok(bytes) => Ok(bytes.as_slice()),
             Err(fault) => Err(*fault),
         };
-        assert!(rt; shown == want, "{name} with {limit}");
+        assert!(rt; shown == *want, "{name} with {limit}");
     }
     Ok(())
 }
@@ -94,9 +94,9 @@ fn puts_all_or_fails(rt: HostRuntime) -> Result<(), Fail> {
         (b"def", Ok(()), b"abcdef"),
         (b"g", Err(Failed), b"abcdef"),
     ];
-    for (bytes, want, written) in steps {
-        assert_eq!(rt; put_all(&mut sink, bytes), want);
-        assert!(rt; sink.bytes() == written);
+    for (bytes, want, written) in &steps {
+        assert_eq!(rt; put_all(&mut sink, bytes), *want);
+        assert!(rt; sink.bytes() == *written);
     }
     Ok(())
 }
@@ -105,14 +105,24 @@ fn puts_all_or_fails(rt: HostRuntime) -> Result<(), Fail> {
 fn shelf_writes_within_its_room(rt: HostRuntime) -> Result<(), Fail> {
     let alloc = rt.alloc();
     let mut shelf = shelf_of(alloc, &[("a", b"old"), ("b", b"kept")], 1, 3, &[])?;
-    assert_eq!(rt; save(&mut shelf, "c", b"x", b"y"), Ok(1));
-    assert_eq!(rt; save(&mut shelf, "d", b"", b""), Err(Failed));
-    assert_eq!(rt; save(&mut shelf, "c", b"xy", b"z"), Err(Failed));
-    assert_eq!(rt; save(&mut shelf, "a", b"ne", b"w"), Ok(1));
-    assert!(rt; shelf.content("a") == Some(b"new"));
-    assert!(rt; shelf.content("b") == Some(b"kept"));
-    assert!(rt; shelf.content("c") == Some(b"xy"));
-    assert!(rt; shelf.content("d").is_none());
+    let saves: [(&str, &[u8], &[u8], Result<usize, Failed>); 4] = [
+        ("c", b"x", b"y", Ok(1)),
+        ("d", b"", b"", Err(Failed)),
+        ("c", b"xy", b"z", Err(Failed)),
+        ("a", b"ne", b"w", Ok(1)),
+    ];
+    for (name, first, second, want) in &saves {
+        assert_eq!(rt; save(&mut shelf, name, first, second), *want);
+    }
+    let contents: [(&str, Option<&[u8]>); 4] = [
+        ("a", Some(b"new")),
+        ("b", Some(b"kept")),
+        ("c", Some(b"xy")),
+        ("d", None),
+    ];
+    for (name, want) in &contents {
+        assert!(rt; shelf.content(name) == *want, "{name}");
+    }
     assert!(rt; read_all(alloc, &mut shelf, "a", 5)?.as_slice() == b"new".as_slice());
     Ok(())
 }
@@ -147,7 +157,7 @@ fn numbers_without_leading_zeros(rt: HostRuntime) {
         (b"", None),
         (b"1x", None),
     ];
-    for (text, want) in cases {
-        assert_eq!(rt; plain_decimal(100, text), want);
+    for (text, want) in &cases {
+        assert_eq!(rt; plain_decimal(100, text), *want);
     }
 }

@@ -1,6 +1,6 @@
 // What no case shows: which token each keyword and punctuation is, where tokens end, and where they stand.
-use psl_base::{NoMemory, Place};
-use psl_lexer::{LexFault, Tokens, lex};
+use psl_base::NoMemory;
+use psl_lexer::{LexFault, Token, Tokens, lex};
 use std::alloc::Global;
 use std::test::Fail;
 
@@ -169,31 +169,37 @@ fn reads_each_keyword_and_punctuation(rt: HostRuntime) -> Result<(), Fail> {
 
 #[test]
 fn takes_the_longest_token(rt: HostRuntime) -> Result<(), Fail> {
-    for (text, wanted) in TEXTS {
+    for (text, wanted) in &TEXTS {
         let tokens = read(rt.alloc(), text)?;
-        assert_eq!(rt; shown(rt.alloc(), &tokens)?.as_str(), wanted);
+        assert_eq!(rt; shown(rt.alloc(), &tokens)?.as_str(), *wanted);
     }
     Ok(())
 }
 
+/// The places of the tokens of `PLACED`: the bytes, where they start and end, and the line and the column.
+const PLACES: [(&[u8], u32, u32, u32, u32); 4] = [
+    (b"ab", 0, 2, 1, 1),
+    (b"c", 10, 11, 3, 3),
+    (b"de", 12, 16, 3, 5),
+    (b";", 16, 17, 3, 9),
+];
+
+const PLACED: &[u8] = b"ab\r\n /*\n*/c \\de ;";
+
+/// Whether a token stands there.
+fn stands(token: &Token, place: &(&[u8], u32, u32, u32, u32)) -> bool {
+    let (text, start, end, line, column) = place;
+    token.text.as_slice() == *text
+        && (token.start, token.end) == (*start, *end)
+        && (token.place.line, token.place.column) == (*line, *column)
+}
+
 #[test]
 fn says_where_tokens_stand(rt: HostRuntime) -> Result<(), Fail> {
-    let tokens = read(rt.alloc(), b"ab\r\n /*\n*/c \\de ;")?;
-    let wanted: [(&[u8], u32, u32, u32, u32); 4] = [
-        (b"ab", 0, 2, 1, 1),
-        (b"c", 10, 11, 3, 3),
-        (b"de", 12, 16, 3, 5),
-        (b";", 16, 17, 3, 9),
-    ];
-    assert_eq!(rt; tokens.len(), wanted.len());
-    for (token, (text, start, end, line, column)) in tokens.as_slice().iter().zip(&wanted) {
-        assert_eq!(rt; token.text.as_slice(), *text);
-        assert_eq!(rt; (token.start, token.end), (*start, *end));
-        let place = Place {
-            line: *line,
-            column: *column,
-        };
-        assert_eq!(rt; token.place, place);
+    let tokens = read(rt.alloc(), PLACED)?;
+    assert_eq!(rt; tokens.len(), PLACES.len());
+    for (token, place) in tokens.as_slice().iter().zip(&PLACES) {
+        assert!(rt; stands(token, place));
     }
     Ok(())
 }
