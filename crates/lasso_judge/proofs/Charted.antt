@@ -10,7 +10,7 @@ use Rattle.sere_nfa.proofs.Reach.{EachBelow, work}
 use Rattle.psl_tree.proofs.SequenceSteps.{StepTo}
 use Rattle.lasso_judge.specs.Arrows.{places_from, IsChart}
 use Rattle.lasso_judge.specs.Cells.{cells_back, fresh_back, ends_at, numbers_below, AreHits, fall_all, AreFallen, IsFirstFallen}
-use Rattle.lasso_judge.specs.Seen.{seen_at, course_by, IsWhole}
+use Rattle.lasso_tables.specs.Seen.{seen_at, course_by, IsWhole}
 use Rattle.lasso_judge.specs.declared.chart.Chart.{Chart}
 use Rattle.lasso_judge.proofs.Cellular.{cell-below, each-member, all-each}
 use Rattle.lasso_judge.proofs.Edges.{step-target, before_cell, before-there}

@@ -12,9 +12,9 @@ use Rattle.psl_tree.specs.declared.letter.Letter.{Letter}
 use Rattle.psl_tree.specs.declared.letter.Letter.TheVariants.{Top, Bottom, Holds}
 use Rattle.psl_tree.specs.declared.letter.Word.{Word}
 use Rattle.alternating_theory.specs.Courses.{Course, walk, read_from, opposite, stopped, letter_in, places, letter_at, next_place, course_of}
-use Rattle.lasso_judge.specs.Seen.{seen, seen_at, course_by, IsWhole, sink_of}
-use Rattle.lasso_judge.specs.Tables.{value_at, Has, Leads}
-use Rattle.lasso_judge.proofs.Letters.{past}
+use Rattle.lasso_tables.specs.Seen.{seen, seen_at, course_by, IsWhole, sink_of}
+use Rattle.lasso_tables.specs.Tables.{value_at, Has, Leads}
+use Rattle.lasso_tables.proofs.Letters.{past}
 
 same_number : (a b : ℕ) → (a == b) ≡ true → a ≡ b
 same_number a b h = grind (arith, nat_tests)

@@ -15,8 +15,8 @@ use Rattle.alternating_theory.proofs.CourseAborts.{abort-same}
 use Rattle.alternating_theory.proofs.Reaching.{reaches-until}
 use Rattle.alternating_theory.proofs.Walks.{suffix-next, walk-below}
 use Rattle.alternating_theory.proofs.Words.{word_read}
-use Rattle.lasso_judge.specs.Seen.{seen_at, course_by, IsWhole, sink_of}
-use Rattle.lasso_judge.specs.Tables.{value_at, Has, Leads, Tells}
+use Rattle.lasso_tables.specs.Seen.{seen_at, course_by, IsWhole, sink_of}
+use Rattle.lasso_tables.specs.Tables.{value_at, Has, Leads, Tells}
 use Rattle.lasso_judge.specs.Untils.{IsReached}
 use Rattle.lasso_judge.proofs.Followed.{opposite-read, halted-read, sink-rests, sink-top, from-below, own-read}
 

@@ -14,8 +14,8 @@ use Rattle.alternating_theory.specs.Courses.{Course}
 use Rattle.alternating_theory.proofs.Cells.{hits-here, hits-later, hits-least}
 use Rattle.lasso_judge.specs.Arrows.{arrows_below}
 use Rattle.lasso_judge.specs.Cells.{cell_of, HitsFrom, AreHits, ends_at, ends_on, numbers_below}
-use Rattle.lasso_judge.specs.Seen.{seen_at, course_by}
-use Rattle.lasso_judge.specs.Tables.{value_at}
+use Rattle.lasso_tables.specs.Seen.{seen_at, course_by}
+use Rattle.lasso_tables.specs.Tables.{value_at}
 use Rattle.lasso_judge.specs.declared.chart.Arrow.{Arrow}
 use Rattle.lasso_judge.proofs.Cellular.{cell-below, cell-is, numbers-there, numbers-back, each-member, marked-below, length-replicate}
 use Rattle.lasso_judge.proofs.Drawn.{member-there, member-left, member-right}

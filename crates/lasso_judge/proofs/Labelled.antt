@@ -14,12 +14,12 @@ use Rattle.sere_nfa.proofs.Reach.{Member}
 use Rattle.lasso_judge.specs.Arrows.{edge_at, arrow_at, label_of, IsDrawn}
 use Rattle.lasso_judge.specs.Cells.{cell_of, fresh_at}
 use Rattle.lasso_judge.specs.Labels.{known_at, into_at, left_by, unmarked_at, AreSources, AreAlike, IsUniform, AreUniform, IsKnown, AreKnown, IsTold, IsLabelled}
-use Rattle.lasso_judge.specs.Tables.{value_at}
+use Rattle.lasso_tables.specs.Tables.{value_at}
 use Rattle.lasso_judge.specs.declared.chart.Arrow.{Arrow}
 use Rattle.lasso_judge.specs.declared.chart.Chart.{Chart}
 use Rattle.lasso_judge.proofs.Cellular.{cell-below}
 use Rattle.lasso_judge.proofs.Drawn.{arrows-whole, places-there, places-back}
-use Rattle.lasso_judge.proofs.Pushed.{below-more}
+use Rattle.lasso_tables.proofs.Pushed.{below-more}
 
 -- one value more, which is as it should be
 pushed : {A : Type 0} (d : A) (i : ℕ) (P : ℕ → A → Type 0) (xs : List A) (x : A) → length xs ≡ i → ((p : ℕ) → p < i → P p (get_or xs p d)) → P i x

@@ -20,8 +20,8 @@ use Rattle.alternating_theory.proofs.Cells.{lasts-most, lasts-falls}
 use Rattle.alternating_theory.proofs.Raised.{EachMore, accepts-more, first-more, below-tops, cut-letter, cut-letters}
 use Rattle.lasso_judge.specs.Arrows.{arrows_below}
 use Rattle.lasso_judge.specs.Cells.{cell_of, LastsFrom, AreFallen, goes_on, lasts_at, fall, fall_all, counted_from, IsFirstFallen}
-use Rattle.lasso_judge.specs.Seen.{seen_at, course_by}
-use Rattle.lasso_judge.specs.Tables.{value_at}
+use Rattle.lasso_tables.specs.Seen.{seen_at, course_by}
+use Rattle.lasso_tables.specs.Tables.{value_at}
 use Rattle.lasso_judge.specs.declared.chart.Arrow.{Arrow}
 use Rattle.lasso_judge.proofs.Cellular.{cell-below, cell-is, marked-below}
 use Rattle.lasso_judge.proofs.Drawn.{member-there, member-left, member-right}

@@ -2,10 +2,8 @@ pub mod Forms
 pub mod Hitting
 pub mod Labelled
 pub mod Lasting
-pub mod Letters
 pub mod Merging
 pub mod Passed
-pub mod Pushed
 pub mod Cellular
 pub mod Charted
 pub mod Drawn

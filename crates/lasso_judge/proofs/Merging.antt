@@ -15,7 +15,7 @@ use Rattle.sere_nfa.specs.declared.edge.NfaEdge.{NfaEdge}
 use Rattle.lasso_judge.specs.Arrows.{edge_at}
 use Rattle.lasso_judge.specs.Merging.{led, kept_at, merged_at, merged_below, IsAlive, IsClass, AreClasses, IsMerged, MergedAlive}
 use Rattle.lasso_judge.specs.MergedView.{shown_of, states_shown}
-use Rattle.lasso_judge.specs.Tables.{value_at}
+use Rattle.lasso_tables.specs.Tables.{value_at}
 use Rattle.lasso_judge.specs.declared.merged.MergedState.{MergedState}
 
 pub shown-merged : (states : List MergedState) (i : ℕ) (d : MergedState) → i < length states → shown_of (get_or states i d) ≡ state_at (states_shown states) i

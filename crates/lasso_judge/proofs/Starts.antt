@@ -17,8 +17,8 @@ use Rattle.alternating_theory.proofs.Cells.{start_of, Hits, Follows as FollowsFr
 use Rattle.alternating_theory.proofs.Walks.{walk-below}
 use Rattle.lasso_judge.specs.Cells.{cell_of, HitsFrom, LastsFrom, AreHits, AreFallen}
 use Rattle.lasso_judge.specs.Merging.{IsMerged}
-use Rattle.lasso_judge.specs.Seen.{course_by, IsWhole}
-use Rattle.lasso_judge.specs.Tables.{value_at, Has, Tells}
+use Rattle.lasso_tables.specs.Seen.{course_by, IsWhole}
+use Rattle.lasso_tables.specs.Tables.{value_at, Has, Tells}
 use Rattle.lasso_judge.proofs.Followed.{opposite-read}
 use Rattle.lasso_judge.proofs.Forms.{turned}
 

@@ -6,7 +6,7 @@ use Rattle.std.proofs.lemmas.Bool.{cases_eq, cases_Bool, both_ways, and_parts}
 use Rattle.std.proofs.lemmas.List.{get_or-set_same, get_or-set_other}
 use Rattle.std.proofs.Math.ListN.{length-set}
 use Rattle.alternating_theory.proofs.Reaching.{reaches-here, reaches-later, reaches-least}
-use Rattle.lasso_judge.specs.Tables.{value_at}
+use Rattle.lasso_tables.specs.Tables.{value_at}
 use Rattle.lasso_judge.specs.Untils.{WalksTo, IsReached, unset, Grown, GrowsTo}
 
 unset-set : (values : List Truth) (n : ℕ) → n < length values → get_or values n false ≡ false → unset (set values n true) + 1 ≤ unset values

@@ -10,7 +10,7 @@ use Rattle.psl_tree.specs.SequenceAutomata.{Edge, State, state_at, AcceptsFrom, 
 use Rattle.sere_nfa.specs.Marking.{Marking, visit}
 use Rattle.alternating_theory.specs.Courses.{Course, walk, read_from}
 use Rattle.lasso_judge.specs.Arrows.{edge_at, arrow_at, label_of}
-use Rattle.lasso_judge.specs.Tables.{value_at}
+use Rattle.lasso_tables.specs.Tables.{value_at}
 use Rattle.lasso_judge.specs.declared.chart.Arrow.{Arrow}
 
 -- the number of a cell, of so many states

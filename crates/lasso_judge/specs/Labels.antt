@@ -5,7 +5,7 @@ use Rattle.psl_tree.specs.declared.letter.Letter.{Letter}
 use Rattle.psl_tree.specs.SequenceAutomata.{Edge, state_at}
 use Rattle.lasso_judge.specs.Arrows.{edge_at, arrow_at, label_of}
 use Rattle.lasso_judge.specs.Cells.{cell_of}
-use Rattle.lasso_judge.specs.Tables.{value_at}
+use Rattle.lasso_tables.specs.Tables.{value_at}
 use Rattle.lasso_judge.specs.declared.chart.Arrow.{Arrow}
 use Rattle.lasso_judge.specs.declared.chart.Chart.{Chart}
 

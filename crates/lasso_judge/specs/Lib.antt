@@ -4,7 +4,5 @@ pub mod Labels
 pub mod Limits
 pub mod MergedView
 pub mod Merging
-pub mod Seen
 pub mod Stops
-pub mod Tables
 pub mod Untils

@@ -2,7 +2,7 @@
 use Rattle.std.specs.Prelude.{◌≡◌, ◌↔◌, ℕ, ◌<◌, List, [], length, map, IsTrue}
 use Rattle.psl_tree.specs.SequenceAutomata.{State, Automaton, IsSound, ReachesEnd}
 use Rattle.sere_nfa.specs.Views.{edges_of}
-use Rattle.lasso_judge.specs.Tables.{value_at}
+use Rattle.lasso_tables.specs.Tables.{value_at}
 use Rattle.lasso_judge.specs.declared.merged.MergedState.{MergedState}
 use Rattle.lasso_judge.specs.declared.merged.Merged.TheInside.{Inside}
 

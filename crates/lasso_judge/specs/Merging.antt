@@ -2,7 +2,7 @@
 use Rattle.std.specs.Prelude.{◌≡◌, ◌↔◌, ◌==◌, ℕ, zero, suc, ◌-◌, ◌<◌, ◌≤◌, Bool as Truth, false, if◌then◌else◌, List, [], ◌∷◌, ◌++◌, length, map, slice_index, IsTrue}
 use Rattle.psl_tree.specs.declared.letter.Letter.{Letter}
 use Rattle.psl_tree.specs.SequenceAutomata.{Edge, State, no_state, state_at, AcceptsFrom, ReachesEnd}
-use Rattle.lasso_judge.specs.Tables.{value_at}
+use Rattle.lasso_tables.specs.Tables.{value_at}
 
 -- from its last state an automaton reads the same lists as another, which has as many states
 pub record IsMerged (old new : List State) : Type 0 where

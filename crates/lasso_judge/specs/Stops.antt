@@ -3,8 +3,8 @@ use Rattle.std.specs.Prelude.{◌≡◌, ℕ, Bool as Truth, if◌then◌else◌
 use Rattle.psl_tree.specs.Holds.{holds}
 use Rattle.psl_tree.specs.Trees.{Boolean}
 use Rattle.psl_tree.specs.declared.letter.Word.{Word}
-use Rattle.lasso_judge.specs.Seen.{seen_at, sink_of}
-use Rattle.lasso_judge.specs.Tables.{value_at, Has, Leads}
+use Rattle.lasso_tables.specs.Seen.{seen_at, sink_of}
+use Rattle.lasso_tables.specs.Tables.{value_at, Has, Leads}
 use Rattle.lasso_judge.specs.declared.abort.Stopped.{Stopped}
 
 -- each place stops the course on which the Boolean holds, and next places that stop it give way to the sink

@@ -2,7 +2,7 @@
 use Rattle.std.specs.Prelude.{◌≡◌, Bool as Truth, true, false, ℕ, suc, ◌+◌, ◌<◌, ◌≤◌, if◌then◌else◌, List, [], ◌∷◌, length, slice_index, IsTrue}
 use Rattle.psl_tree.specs.Classical.{Exists}
 use Rattle.alternating_theory.specs.Courses.{walk}
-use Rattle.lasso_judge.specs.Tables.{value_at}
+use Rattle.lasso_tables.specs.Tables.{value_at}
 
 -- some walk from the place leads over places of the left table to one of the right
 abbrev pub WalksTo : List Truth → List Truth → List ℕ → ℕ → Type 0

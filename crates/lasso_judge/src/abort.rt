@@ -1,10 +1,10 @@
 ghost use Rattle.std.specs.Prelude.{◌≡◌, ◌-◌, ◌<◌, ◌≤◌, ℕ, length, if◌then◌else◌, slice_index, IfOk};
 ghost use Rattle.psl_tree.specs.Trees.{boolean_of};
-ghost use Rattle.lasso_judge.specs.Seen.{IsWhole};
+ghost use Rattle.lasso_tables.specs.Seen.{IsWhole};
 ghost use Rattle.lasso_judge.specs.Stops.{IsStopped};
-ghost use Rattle.lasso_judge.specs.Tables.{Has, Leads, value_at};
+ghost use Rattle.lasso_tables.specs.Tables.{Has, Leads, value_at};
 
-use crate::tables::held;
+use lasso_tables::held;
 use psl_base::NoMemory;
 use psl_tree::{Bool, Word};
 use std::alloc::Global;
@@ -49,7 +49,7 @@ fn sink(count: usize, flipped: bool) -> usize
 }
 
 // The next places, with the sink for each that stops the course.
-#[tactic(auto, using(crate::proofs::Pushed::leads_push, crate::proofs::Pushed::leads_none))]
+#[tactic(auto, using(lasso_tables::proofs::Pushed::leads_push, lasso_tables::proofs::Pushed::leads_none))]
 fn halted(
     alloc: Global,
     stops: &[bool],
@@ -72,7 +72,7 @@ fn halted(
 impl Stopped {
     /// The values on the course from those on the stopped one: that of the sink at each place that stops it.
     #[inline(never)]
-    #[tactic(auto, using(crate::proofs::Pushed::has_push, crate::proofs::Pushed::has_none))]
+    #[tactic(auto, using(lasso_tables::proofs::Pushed::has_push, lasso_tables::proofs::Pushed::has_none))]
     pub(crate) fn values(&self, alloc: Global, part: &[bool]) -> Result<Vec<bool>, NoMemory>
         requires same { length self.now.stops.items ≡ length part.now }
         requires within { self.now.sink < length part.now }

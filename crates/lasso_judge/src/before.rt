@@ -4,12 +4,12 @@ ghost use Rattle.psl_tree.specs.Holds.{holds};
 ghost use Rattle.lasso_judge.specs.Arrows.{arrow_at, label_of, IsChart, IsDrawn};
 ghost use Rattle.lasso_judge.specs.Cells.{cell_of, fresh_at, fresh_back};
 ghost use Rattle.lasso_judge.specs.Labels.{into_at, left_by, unmarked_at, AreSources, IsLabelled};
-ghost use Rattle.lasso_judge.specs.Seen.{seen_at};
-ghost use Rattle.lasso_judge.specs.Tables.{value_at};
+ghost use Rattle.lasso_tables.specs.Seen.{seen_at};
+ghost use Rattle.lasso_tables.specs.Tables.{value_at};
 
 use crate::chart::Chart;
 use crate::labels::{arrows_to, known, label};
-use crate::places::holds_at;
+use lasso_tables::holds_at;
 use psl_base::NoMemory;
 use psl_tree::Word;
 

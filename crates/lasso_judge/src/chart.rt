@@ -9,7 +9,7 @@ ghost use Rattle.sere_nfa.specs.Views.{edges_of};
 ghost use Rattle.lasso_judge.specs.Arrows.{arrows_in, arrows_below, places_from, IsChart};
 ghost use Rattle.lasso_judge.specs.Labels.{IsLabelled};
 ghost use Rattle.lasso_judge.specs.Merging.{IsMerged};
-ghost use Rattle.lasso_judge.specs.Seen.{seen_at};
+ghost use Rattle.lasso_tables.specs.Seen.{seen_at};
 
 use crate::labels::{sources_of, values_of};
 use crate::merged::Merged;

@@ -8,12 +8,12 @@ ghost use Rattle.sere_nfa.specs.Views.{edge_of, edges_of};
 ghost use Rattle.lasso_judge.specs.Arrows.{IsChart, IsDrawn};
 ghost use Rattle.lasso_judge.specs.Cells.{ends_at, ends_on, numbers_below, AreHits};
 ghost use Rattle.lasso_judge.specs.Labels.{IsLabelled, IsTold};
-ghost use Rattle.lasso_judge.specs.Seen.{course_by, seen_at, IsWhole};
+ghost use Rattle.lasso_tables.specs.Seen.{course_by, seen_at, IsWhole};
 
 use crate::before::cells_before;
 use crate::chart::Chart;
 use crate::labels::known;
-use crate::places::holds_at;
+use lasso_tables::holds_at;
 use psl_base::NoMemory;
 use psl_tree::Word;
 use sere_nfa::{Marking, NfaEdge};

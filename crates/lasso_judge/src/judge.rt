@@ -4,14 +4,13 @@ ghost use Rattle.psl_tree.specs.Satisfaction.{Sat};
 ghost use Rattle.psl_tree.specs.Trace.{trace_of};
 ghost use Rattle.psl_tree.specs.Trees.{formula_of};
 ghost use Rattle.lasso_judge.specs.Limits.{HasSmallSequences};
-ghost use Rattle.lasso_judge.specs.Seen.{course_by, IsWhole};
-ghost use Rattle.lasso_judge.specs.Tables.{Tells};
+ghost use Rattle.lasso_tables.specs.Seen.{course_by, IsWhole};
+ghost use Rattle.lasso_tables.specs.Tables.{Tells};
 
 use crate::abort::stopped_course;
-use crate::places::next_places;
 use crate::sequences::{strong, suffix, weak};
-use crate::tables::{after_step, both, held, opposites};
 use crate::until::reached;
+use lasso_tables::{after_step, both, held, next_places, opposites};
 use psl_base::NoMemory;
 use psl_tree::{Fl, Word};
 use std::alloc::Global;

@@ -3,11 +3,11 @@ ghost use Rattle.psl_tree.specs.Trees.{boolean_of};
 ghost use Rattle.lasso_judge.specs.Arrows.{arrow_at, label_of, IsDrawn};
 ghost use Rattle.lasso_judge.specs.Cells.{cell_of};
 ghost use Rattle.lasso_judge.specs.Labels.{into_at, known_at, left_by, AreAlike, AreKnown, AreSources, AreUniform, IsKnown, IsUniform};
-ghost use Rattle.lasso_judge.specs.Seen.{seen_at};
+ghost use Rattle.lasso_tables.specs.Seen.{seen_at};
 
 use crate::chart::Chart;
 use crate::merged::same_boolean;
-use crate::places::holds_at;
+use lasso_tables::holds_at;
 use psl_base::{Items, NoMemory};
 use psl_tree::{Bool, Word};
 use std::alloc::Global;

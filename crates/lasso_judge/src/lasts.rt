@@ -7,13 +7,13 @@ ghost use Rattle.lasso_judge.specs.Arrows.{edge_at, IsChart, IsDrawn};
 ghost use Rattle.lasso_judge.specs.Cells.{fall, fall_all, goes_along, goes_on, lasts_at, NoneGoes};
 ghost use Rattle.lasso_judge.specs.Cells.{AreDead, AreFallen, ArePassed, IsFirstFallen};
 ghost use Rattle.lasso_judge.specs.Labels.{IsLabelled, IsTold};
-ghost use Rattle.lasso_judge.specs.Seen.{course_by, seen_at, IsWhole};
-ghost use Rattle.lasso_judge.specs.Tables.{value_at};
+ghost use Rattle.lasso_tables.specs.Seen.{course_by, seen_at, IsWhole};
+ghost use Rattle.lasso_tables.specs.Tables.{value_at};
 
 use crate::before::cells_before;
 use crate::chart::Chart;
 use crate::labels::known;
-use crate::places::holds_at;
+use lasso_tables::holds_at;
 use psl_base::NoMemory;
 use psl_tree::Word;
 use sere_nfa::{Marking, NfaEdge};

@@ -10,9 +10,7 @@ mod judge;
 mod labels;
 mod lasts;
 mod merged;
-mod places;
 mod sequences;
-mod tables;
 mod until;
 
 pub use judge::satisfies;

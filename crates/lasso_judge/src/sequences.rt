@@ -3,13 +3,13 @@ ghost use Rattle.psl_tree.specs.Clockless.{HasNoClock};
 ghost use Rattle.psl_tree.specs.Counts.{states_of};
 ghost use Rattle.psl_tree.specs.Trees.{Formula, Strong, Weak, Suffix, sequence_of};
 ghost use Rattle.lasso_judge.specs.Cells.{cell_of};
-ghost use Rattle.lasso_judge.specs.Seen.{course_by, IsWhole};
-ghost use Rattle.lasso_judge.specs.Tables.{value_at, Has, Tells};
+ghost use Rattle.lasso_tables.specs.Seen.{course_by, IsWhole};
+ghost use Rattle.lasso_tables.specs.Tables.{value_at, Has, Tells};
 
 use crate::chart::Chart;
 use crate::hits::hit_cells;
 use crate::lasts::fallen_cells;
-use crate::tables::opposites;
+use lasso_tables::opposites;
 use psl_base::NoMemory;
 use psl_tree::{MOST_STATES, Sere, Word};
 use std::alloc::Global;
@@ -87,7 +87,7 @@ pub(crate) fn suffix(
     Ok(values)
 }
 
-#[tactic(auto, using(crate::proofs::Pushed::has_push, crate::proofs::Pushed::has_none))]
+#[tactic(auto, using(lasso_tables::proofs::Pushed::has_push, lasso_tables::proofs::Pushed::has_none))]
 fn everywhere(alloc: Global, count: usize) -> Result<Vec<bool>, NoMemory>
     ensures { IfOk result (λ values. Has count (λ _. true) values.items) }
 {
@@ -99,7 +99,7 @@ fn everywhere(alloc: Global, count: usize) -> Result<Vec<bool>, NoMemory>
 }
 
 // The values of the cells of the initial state, which is the last one, at each place.
-#[tactic(auto, using(crate::proofs::Pushed::has_push, crate::proofs::Pushed::has_none))]
+#[tactic(auto, using(lasso_tables::proofs::Pushed::has_push, lasso_tables::proofs::Pushed::has_none))]
 fn at_starts(
     alloc: Global,
     cells: &[bool],

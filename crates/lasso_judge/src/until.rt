@@ -1,5 +1,5 @@
 ghost use Rattle.std.specs.Prelude.{◌≡◌, ◌<◌, ◌&&◌, ℕ, not, true, length, if◌then◌else◌, slice_index, slice_set};
-ghost use Rattle.lasso_judge.specs.Tables.{value_at};
+ghost use Rattle.lasso_tables.specs.Tables.{value_at};
 ghost use Rattle.lasso_judge.specs.Untils.{GrowsTo, IsReached};
 
 /// At which places a walk begins that leads over places of the left table to one of the right. The right

@@ -1,5 +1,5 @@
 use Rattle.std.specs.Prelude.{if◌then◌else◌, slice_index}
-use Rattle.lasso_judge.specs.Tables.{value_at, Leads}
+use Rattle.lasso_tables.specs.Tables.{value_at, Leads}
 use Rattle.lasso_judge.proofs.abort.halted.Given as goal
 
 abbrev pub invariant-loop-place : goal.invariant-loop-place

@@ -1,8 +1,8 @@
 use Rattle.std.proofs.Common.{sym, subst, Bool as Truth, List, length}
 use Rattle.psl_tree.specs.Holds.{holds}
 use Rattle.psl_tree.specs.Trees.{boolean_of}
-use Rattle.lasso_judge.specs.Seen.{seen_at}
-use Rattle.lasso_judge.specs.Tables.{Has}
+use Rattle.lasso_tables.specs.Seen.{seen_at}
+use Rattle.lasso_tables.specs.Tables.{Has}
 use Rattle.lasso_judge.proofs.Followed.{halted-whole}
 use Rattle.lasso_judge.proofs.Forms.{sink-is}
 use Rattle.lasso_judge.proofs.abort.stopped_course.Goals as goal

@@ -1,6 +1,6 @@
 use Rattle.std.proofs.Common.{◌≡◌, ◌++◌, drop}
 use Rattle.lasso_judge.specs.Cells.{fresh_at}
-use Rattle.lasso_judge.specs.Seen.{seen_at}
+use Rattle.lasso_tables.specs.Seen.{seen_at}
 use Rattle.lasso_judge.proofs.before.add_at.Given as goal
 
 abbrev pub invariant-loop-number : goal.invariant-loop-number

@@ -1,7 +1,7 @@
 use Rattle.std.proofs.Common.{◌≡◌, ◌++◌, drop}
 use Rattle.lasso_judge.specs.Cells.{fresh_back}
 use Rattle.lasso_judge.specs.Labels.{into_at}
-use Rattle.lasso_judge.specs.Seen.{seen_at}
+use Rattle.lasso_tables.specs.Seen.{seen_at}
 use Rattle.lasso_judge.proofs.before.add_back.Given as goal
 
 abbrev pub invariant-loop-place : goal.invariant-loop-place

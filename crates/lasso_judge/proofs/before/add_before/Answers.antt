@@ -1,7 +1,7 @@
 use Rattle.std.proofs.Common.{◌≡◌, ◌∙◌, sym, ap, subst, ◌++◌, Bool as Truth, Some, List, ℕ}
 use Rattle.std.specs.Prelude.{OnOk}
 use Rattle.std.proofs.lemmas.List.{append-nil}
-use Rattle.lasso_judge.specs.Seen.{seen_at}
+use Rattle.lasso_tables.specs.Seen.{seen_at}
 use Rattle.lasso_judge.proofs.Labelled.{none-before, all-before}
 use Rattle.lasso_judge.proofs.before.add_before.Goals as goal
 

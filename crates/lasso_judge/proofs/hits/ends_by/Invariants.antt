@@ -1,7 +1,7 @@
 use Rattle.std.proofs.Common.{◌≡◌, drop}
 use Rattle.sere_nfa.specs.Views.{edges_of}
 use Rattle.lasso_judge.specs.Cells.{ends_on}
-use Rattle.lasso_judge.specs.Seen.{seen_at}
+use Rattle.lasso_tables.specs.Seen.{seen_at}
 use Rattle.lasso_judge.proofs.hits.ends_by.Given as goal
 
 abbrev pub invariant-loop-edge : goal.invariant-loop-edge

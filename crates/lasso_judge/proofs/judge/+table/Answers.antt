@@ -3,8 +3,8 @@ use Rattle.std.specs.Prelude.{not}
 use Rattle.psl_tree.specs.Clockless.{IsPlain}
 use Rattle.psl_tree.specs.Trees.{boolean_of, sequence_of, formula_of}
 use Rattle.psl_tree.specs.declared.fl.Fl.{Fl}
-use Rattle.lasso_judge.specs.Seen.{course_by}
-use Rattle.lasso_judge.specs.Tables.{Tells}
+use Rattle.lasso_tables.specs.Seen.{course_by}
+use Rattle.lasso_tables.specs.Tables.{Tells}
 use Rattle.lasso_judge.proofs.Forms.{told, suffix-ok, not-tells, next-tells, until-tells, abort-tells}
 use Rattle.lasso_judge.proofs.judge.+table.Goals as goal
 

@@ -2,8 +2,8 @@ use Rattle.std.proofs.Common.{◌∙◌, ◌+◌, ◌<◌, sym, subst, false, �
 use Rattle.std.proofs.lemmas.List.{get_or_default}
 use Rattle.psl_tree.specs.Trees.{formula_of}
 use Rattle.alternating_theory.specs.Courses.{places, next_place}
-use Rattle.lasso_judge.specs.Seen.{course_by, IsWhole}
-use Rattle.lasso_judge.specs.Tables.{Leads, Tells}
+use Rattle.lasso_tables.specs.Seen.{course_by, IsWhole}
+use Rattle.lasso_tables.specs.Tables.{Leads, Tells}
 use Rattle.lasso_judge.proofs.Followed.{own-whole}
 use Rattle.lasso_judge.proofs.Forms.{word-tells}
 use Rattle.lasso_judge.proofs.judge.satisfies.Goals as goal

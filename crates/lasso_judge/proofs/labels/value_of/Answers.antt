@@ -1,6 +1,6 @@
 use Rattle.std.proofs.Common.{◌/◌, ◌%◌, subst}
 use Rattle.lasso_judge.specs.Labels.{IsKnown}
-use Rattle.lasso_judge.specs.Seen.{seen_at}
+use Rattle.lasso_tables.specs.Seen.{seen_at}
 use Rattle.lasso_judge.proofs.labels.value_of.Goals as goal
 
 pub returns : goal.returns

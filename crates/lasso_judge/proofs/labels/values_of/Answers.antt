@@ -1,6 +1,6 @@
 use Rattle.std.proofs.Common.{sym, subst, ◌+◌, Bool as Truth, Option, List}
 use Rattle.lasso_judge.specs.Labels.{AreKnown}
-use Rattle.lasso_judge.specs.Seen.{seen_at}
+use Rattle.lasso_tables.specs.Seen.{seen_at}
 use Rattle.lasso_judge.proofs.Labelled.{known_push}
 use Rattle.lasso_judge.proofs.labels.values_of.Goals as goal
 

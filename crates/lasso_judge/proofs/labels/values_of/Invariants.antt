@@ -1,5 +1,5 @@
 use Rattle.lasso_judge.specs.Labels.{AreKnown}
-use Rattle.lasso_judge.specs.Seen.{seen_at}
+use Rattle.lasso_tables.specs.Seen.{seen_at}
 use Rattle.lasso_judge.proofs.labels.values_of.Given as goal
 
 abbrev pub invariant-loop-cell : goal.invariant-loop-cell

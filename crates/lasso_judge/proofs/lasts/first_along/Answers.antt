@@ -1,7 +1,7 @@
 use Rattle.std.proofs.Common.{◌∙◌, sym, length}
 use Rattle.std.proofs.lemmas.List.{length-map}
 use Rattle.sere_nfa.specs.Views.{edge_of, edges_of}
-use Rattle.lasso_judge.specs.Seen.{seen_at}
+use Rattle.lasso_tables.specs.Seen.{seen_at}
 use Rattle.lasso_judge.proofs.Passed.{passed_ends}
 use Rattle.lasso_judge.proofs.lasts.first_along.Goals as goal
 

@@ -1,7 +1,7 @@
 use Rattle.std.proofs.Common.{◌-◌, length}
 use Rattle.sere_nfa.specs.Views.{edges_of}
 use Rattle.lasso_judge.specs.Cells.{NoneGoes}
-use Rattle.lasso_judge.specs.Seen.{seen_at}
+use Rattle.lasso_tables.specs.Seen.{seen_at}
 use Rattle.lasso_judge.proofs.lasts.first_along.Given as goal
 
 abbrev pub invariant-loop-number : goal.invariant-loop-number

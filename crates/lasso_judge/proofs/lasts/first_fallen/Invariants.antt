@@ -1,7 +1,7 @@
 use Rattle.std.proofs.Common.{◌≡◌, ◌-◌, length}
 use Rattle.sere_nfa.specs.MarkingView.{marking_of}
 use Rattle.lasso_judge.specs.Cells.{counted_from, fall_all, ArePassed}
-use Rattle.lasso_judge.specs.Seen.{seen_at}
+use Rattle.lasso_tables.specs.Seen.{seen_at}
 use Rattle.lasso_judge.proofs.lasts.first_fallen.Given as goal
 
 abbrev pub invariant-loop-cell : goal.invariant-loop-cell

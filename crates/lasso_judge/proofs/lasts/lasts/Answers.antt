@@ -5,7 +5,7 @@ use Rattle.psl_tree.specs.SequenceAutomata.{Edge, State, state_at}
 use Rattle.sere_nfa.specs.Views.{edges_of}
 use Rattle.sere_nfa.specs.declared.edge.NfaEdge.{NfaEdge}
 use Rattle.lasso_judge.specs.Cells.{NoneGoes}
-use Rattle.lasso_judge.specs.Seen.{seen_at}
+use Rattle.lasso_tables.specs.Seen.{seen_at}
 use Rattle.lasso_judge.proofs.Drawn.{cell-state}
 use Rattle.lasso_judge.proofs.Labelled.{edges-told}
 use Rattle.lasso_judge.proofs.Passed.{passed_set}

@@ -1,5 +1,5 @@
 use Rattle.std.proofs.Common.{true}
-use Rattle.lasso_judge.specs.Tables.{Has}
+use Rattle.lasso_tables.specs.Tables.{Has}
 use Rattle.lasso_judge.proofs.sequences.everywhere.Given as goal
 
 abbrev pub invariant-loop-place : goal.invariant-loop-place

@@ -1,7 +1,7 @@
 use Rattle.std.proofs.Common.{refl, sym, subst, Bool as Truth, true, List, length}
 use Rattle.psl_tree.specs.Trees.{sequence_of}
 use Rattle.psl_tree.specs.SequenceConstruction.{nfa_of}
-use Rattle.lasso_judge.specs.Tables.{Has}
+use Rattle.lasso_tables.specs.Tables.{Has}
 use Rattle.lasso_judge.proofs.Starts.{starts-as, strong-tells}
 use Rattle.lasso_judge.proofs.sequences.strong.Goals as goal
 

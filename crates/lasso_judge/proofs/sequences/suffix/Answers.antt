@@ -3,7 +3,7 @@ use Rattle.std.specs.Prelude.{not}
 use Rattle.psl_tree.specs.Trees.{sequence_of}
 use Rattle.psl_tree.specs.SequenceConstruction.{nfa_of}
 use Rattle.lasso_judge.specs.Cells.{cell_of}
-use Rattle.lasso_judge.specs.Tables.{value_at, Has}
+use Rattle.lasso_tables.specs.Tables.{value_at, Has}
 use Rattle.lasso_judge.proofs.Starts.{starts-as, suffix-tells}
 use Rattle.lasso_judge.proofs.sequences.suffix.Goals as goal
 

@@ -2,7 +2,7 @@ use Rattle.std.proofs.Common.{refl, ◌-◌, sym, subst, Bool as Truth, List, le
 use Rattle.psl_tree.specs.Trees.{sequence_of}
 use Rattle.psl_tree.specs.SequenceConstruction.{nfa_of}
 use Rattle.lasso_judge.specs.Cells.{cell_of}
-use Rattle.lasso_judge.specs.Tables.{value_at, Has}
+use Rattle.lasso_tables.specs.Tables.{value_at, Has}
 use Rattle.lasso_judge.proofs.Starts.{starts-as, weak-tells}
 use Rattle.lasso_judge.proofs.sequences.weak.Goals as goal
 

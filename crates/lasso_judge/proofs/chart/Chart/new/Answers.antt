@@ -1,4 +1,4 @@
-use Rattle.lasso_judge.specs.Seen.{seen_at}
+use Rattle.lasso_tables.specs.Seen.{seen_at}
 use Rattle.lasso_judge.proofs.Labelled.{told-of}
 use Rattle.lasso_judge.proofs.chart.Chart.new.Goals as goal
 

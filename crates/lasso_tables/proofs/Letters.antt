@@ -8,7 +8,7 @@ use Rattle.psl_tree.specs.Trees.{Boolean}
 use Rattle.psl_tree.specs.declared.letter.Letter.{Letter}
 use Rattle.psl_tree.specs.declared.letter.Letter.TheVariants.{Top, Bottom}
 use Rattle.alternating_theory.specs.Courses.{letter_in}
-use Rattle.lasso_judge.specs.Seen.{seen}
+use Rattle.lasso_tables.specs.Seen.{seen}
 
 front : (xs ys : List Letter) (k : ℕ) (x : Letter) → k < length xs → x ≡ get_or xs k x → x ≡ letter_in (xs ++ ys) k
 front [] ys k x h e = absurd (omega arith)

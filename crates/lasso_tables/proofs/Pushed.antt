@@ -3,7 +3,7 @@ use Rattle.std.proofs.Common.{◌≡◌, inl, inr, refl, ◌∙◌, subst, ℕ, 
 use Rattle.std.proofs.lemmas.List.{length-append, get_or_append_left}
 use Rattle.std.proofs.Math.Seq.{get_or-append_seam}
 use Rattle.std.proofs.lemmas.Bool.{cases_lt}
-use Rattle.lasso_judge.specs.Tables.{Has, Leads}
+use Rattle.lasso_tables.specs.Tables.{Has, Leads}
 
 -- what is known below a number, and at it
 pub below-more : (i : ℕ) (P : ℕ → Type 0) → ((p : ℕ) → p < i → P p) → P i → (p : ℕ) → p < i + 1 → P p

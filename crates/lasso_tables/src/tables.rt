@@ -1,8 +1,8 @@
 ghost use Rattle.std.specs.Prelude.{◌≡◌, ◌<◌, ◌&&◌, ℕ, not, length, slice_index, IfOk};
 ghost use Rattle.psl_tree.specs.Holds.{holds};
 ghost use Rattle.psl_tree.specs.Trees.{boolean_of};
-ghost use Rattle.lasso_judge.specs.Seen.{seen_at};
-ghost use Rattle.lasso_judge.specs.Tables.{Has, value_at};
+ghost use Rattle.lasso_tables.specs.Seen.{seen_at};
+ghost use Rattle.lasso_tables.specs.Tables.{Has, value_at};
 
 use crate::places::holds_at;
 use psl_base::NoMemory;
@@ -12,7 +12,7 @@ use std::alloc::Global;
 /// At which places a Boolean holds.
 #[inline(never)]
 #[tactic(auto, using(crate::proofs::Pushed::has_push, crate::proofs::Pushed::has_none))]
-pub(crate) fn held(
+pub fn held(
     alloc: Global,
     test: &Bool,
     word: &Word,
@@ -32,7 +32,7 @@ pub(crate) fn held(
 /// The other value at each place.
 #[inline(never)]
 #[tactic(auto, using(crate::proofs::Pushed::has_push, crate::proofs::Pushed::has_none))]
-pub(crate) fn opposites(alloc: Global, part: &[bool]) -> Result<Vec<bool>, NoMemory>
+pub fn opposites(alloc: Global, part: &[bool]) -> Result<Vec<bool>, NoMemory>
     ensures { IfOk result (λ values. Has (length part.now) (λ place. not (value_at part.now place)) values.items) }
 {
     let mut values = Vec::new(alloc);
@@ -45,7 +45,7 @@ pub(crate) fn opposites(alloc: Global, part: &[bool]) -> Result<Vec<bool>, NoMem
 /// At which places both are true.
 #[inline(never)]
 #[tactic(auto, using(crate::proofs::Pushed::has_push, crate::proofs::Pushed::has_none))]
-pub(crate) fn both(alloc: Global, left: &[bool], right: &[bool]) -> Result<Vec<bool>, NoMemory>
+pub fn both(alloc: Global, left: &[bool], right: &[bool]) -> Result<Vec<bool>, NoMemory>
     requires { length left.now ≡ length right.now }
     ensures { IfOk result (λ values.
         Has (length left.now) (λ place. value_at left.now place && value_at right.now place) values.items) }
@@ -60,11 +60,7 @@ pub(crate) fn both(alloc: Global, left: &[bool], right: &[bool]) -> Result<Vec<b
 /// The values at the next places.
 #[inline(never)]
 #[tactic(auto, using(crate::proofs::Pushed::has_push, crate::proofs::Pushed::has_none))]
-pub(crate) fn after_step(
-    alloc: Global,
-    part: &[bool],
-    next: &[usize],
-) -> Result<Vec<bool>, NoMemory>
+pub fn after_step(alloc: Global, part: &[bool], next: &[usize]) -> Result<Vec<bool>, NoMemory>
     requires { (place : ℕ) → place < length next.now → slice_index next.now place < length part.now }
     ensures { IfOk result (λ values.
         Has (length next.now) (λ place. value_at part.now (slice_index next.now place)) values.items) }

@@ -1,7 +1,7 @@
 use Rattle.std.proofs.Common.{◌∙◌}
 use Rattle.psl_tree.specs.Trees.{boolean_of}
-use Rattle.lasso_judge.proofs.Letters.{stem-letter, loop-letter, behind-letter}
-use Rattle.lasso_judge.proofs.places.holds_at.Goals as goal
+use Rattle.lasso_tables.proofs.Letters.{stem-letter, loop-letter, behind-letter}
+use Rattle.lasso_tables.proofs.places.holds_at.Goals as goal
 
 pub returns-then-place-stem : goal.returns-then-place-stem
 returns-then-place-stem c = c.holds_seen.ensures

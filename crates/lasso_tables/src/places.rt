@@ -2,8 +2,8 @@ ghost use Rattle.std.specs.Prelude.{◌≡◌, ◌==◌, ◌+◌, ◌^◌, ◌<�
 ghost use Rattle.psl_tree.specs.Holds.{holds};
 ghost use Rattle.psl_tree.specs.Trees.{boolean_of};
 ghost use Rattle.alternating_theory.specs.Courses.{next_place, places};
-ghost use Rattle.lasso_judge.specs.Seen.{seen, seen_at};
-ghost use Rattle.lasso_judge.specs.Tables.{Leads};
+ghost use Rattle.lasso_tables.specs.Seen.{seen, seen_at};
+ghost use Rattle.lasso_tables.specs.Tables.{Leads};
 
 use psl_base::NoMemory;
 use psl_tree::{Bool, Letter, Word, holds};
@@ -13,7 +13,7 @@ use std::alloc::Global;
 // for ever and the one of Bottom for ever.
 
 /// Whether a Boolean holds on the letter at a place of the word, or of its dual where that is asked.
-pub(crate) fn holds_at(word: &Word, flipped: bool, place: usize, test: &Bool) -> bool
+pub fn holds_at(word: &Word, flipped: bool, place: usize, test: &Bool) -> bool
     ensures { result ≡ holds (seen_at word.now flipped place) (boolean_of test.now) }
 {
     let stem = word.stem.as_slice();
@@ -41,7 +41,7 @@ fn holds_seen(letter: &Letter, flipped: bool, test: &Bool) -> bool
 
 /// The next place of each place.
 #[tactic(auto, using(crate::proofs::Pushed::leads_push, crate::proofs::Pushed::leads_none))]
-pub(crate) fn next_places(alloc: Global, word: &Word) -> Result<Vec<usize>, NoMemory>
+pub fn next_places(alloc: Global, word: &Word) -> Result<Vec<usize>, NoMemory>
     ensures { IfOk result (λ next. Leads (places word.now + 2) (λ place. next_place word.now place) next.items) }
 {
     let stem = word.stem.len();
