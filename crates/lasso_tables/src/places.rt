@@ -9,10 +9,7 @@ use psl_base::NoMemory;
 use psl_tree::{Bool, Letter, Word, holds};
 use std::alloc::Global;
 
-// Places are counted from 0: those of the stem, then those of the loop. Two more follow, the one of Top
-// for ever and the one of Bottom for ever.
-
-/// Whether a Boolean holds on the letter at a place of the word, or of its dual where that is asked.
+/// Whether a Boolean holds on the letter at a place of the word, counted from 0, or of its dual where that is asked.
 pub fn holds_at(word: &Word, flipped: bool, place: usize, test: &Bool) -> bool
     ensures { result ≡ holds (seen_at word.now flipped place) (boolean_of test.now) }
 {
@@ -39,7 +36,11 @@ fn holds_seen(letter: &Letter, flipped: bool, test: &Bool) -> bool
     }
 }
 
-/// The next place of each place.
+/// The next place of each place of the word, and of the two behind it: after the last one of the loop comes its first.
+///
+/// # Errors
+///
+/// `NoMemory` if memory is refused.
 #[tactic(auto, using(crate::proofs::Pushed::leads_push, crate::proofs::Pushed::leads_none))]
 pub fn next_places(alloc: Global, word: &Word) -> Result<Vec<usize>, NoMemory>
     ensures { IfOk result (λ next. Leads (places word.now + 2) (λ place. next_place word.now place) next.items) }

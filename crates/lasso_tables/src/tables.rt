@@ -9,7 +9,11 @@ use psl_base::NoMemory;
 use psl_tree::{Bool, Word};
 use std::alloc::Global;
 
-/// At which places a Boolean holds.
+/// At which of so many first places a Boolean holds, on the word or on its dual where that is asked.
+///
+/// # Errors
+///
+/// `NoMemory` if memory is refused.
 #[inline(never)]
 #[tactic(auto, using(crate::proofs::Pushed::has_push, crate::proofs::Pushed::has_none))]
 pub fn held(
@@ -30,6 +34,10 @@ pub fn held(
 }
 
 /// The other value at each place.
+///
+/// # Errors
+///
+/// `NoMemory` if memory is refused.
 #[inline(never)]
 #[tactic(auto, using(crate::proofs::Pushed::has_push, crate::proofs::Pushed::has_none))]
 pub fn opposites(alloc: Global, part: &[bool]) -> Result<Vec<bool>, NoMemory>
@@ -42,7 +50,11 @@ pub fn opposites(alloc: Global, part: &[bool]) -> Result<Vec<bool>, NoMemory>
     Ok(values)
 }
 
-/// At which places both are true.
+/// At which places both are true, of two tables of one length.
+///
+/// # Errors
+///
+/// `NoMemory` if memory is refused.
 #[inline(never)]
 #[tactic(auto, using(crate::proofs::Pushed::has_push, crate::proofs::Pushed::has_none))]
 pub fn both(alloc: Global, left: &[bool], right: &[bool]) -> Result<Vec<bool>, NoMemory>
@@ -57,7 +69,11 @@ pub fn both(alloc: Global, left: &[bool], right: &[bool]) -> Result<Vec<bool>, N
     Ok(values)
 }
 
-/// The values at the next places.
+/// The values at the next places, each of which is a place of the table.
+///
+/// # Errors
+///
+/// `NoMemory` if memory is refused.
 #[inline(never)]
 #[tactic(auto, using(crate::proofs::Pushed::has_push, crate::proofs::Pushed::has_none))]
 pub fn after_step(alloc: Global, part: &[bool], next: &[usize]) -> Result<Vec<bool>, NoMemory>
