@@ -7,6 +7,8 @@ mod models;
 #[cfg(test)]
 mod netlists;
 #[cfg(test)]
+mod reaching;
+#[cfg(test)]
 mod searches;
 #[cfg(test)]
 mod violations;

@@ -37,7 +37,7 @@ built-length gates (Equality first second) =
       length-append two.gates (And one.output two.output ∷ And (neg_ℤ one.output) (neg_ℤ two.output) ∷ And (negsuc (length two.gates)) (negsuc (suc (length two.gates))) ∷ []),
     )
 
-all-length : (gates : List Gate) (terms : List Term) → length (built_all gates terms).gates ≡ length gates + terms_size terms
+pub all-length : (gates : List Gate) (terms : List Term) → length (built_all gates terms).gates ≡ length gates + terms_size terms
 all-length gates [] = omega arith
 all-length gates (term ∷ terms) = omega (arith, built-length gates term, all-length (built gates term).gates terms, sum_by-cons term_size term terms)
 
@@ -54,7 +54,7 @@ circuit-parts g g' n n' x x' h h' a b c d = rw (a, b, c, d) refl
 
 module _ (design : Design) (automaton : Automaton) (visits : ℕ) where
   abbrev states : List Term
-  states = state_terms design automaton visits
+  states = state_terms design automaton visits 0
 
   abbrev bad : ℤ
   bad = neg_ℤ (bad_bit design automaton visits)
@@ -63,7 +63,7 @@ module _ (design : Design) (automaton : Automaton) (visits : ℕ) where
   pub record AreAdded (width : ℕ) (free one two : List Gate) (none first guarded second : Holding) : Type 0 where
     pub free_is : free ≡ replicate (width + width + 1) Free
     pub none_is : none ≡ record { guard = None; literals = [] }
-    pub state : BuildsAll free one none first (state_terms design automaton visits) (Ok tt)
+    pub state : BuildsAll free one none first (state_terms design automaton visits 0) (Ok tt)
     pub guard : guarded ≡ record { guard = Some (neg_ℤ (bad_bit design automaton visits)); literals = first.literals }
     pub step : BuildsAll one two guarded second (step_terms design automaton visits width) (Ok tt)
 

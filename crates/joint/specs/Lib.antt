@@ -1,3 +1,6 @@
+pub mod Asked
 pub mod Joined
 pub mod JointView
+pub mod Kept
 pub mod Slices
+pub mod Values

@@ -45,7 +45,7 @@ pub(crate) fn circuit_of(alloc: Global, product: Product<'_>) -> Result<Circuit,
     let mut gates = Builder::new(alloc);
     let mut held = Held::new(alloc);
     gates.free(width + width + 1)?;
-    add_state(&mut gates, &mut held, product)?;
+    add_state(&mut gates, &mut held, product, 0)?;
     held.guard(negated(product.bad()));
     add_step(alloc, &mut gates, &mut held, product)?;
     match with_bits(alloc, width, gates, held) {

@@ -68,6 +68,17 @@ impl<'a> Product<'a> {
         }
     }
 
+    /// The same in the state whose bits follow so many variables.
+    pub fn position_at(self, base: u32) -> Position
+        ensures signals { result.signals ≡ self.entry.netlist.now.signals }
+        ensures base { result.base ≡ base }
+    {
+        Position {
+            signals: self.netlist.signals(),
+            base,
+        }
+    }
+
     // How many bits a state has before those of the obligations.
     fn narrow(self) -> u32
         ensures is { result ≡ 1 + self.entry.netlist.now.signals + self.entry.netlist.now.signals }

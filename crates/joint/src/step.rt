@@ -6,11 +6,13 @@ ghost use Rattle.clauses.specs.Literals.{is_literal};
 ghost use Rattle.joint_theory.specs.Bits.{count_of, owed_bit};
 ghost use Rattle.joint_theory.specs.Relation as spec;
 ghost use Rattle.joint_theory.specs.Relation.{none_literals};
+ghost use Rattle.joint_theory.specs.Sliced.{asked_terms};
 ghost use Rattle.run_gates.specs.Building.{Builds, BuildsAll};
 
 use crate::each::{Asking, add_each};
 use crate::literals::{add_implied, add_one, add_same};
 use crate::product::Product;
+use crate::support::add_support;
 use circuit_theory::Literals;
 use clauses::CnfFault;
 use psl_base::NoMemory;
@@ -207,6 +209,21 @@ fn hold_emptied(
     held.hold(gates, emptied)
 }
 
+/// What is owed and pending is met.
+pub(crate) fn add_asked_terms(
+    gates: &mut Builder,
+    held: &mut Held,
+    product: Product<'_>,
+) -> Result<(), CnfFault>
+    requires { AtomsOfObligations (λ atom. atom.signal < product.netlist.now.signals) product.violation.now.obligations }
+    ensures { BuildsAll gates.old gates.new held.old held.new
+        (asked_terms product.entry.netlist.now product.entry.violation.now product.entry.width) result }
+{
+    let obligations = product.obligations();
+    add_each(gates, held, &OwedMet { product }, obligations)?;
+    add_each(gates, held, &PendingMet { product }, obligations)
+}
+
 /// The valuation behind that of a joint state follows it, and what is owed and pending is met.
 fn add_met(gates: &mut Builder, held: &mut Held, product: Product<'_>) -> Result<(), CnfFault>
     requires { AtomsOfObligations (λ atom. atom.signal < product.netlist.now.signals) product.violation.now.obligations }
@@ -227,7 +244,7 @@ fn add_met(gates: &mut Builder, held: &mut Held, product: Product<'_>) -> Result
 }
 
 /// Where nothing is pending, it begins anew.
-fn add_breakpoint(
+pub(crate) fn add_breakpoint(
     alloc: Global,
     gates: &mut Builder,
     held: &mut Held,
@@ -255,5 +272,6 @@ pub(crate) fn add_step(
         result }
 {
     add_met(gates, held, product)?;
-    add_breakpoint(alloc, gates, held, product)
+    add_breakpoint(alloc, gates, held, product)?;
+    add_support(alloc, gates, held, product)
 }

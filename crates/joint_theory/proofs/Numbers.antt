@@ -1,5 +1,5 @@
 -- Rising lists of numbers, and what stands in them.
-use Rattle.std.proofs.Common.{◌≡◌, inl, inr, refl, sym, ap, ◌∙◌, ℕ, zero, suc, ◌+◌, ◌≤◌, ◌<◌, Bool as Truth, true, false, cond, ◌&&◌, ◌||◌, eqb, List, [], ◌∷◌, length, get_or, arith}
+use Rattle.std.proofs.Common.{◌≡◌, inl, inr, refl, sym, ap, ◌∙◌, subst, ℕ, zero, suc, ◌+◌, ◌≤◌, ◌<◌, Bool as Truth, true, false, cond, ◌&&◌, ◌||◌, eqb, List, [], ◌∷◌, length, get_or, arith}
 use Rattle.std.specs.Prelude.{IsTrue, All, Contains, filter}
 use Rattle.std.specs.List.{range_with_len}
 use Rattle.std.specs.List.Sorted.{IsStrictlyIncreasing}
@@ -72,3 +72,18 @@ filter-same test other (first ∷ numbers) each =
 
 pub among-filter : (test : ℕ → Truth) (numbers : List ℕ) → All (Contains numbers) (filter test numbers)
 among-filter test numbers = All-filter test (Contains numbers) numbers (All-contains_itself numbers)
+
+-- a number that stands in a list
+pub at-listed : (P : ℕ → Type 0) (numbers : List ℕ) → All P numbers → (number : ℕ) → IsTrue (is_listed numbers number) → P number
+at-listed P numbers each number h = by (listed-contains numbers number h)
+  where
+    by : (k : ℕ) × (k < length numbers) × (get_or numbers k number ≡ number) → P number
+    by c = subst P c.2 (each c.0 number c.1)
+
+pub from-listed : (P : ℕ → Type 0) (numbers : List ℕ) → ((number : ℕ) → IsTrue (is_listed numbers number) → P number) → All P numbers
+from-listed P numbers each k other below = each (get_or numbers k other) (contains-listed numbers (get_or numbers k other) (k, below, again numbers k below))
+  where
+    again : (list : List ℕ) (i : ℕ) → i < length list → get_or list i (get_or numbers k other) ≡ get_or list i other
+    again [] i low = absurd (omega arith)
+    again (x ∷ list) zero low = refl
+    again (x ∷ list) (suc i) low = again list i (omega arith)

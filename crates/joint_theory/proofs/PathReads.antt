@@ -51,15 +51,15 @@ module _ (design : Design) (automaton : Automaton) (visits : ℕ) (sound : netli
   steps = step_terms design automaton visits (joint_width design automaton visits)
 
   related-parts : (position : ℕ) → position ≤ last
-      → IsTrue (list_all (value (values position)) (state_terms design automaton visits)) × IsTrue (list_all (value (values position)) (unless_bad design automaton visits steps))
+      → IsTrue (list_all (value (values position)) (state_terms design automaton visits 0)) × IsTrue (list_all (value (values position)) (unless_bad design automaton visits steps))
   related-parts position below =
-      append-parts (value (values position)) (state_terms design automaton visits) (unless_bad design automaton visits steps) (whole.related position below)
+      append-parts (value (values position)) (state_terms design automaton visits 0) (unless_bad design automaton visits steps) (whole.related position below)
 
   pub read-is : (position : ℕ) → position ≤ last → IsState design automaton visits (read_state position)
-  read-is position below = (state-read design automaton visits sound (values position) (related-parts position below).0).0
+  read-is position below = (state-read design automaton visits sound 0 (values position) (related-parts position below).0).0
 
   pub read-bits : (position : ℕ) → position ≤ last → AreBits design automaton visits 0 (values position) (read_state position)
-  read-bits position below = (state-read design automaton visits sound (values position) (related-parts position below).0).1
+  read-bits position below = (state-read design automaton visits sound 0 (values position) (related-parts position below).0).1
 
   next-bits : (position : ℕ) → position < last → AreBits design automaton visits width (values position) (read_state (suc position))
   next-bits position below =

@@ -120,8 +120,8 @@ module _ (design : Design) (automaton : Automaton) (visits : ℕ) (sound : netli
   whole-written : IsWhole (joint design automaton visits) last written
   whole-written = record {
     related = λ position below.
-        append-from (value (written position)) (state_terms design automaton visits) (unless_bad design automaton visits steps)
-        (state-written design automaton visits sound (written position) (x position) (is position) (now-are position))
+        append-from (value (written position)) (state_terms design automaton visits 0) (unless_bad design automaton visits steps)
+        (state-written design automaton visits sound 0 (written position) (x position) (is position) (now-are position))
         (unless-value position (steps-written position (goes position below)));
     moves = λ position bit below low. ap (λ (n : ℕ). written (suc position) (suc n)) (omega arith) ∙ now-bit (suc position) bit low ∙ sym (next-bit position bit low);
   }

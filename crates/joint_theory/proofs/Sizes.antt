@@ -2,7 +2,7 @@
 use Rattle.std.proofs.Common.{◌≡◌, ℕ, zero, suc, ◌+◌, ◌*◌, ◌<◌, ◌≤◌, ℤ, neg_ℤ, Bool as Truth, true, false, List, [], ◌∷◌, ◌++◌, map, length, refl, sym, subst, arith, length-append, suc-mul}
 use Rattle.std.specs.List.{range_with_len}
 use Rattle.std.proofs.lemmas.List.{length-map}
-use Rattle.std.proofs.lemmas.List.FromFn.{length-map-range_with_len}
+use Rattle.std.proofs.lemmas.List.FromFn.{length-map-range_with_len, length-range_with_len}
 use Rattle.std.proofs.lemmas.List.Sums.{sum_by-append, sum_by-cons}
 use Rattle.std.proofs.Math.Nat.{mul-le-mul_left}
 use Rattle.alternating_theory.specs.Obligations.{Automaton, obligation_at}
@@ -31,8 +31,9 @@ use Rattle.run_terms.proofs.Ranges.{sum-most}
 use Rattle.run_terms.proofs.TableSizes.{all_of-size}
 use Rattle.joint_theory.specs.Bits.{bad_bit, count_bit, count_of, joint_width, numbers_of, owed_bit, pending_bit}
 use Rattle.joint_theory.specs.Queries.{bad_at, base, base_variables, induction, induction_variables, joint_circuit, joint_size, start_literals, with_sign}
-use Rattle.joint_theory.specs.Relation.{anew_term, count_term, earlier_terms, emptied_term, joint, owed_term, pending_term, put_off_literal, put_off_term, state_terms, step_terms, unary_terms, unless_bad}
+use Rattle.joint_theory.specs.Relation.{anew_term, askers, count_term, earlier_terms, emptied_term, joint, not_all_of, owed_term, pending_term, put_off_literal, put_off_term, state_terms, step_terms, unary_terms, unasked_owed, unasked_pending, unless_bad}
 use Rattle.joint_theory.specs.States.{delta_of, is_accepting, is_listed, not_accepting}
+use Rattle.joint_theory.proofs.AskedSizes.{askers-size}
 use Rattle.joint_theory.proofs.QueryWithin.{induction_front}
 use Rattle.joint_theory.proofs.Within.{joint-closed}
 
@@ -81,6 +82,12 @@ module _ (design : Design) (automaton : Automaton) (visits : ℕ) (sound : netli
   abbrev count_list : List Term
   count_list = map (count_term design automaton width) (range_with_len 0 (suc visits))
 
+  abbrev owed_asked_list : List Term
+  owed_asked_list = map (λ number. not_all_of (unasked_owed design automaton width number)) (numbers_of automaton)
+
+  abbrev pending_asked_list : List Term
+  pending_asked_list = map (λ number. not_all_of (unasked_pending design automaton width number)) (numbers_of automaton)
+
   abbrev steps : List Term
   steps = step_terms design automaton visits width
 
@@ -91,13 +98,13 @@ module _ (design : Design) (automaton : Automaton) (visits : ℕ) (sound : netli
   before_list = before_terms 0 design.tables
 
   abbrev earlier_list : List Term
-  earlier_list = earlier_terms design
+  earlier_list = earlier_terms design 0
 
   abbrev pending_list : List Term
-  pending_list = map (pending_term design automaton) (numbers_of automaton)
+  pending_list = map (pending_term design automaton 0) (numbers_of automaton)
 
   abbrev unary_list : List Term
-  unary_list = unary_terms design automaton visits
+  unary_list = unary_terms design automaton visits 0
 
   -- the terms of a state
 
@@ -105,19 +112,19 @@ module _ (design : Design) (automaton : Automaton) (visits : ℕ) (sound : netli
   earlier-size = sum-most term_size (λ signal. guarded (earlier 0 signal) (Literal (had 0))) 1 0 s (λ i. omega arith)
 
   pending-size : terms_size pending_list ≤ many * 1
-  pending-size = sum-most term_size (pending_term design automaton) 1 0 many each
+  pending-size = sum-most term_size (pending_term design automaton 0) 1 0 many each
     where
-      by : (number : ℕ) (b : Truth) → is_accepting automaton number ≡ b → term_size (pending_term design automaton number) ≤ 1
+      by : (number : ℕ) (b : Truth) → is_accepting automaton number ≡ b → term_size (pending_term design automaton 0 number) ≤ 1
       by number true e = rw e (omega arith)
       by number false e = rw e (omega arith)
 
-      each : (number : ℕ) → term_size (pending_term design automaton number) ≤ 1
+      each : (number : ℕ) → term_size (pending_term design automaton 0 number) ≤ 1
       each number = by number (is_accepting automaton number) refl
 
   unary-size : terms_size unary_list ≤ visits * 1
   unary-size = sum-most term_size (λ number. guarded (count_bit design automaton 0 (suc number)) (Literal (count_bit design automaton 0 number))) 1 0 visits (λ i. omega arith)
 
-  state-size : terms_size (state_terms design automaton visits) ≤ 4 * marks_of design.tables + 9 * length design.tables + s + many + visits
+  state-size : terms_size (state_terms design automaton visits 0) ≤ 4 * marks_of design.tables + 9 * length design.tables + s + many + visits
   state-size =
       omega (
         arith,
@@ -132,7 +139,7 @@ module _ (design : Design) (automaton : Automaton) (visits : ℕ) (sound : netli
         unary-size,
       )
 
-  state-length : length (state_terms design automaton visits) ≡ 2 * length design.tables + s + many + visits
+  state-length : length (state_terms design automaton visits 0) ≡ 2 * length design.tables + s + many + visits
   state-length =
       omega (
         arith,
@@ -143,7 +150,7 @@ module _ (design : Design) (automaton : Automaton) (visits : ℕ) (sound : netli
         length-map design.tables (table_term (current s 0)),
         length-map design.tables (λ table. guarded (had 0) (table_term (earlier 0) table)),
         length-map-range_with_len (λ signal. guarded (earlier 0 signal) (Literal (had 0))) 0 s,
-        length-map-range_with_len (pending_term design automaton) 0 many,
+        length-map-range_with_len (pending_term design automaton 0) 0 many,
         length-map-range_with_len (λ number. guarded (count_bit design automaton 0 (suc number)) (Literal (count_bit design automaton 0 number))) 0 visits,
       )
 
@@ -181,10 +188,34 @@ module _ (design : Design) (automaton : Automaton) (visits : ℕ) (sound : netli
       each zero = omega arith
       each (suc number) = omega arith
 
-  step-size : terms_size steps ≤ 3 * s + 3 * length design.latches + 5 * many + 4 * constructors automaton + 5 * suc visits + 4
+  owed_asked-size : terms_size owed_asked_list ≤ many + constructors automaton
+  owed_asked-size =
+      let sum = askers-size automaton (λ number. not_all_of (unasked_owed design automaton width number)) 1 each in
+      omega (arith, sum, length-range_with_len 0 many)
+    where
+      each : (number : ℕ) → term_size (not_all_of (unasked_owed design automaton width number)) ≤ 1 + length (askers automaton number)
+      each number =
+          all_of-size (1 + length (askers automaton number)) (unasked_owed design automaton width number) (omega arith)
+          (omega (arith, length-map (askers automaton number) (λ other. neg_ℤ (owed_bit design 0 other))))
+
+  pending_asked-size : terms_size pending_asked_list ≤ 2 * many + constructors automaton
+  pending_asked-size =
+      let sum = askers-size automaton (λ number. not_all_of (unasked_pending design automaton width number)) 2 each in
+      omega (arith, sum, length-range_with_len 0 many)
+    where
+      each : (number : ℕ) → term_size (not_all_of (unasked_pending design automaton width number)) ≤ 2 + length (askers automaton number)
+      each number =
+          all_of-size (2 + length (askers automaton number)) (unasked_pending design automaton width number) (omega arith)
+          (omega (arith, length-map (askers automaton number) (λ other. neg_ℤ (pending_bit design automaton 0 other))))
+
+  step-size : terms_size steps ≤ 3 * s + 3 * length design.latches + 8 * many + 6 * constructors automaton + 5 * suc visits + 4
   step-size =
       omega (
         arith,
+        sum_by-append term_size ((moves_list ++ owed_list ++ put_off_list) ++ (emptied_list ++ anew_list ++ count_list)) (owed_asked_list ++ pending_asked_list),
+        sum_by-append term_size owed_asked_list pending_asked_list,
+        owed_asked-size,
+        pending_asked-size,
         sum_by-append term_size (moves_list ++ owed_list ++ put_off_list) (emptied_list ++ anew_list ++ count_list),
         sum_by-append term_size (moves_list ++ owed_list) put_off_list,
         sum_by-append term_size moves_list owed_list,
@@ -198,11 +229,15 @@ module _ (design : Design) (automaton : Automaton) (visits : ℕ) (sound : netli
         count-size,
       )
 
-  step-length : length steps ≤ s + length design.latches + 3 * many + visits + 3
+  step-length : length steps ≤ s + length design.latches + 5 * many + visits + 3
   step-length =
       let shifts = shift_terms s 0 width in
       omega (
         arith,
+        length-append ((moves_list ++ owed_list ++ put_off_list) ++ (emptied_list ++ anew_list ++ count_list)) (owed_asked_list ++ pending_asked_list),
+        length-append owed_asked_list pending_asked_list,
+        length-map-range_with_len (λ number. not_all_of (unasked_owed design automaton width number)) 0 many,
+        length-map-range_with_len (λ number. not_all_of (unasked_pending design automaton width number)) 0 many,
         length-append (moves_list ++ owed_list ++ put_off_list) (emptied_list ++ anew_list ++ count_list),
         length-append (moves_list ++ owed_list) put_off_list,
         length-append moves_list owed_list,
@@ -232,7 +267,7 @@ module _ (design : Design) (automaton : Automaton) (visits : ℕ) (sound : netli
   holds-length =
       omega (
         arith,
-        length-append (state_terms design automaton visits) guards,
+        length-append (state_terms design automaton visits 0) guards,
         length-map steps (guarded (neg_ℤ (bad_bit design automaton visits))),
         state-length,
         step-length,
@@ -244,7 +279,7 @@ module _ (design : Design) (automaton : Automaton) (visits : ℕ) (sound : netli
   holds-size =
       omega (
         arith,
-        sum_by-append term_size (state_terms design automaton visits) guards,
+        sum_by-append term_size (state_terms design automaton visits 0) guards,
         guarded-sizes (neg_ℤ (bad_bit design automaton visits)) steps,
         state-size,
         step-size,

@@ -1,5 +1,5 @@
 -- The terms of a step are true just where the second of two joint states may follow the first.
-use Rattle.std.proofs.Common.{◌≡◌, ◌⊎◌, inl, inr, refl, sym, ap, ◌∙◌, subst, ℕ, zero, suc, ◌≤◌, ◌<◌, min, neg_ℤ, Bool as Truth, true, false, not, ◌&&◌, ◌||◌, eqb, ltb, List, [], ◌∷◌, ◌++◌, map, length, get_or, arith}
+use Rattle.std.proofs.Common.{◌≡◌, ◌⊎◌, inl, inr, refl, sym, ap, ◌∙◌, ℕ, zero, suc, ◌≤◌, ◌<◌, min, neg_ℤ, Bool as Truth, true, false, not, ◌&&◌, ◌||◌, eqb, ltb, List, [], ◌∷◌, ◌++◌, map, length, get_or, arith}
 use Rattle.std.specs.Prelude.{IsTrue, All, slice_index, if◌then◌else◌}
 use Rattle.std.specs.List.{list_all, range_with_len}
 use Rattle.std.proofs.lemmas.Bool.{cases_Bool, cases_eq, both_ways, and_parts, and_from, or_left, or_right, lt-ltb, le-ltb, ltb-true, ltb-false, not-true, not_from_false, false_from_ne_true, eq-eqb, eqb-true, ne_eqb}
@@ -30,10 +30,11 @@ use Rattle.run_terms.proofs.PositiveValues.{positive-value}
 use Rattle.run_terms.proofs.Ranges.{all-below, below-all}
 use Rattle.run_terms.proofs.TableValues.{all_of-value}
 use Rattle.joint_theory.specs.Bits.{count_bit, count_of, numbers_of, owed_bit, pending_bit, AreBits}
-use Rattle.joint_theory.specs.Relation.{anew_term, count_term, emptied_bit, emptied_term, owed_term, put_off_literal, put_off_term, step_terms}
-use Rattle.joint_theory.specs.States.{delta_of, is_accepting, is_listed, letter_in, may_meet, not_accepting, AreNeighbours, IsState}
+use Rattle.joint_theory.specs.Relation.{anew_term, askers, count_term, emptied_bit, emptied_term, not_all_of, owed_term, put_off_literal, put_off_term, step_terms, unasked_owed, unasked_pending}
+use Rattle.joint_theory.specs.States.{delta_of, is_accepting, is_asked, is_listed, letter_in, may_meet, not_accepting, AreNeighbours, IsState}
 use Rattle.joint_theory.specs.declared.path.JointState.{JointState}
-use Rattle.joint_theory.proofs.Numbers.{contains-listed, listed-contains, listed-filter}
+use Rattle.joint_theory.proofs.Asked.{unasked-value}
+use Rattle.joint_theory.proofs.Numbers.{at-listed, contains-listed, from-listed, listed-filter}
 use Rattle.joint_theory.proofs.Parts.{append-from, append-parts, one-from, one-part}
 use Rattle.joint_theory.proofs.Rising.{rising-same, same-count}
 use Rattle.joint_theory.proofs.StateBits.{pending-numbers, state-sizes}
@@ -42,21 +43,6 @@ pub atoms-at : (P : Atom → Type 0) (obligations : List Obligation) (number : �
 atoms-at P [] number atoms = tt
 atoms-at P (obligation ∷ obligations) zero atoms = atoms.0
 atoms-at P (obligation ∷ obligations) (suc number) atoms = atoms-at P obligations number atoms.1
-
--- a number that stands in a list
-at-listed : (P : ℕ → Type 0) (numbers : List ℕ) → All P numbers → (number : ℕ) → IsTrue (is_listed numbers number) → P number
-at-listed P numbers each number h = by (listed-contains numbers number h)
-  where
-    by : (k : ℕ) × (k < length numbers) × (get_or numbers k number ≡ number) → P number
-    by c = subst P c.2 (each c.0 number c.1)
-
-from-listed : (P : ℕ → Type 0) (numbers : List ℕ) → ((number : ℕ) → IsTrue (is_listed numbers number) → P number) → All P numbers
-from-listed P numbers each k other below = each (get_or numbers k other) (contains-listed numbers (get_or numbers k other) (k, below, again numbers k below))
-  where
-    again : (list : List ℕ) (i : ℕ) → i < length list → get_or list i (get_or numbers k other) ≡ get_or list i other
-    again [] i low = absurd (omega arith)
-    again (x ∷ list) zero low = refl
-    again (x ∷ list) (suc i) low = again list i (omega arith)
 
 -- whether a list is empty
 none-listed : (numbers : List ℕ) → length numbers ≡ 0 → (number : ℕ) → is_listed numbers number ≡ false
@@ -263,6 +249,64 @@ module _ (design : Design) (automaton : Automaton) (visits : ℕ) (sound : netli
       count-value empty number below e
       ∙ same-from (is_true v (count_bit design automaton next number)) (counts_on empty number) (later.count number below ∙ ap (ltb number) same_counts)
 
+  -- what nothing asks for
+
+  abbrev owed_asked : ℕ → Term
+  owed_asked number = not_all_of (unasked_owed design automaton next number)
+
+  abbrev pending_asked : ℕ → Term
+  pending_asked number = not_all_of (unasked_pending design automaton next number)
+
+  owed_asked-value : (number : ℕ) → number < many → value v (owed_asked number) ≡ not (is_listed y.owed number && not (is_asked automaton x.owed number))
+  owed_asked-value number below =
+      ap not (all_of-value v (unasked_owed design automaton next number)
+      ∙ ap (λ t. t && list_all (is_true v) (map (λ other. neg_ℤ (owed_bit design 0 other)) (askers automaton number))) (later.owed number below)
+      ∙ ap (λ t. is_listed y.owed number && t)
+      (unasked-value automaton v (owed_bit design 0) x.owed number (λ other. omega arith) is.owed is.numbers bits.owed))
+
+  pending_asked-value : (number : ℕ) → number < many
+      → value v (pending_asked number) ≡ not (is_listed y.pending number && (not (is_true v (emptied_bit next)) && not (is_asked automaton x.pending number)))
+  pending_asked-value number below =
+      let none = list_all (is_true v) (map (λ other. neg_ℤ (pending_bit design automaton 0 other)) (askers automaton number)) in
+      ap not (all_of-value v (unasked_pending design automaton next number)
+      ∙ ap (λ t. t && (is_true v (neg_ℤ (emptied_bit next)) && none)) (later.pending number below)
+      ∙ ap (λ t. is_listed y.pending number && (t && none)) (true-neg v (emptied_bit next) (omega arith))
+      ∙ ap (λ t. is_listed y.pending number && (not (is_true v (emptied_bit next)) && t))
+      (unasked-value automaton v (pending_bit design automaton 0) x.pending number (λ other. omega arith) is.pending
+      (pending-numbers design automaton visits x is) bits.pending))
+
+  -- if one holds and another does not, a third does
+  either-way : (a b c : Truth) → IsTrue (not (a && (not b && not c))) → a ≡ true → b ≡ false → c ≡ true
+  either-way true false true h on off = refl
+  either-way true false false h on off = h
+  either-way true true c h on off = absurd (cc)
+  either-way false b c h on off = absurd (cc)
+
+  from-either : (a b c : Truth) → (a ≡ true → b ≡ false → c ≡ true) → IsTrue (not (a && (not b && not c)))
+  from-either true false true h = refl
+  from-either true false false h = h refl refl
+  from-either true true c h = refl
+  from-either false b c h = refl
+
+  owed_asked-says : (number : ℕ) → number < many → IsTrue (value v (owed_asked number)) → IsTrue (is_listed y.owed number) → IsTrue (is_asked automaton x.owed number)
+  owed_asked-says number below h listed =
+      either-way (is_listed y.owed number) false (is_asked automaton x.owed number) (sym (owed_asked-value number below) ∙ h) listed refl
+
+  owed_asked-from : (number : ℕ) → number < many → (IsTrue (is_listed y.owed number) → IsTrue (is_asked automaton x.owed number)) → IsTrue (value v (owed_asked number))
+  owed_asked-from number below h =
+      owed_asked-value number below ∙ from-either (is_listed y.owed number) false (is_asked automaton x.owed number) (λ on _. h on)
+
+  pending_asked-says : (number : ℕ) → number < many → IsTrue (value v (pending_asked number)) → is_true v (emptied_bit next) ≡ false
+      → IsTrue (is_listed y.pending number) → IsTrue (is_asked automaton x.pending number)
+  pending_asked-says number below h some listed =
+      either-way (is_listed y.pending number) (is_true v (emptied_bit next)) (is_asked automaton x.pending number)
+      (sym (pending_asked-value number below) ∙ h) listed some
+
+  pending_asked-from : (number : ℕ) → number < many
+      → (IsTrue (is_listed y.pending number) → is_true v (emptied_bit next) ≡ false → IsTrue (is_asked automaton x.pending number)) → IsTrue (value v (pending_asked number))
+  pending_asked-from number below h =
+      pending_asked-value number below ∙ from-either (is_listed y.pending number) (is_true v (emptied_bit next)) (is_asked automaton x.pending number) h
+
   -- all terms of a step
 
   same-truth : (a b : Truth) → (a ≡ true → b ≡ true) → (b ≡ true → a ≡ true) → a ≡ b
@@ -295,6 +339,8 @@ module _ (design : Design) (automaton : Automaton) (visits : ℕ) (sound : netli
     emptied : IsTrue (value v (emptied_term design automaton next))
     anew : (number : ℕ) → number < many → IsTrue (value v (anew_term design automaton next number))
     counts : (number : ℕ) → number < suc visits → IsTrue (value v (count_term design automaton next number))
+    owed_support : (number : ℕ) → number < many → IsTrue (value v (owed_asked number))
+    pending_support : (number : ℕ) → number < many → IsTrue (value v (pending_asked number))
 
   -- the terms one behind another
   abbrev moves_list : List Term
@@ -315,9 +361,17 @@ module _ (design : Design) (automaton : Automaton) (visits : ℕ) (sound : netli
   abbrev count_list : List Term
   count_list = map (count_term design automaton next) (range_with_len 0 (suc visits))
 
+  abbrev owed_asked_list : List Term
+  owed_asked_list = map owed_asked (numbers_of automaton)
+
+  abbrev pending_asked_list : List Term
+  pending_asked_list = map pending_asked (numbers_of automaton)
+
   terms-say : IsTrue (list_all (value v) (step_terms design automaton visits next)) → Says
   terms-say h =
-      let both = append-parts (value v) (moves_list ++ owed_list ++ put_off_list) (emptied_list ++ anew_list ++ count_list) h in
+      let all = append-parts (value v) ((moves_list ++ owed_list ++ put_off_list) ++ (emptied_list ++ anew_list ++ count_list)) (owed_asked_list ++ pending_asked_list) h in
+      let both = append-parts (value v) (moves_list ++ owed_list ++ put_off_list) (emptied_list ++ anew_list ++ count_list) all.0 in
+      let support = append-parts (value v) owed_asked_list pending_asked_list all.1 in
       let a = append-parts (value v) (emptied_list ++ anew_list) count_list both.1 in
       let b = append-parts (value v) emptied_list anew_list a.0 in
       let d = append-parts (value v) (moves_list ++ owed_list) put_off_list both.0 in
@@ -329,18 +383,23 @@ module _ (design : Design) (automaton : Automaton) (visits : ℕ) (sound : netli
         emptied = one-part (value v) (emptied_term design automaton next) b.0;
         anew = all-below (value v) (anew_term design automaton next) many b.1;
         counts = all-below (value v) (count_term design automaton next) (suc visits) a.1;
+        owed_support = all-below (value v) owed_asked many support.0;
+        pending_support = all-below (value v) pending_asked many support.1;
       }
 
   say-terms : Says → IsTrue (list_all (value v) (step_terms design automaton visits next))
   say-terms says =
-      append-from (value v) (moves_list ++ owed_list ++ put_off_list) (emptied_list ++ anew_list ++ count_list)
+      append-from (value v) ((moves_list ++ owed_list ++ put_off_list) ++ (emptied_list ++ anew_list ++ count_list)) (owed_asked_list ++ pending_asked_list)
+      (append-from (value v) (moves_list ++ owed_list ++ put_off_list) (emptied_list ++ anew_list ++ count_list)
       (append-from (value v) (moves_list ++ owed_list) put_off_list
       (append-from (value v) moves_list owed_list says.moves (below-all (value v) (owed_term design automaton next) many says.owed))
       (below-all (value v) (put_off_term design automaton next) many says.put_off))
       (append-from (value v) (emptied_list ++ anew_list) count_list
       (append-from (value v) emptied_list anew_list (one-from (value v) (emptied_term design automaton next) says.emptied)
       (below-all (value v) (anew_term design automaton next) many says.anew))
-      (below-all (value v) (count_term design automaton next) (suc visits) says.counts))
+      (below-all (value v) (count_term design automaton next) (suc visits) says.counts)))
+      (append-from (value v) owed_asked_list pending_asked_list
+      (below-all (value v) owed_asked many says.owed_support) (below-all (value v) pending_asked many says.pending_support))
 
   says-neighbours : Says → AreNeighbours design automaton visits x y
   says-neighbours says =
@@ -351,11 +410,16 @@ module _ (design : Design) (automaton : Automaton) (visits : ℕ) (sound : netli
         before = moved.0;
         owed = from-listed (λ number. IsTrue (met (delta_of automaton number) (letter_in design x) (is_listed y.owed))) x.owed
             (λ number h. let below = at-listed (λ n. n < many) x.owed is.numbers number h in owed-says number below (says.owed number below) h);
-        put_off = λ some. record {
+        supported = from-listed (λ number. IsTrue (is_asked automaton x.owed number)) y.owed
+            (λ number h. let below = at-listed (λ n. n < many) y.owed also.numbers number h in owed_asked-says number below (says.owed_support number below) h);
+        put_off = λ some. let full = emptied-says says.emptied ∙ ne_eqb (length x.pending) 0 (λ e. omega (arith, e)) in record {
           met = from-listed (λ number. IsTrue (met (delta_of automaton number) (letter_in design x) (may_meet automaton y))) x.pending
               (λ number h. let below = at-listed (λ n. n < many) x.pending (pending-numbers design automaton visits x is) number h in
               pending-says number below (says.put_off number below) h);
-          count = count-says false (emptied-says says.emptied ∙ ne_eqb (length x.pending) 0 (λ e. omega (arith, e))) says.counts;
+          supported = from-listed (λ number. IsTrue (is_asked automaton x.pending number)) y.pending
+              (λ number h. let below = at-listed (λ n. n < many) y.pending (pending-numbers design automaton visits y also) number h in
+              pending_asked-says number below (says.pending_support number below) full h);
+          count = count-says false full says.counts;
         };
         anew = λ none. let empty = emptied-says says.emptied ∙ eq-eqb (length x.pending) 0 none in record {
           pending = anew-pending (λ number below e h. anew-says number below (says.anew number below) empty e h);
@@ -378,11 +442,22 @@ module _ (design : Design) (automaton : Automaton) (visits : ℕ) (sound : netli
         ap (λ (list : List ℕ). is_listed list number) same_lists ∙ listed-filter (λ n. not (is_accepting automaton n)) y.owed number
         ∙ and_from (is_listed y.owed number) (not (is_accepting automaton number)) h (not_from_false (is_accepting automaton number) accepting));
     counts = by (cases_eq (length x.pending) 0);
+    owed_support = λ number below. owed_asked-from number below
+        (at-listed (λ n. IsTrue (is_asked automaton x.owed n)) y.owed neighbours.supported number);
+    pending_support = λ number below. pending_asked-from number below
+        (λ h full. at-listed (λ n. IsTrue (is_asked automaton x.pending n)) y.pending
+        (neighbours.put_off (some-pending (sym e ∙ full))).supported number h);
   }
     where
       some-of : (numbers : List ℕ) (number : ℕ) → IsTrue (is_listed numbers number) → 0 < length numbers
       some-of [] number h = absurd (both_ways false refl h)
       some-of (first ∷ numbers) number h = omega arith
+
+      some-pending : eqb (length x.pending) 0 ≡ false → 0 < length x.pending
+      some-pending full = elim (cases_eq (length x.pending) 0) [
+        | inl none ↦ absurd (both_ways (eqb (length x.pending) 0) full (eq-eqb (length x.pending) 0 none))
+        | inr some ↦ omega (arith, some)
+      ]
 
       by : (length x.pending ≡ 0) ⊎ (length x.pending ≡ 0 → ⊥) → (number : ℕ) → number < suc visits → IsTrue (value v (count_term design automaton next number))
       by (inl none) = count-from true (e ∙ eq-eqb (length x.pending) 0 none) (neighbours.anew none).count

@@ -1,5 +1,5 @@
 -- The terms of the relation have literals of its variables alone, and so have those of an initial state.
-use Rattle.std.proofs.Common.{◌≡◌, refl, ◌∙◌, ℕ, zero, suc, ◌+◌, ◌≤◌, ◌<◌, ℤ, neg_ℤ, Bool as Truth, true, false, ◌&&◌, List, [], ◌∷◌, ◌++◌, map, arith}
+use Rattle.std.proofs.Common.{◌≡◌, refl, ◌∙◌, ℕ, zero, suc, ◌+◌, ◌≤◌, ◌<◌, ℤ, neg_ℤ, Bool as Truth, true, false, ◌&&◌, [], ◌∷◌, ◌++◌, map, arith}
 use Rattle.std.specs.Prelude.{IsTrue}
 use Rattle.std.specs.List.{list_all, range_with_len}
 use Rattle.std.proofs.lemmas.Bool.{and_from}
@@ -26,8 +26,9 @@ use Rattle.run_terms.proofs.Ranges.{below-all}
 use Rattle.run_terms.proofs.TableSizes.{all_of-within}
 use Rattle.joint_theory.specs.Bits.{bad_bit, count_bit, count_of, joint_width, numbers_of, owed_bit, pending_bit}
 use Rattle.joint_theory.specs.Queries.{start_literals, with_sign}
-use Rattle.joint_theory.specs.Relation.{anew_term, breakpoint_terms, count_term, earlier_terms, emptied_bit, emptied_term, joint, met_terms, owed_term, pending_term, put_off_literal, put_off_term, state_terms, step_terms, unary_terms, unless_bad}
+use Rattle.joint_theory.specs.Relation.{anew_term, askers, breakpoint_terms, count_term, earlier_terms, emptied_bit, emptied_term, joint, met_terms, not_all_of, owed_term, pending_term, put_off_literal, put_off_term, state_terms, step_terms, support_terms, unary_terms, unasked_owed, unasked_pending, unless_bad}
 use Rattle.joint_theory.specs.States.{delta_of, is_accepting, is_listed, not_accepting}
+use Rattle.joint_theory.proofs.Asked.{askers-all}
 use Rattle.joint_theory.proofs.Parts.{all-weaker, append-from, map-parts, one-from}
 use Rattle.joint_theory.proofs.Steps.{atoms-at}
 
@@ -57,33 +58,35 @@ module _ (design : Design) (automaton : Automaton) (visits : ℕ) (sound : netli
     count-within : (number : ℕ) → number < suc visits → IsTrue (is_within n (count_bit design automaton base number))
     count-within number below = pos_within n (suc (base + position_width design.signals + many + many + number)) (omega arith) (omega arith)
 
-  -- the terms of a state
+    -- the terms of a state
 
-  module _ (n : ℕ) (fits : 0 + joint_width design automaton visits ≤ n) where
-    pending-term_within : (number : ℕ) → number < many → IsTrue (term_within n (pending_term design automaton number))
+    pending-term_within : (number : ℕ) → number < many → IsTrue (term_within n (pending_term design automaton base number))
     pending-term_within number below = by (is_accepting automaton number) refl
       where
-        by : (b : Truth) → is_accepting automaton number ≡ b → IsTrue (term_within n (pending_term design automaton number))
-        by true e = rw e (pending-within n 0 fits number below)
+        by : (b : Truth) → is_accepting automaton number ≡ b → IsTrue (term_within n (pending_term design automaton base number))
+        by true e = rw e (pending-within number below)
         by false e =
-            rw e (guarded-within n (pending_bit design automaton 0 number) (Literal (owed_bit design 0 number)) (pending-within n 0 fits number below) (owed-within n 0 fits number below))
+            rw e (guarded-within n (pending_bit design automaton base number) (Literal (owed_bit design base number)) (pending-within number below) (owed-within number below))
 
-    pub state-within : IsTrue (list_all (term_within n) (state_terms design automaton visits))
+    pub state-within : IsTrue (list_all (term_within n) (state_terms design automaton visits base))
     state-within =
-        append-from (term_within n) (valuation_terms design.signals 0 design.tables ++ before_terms 0 design.tables ++ earlier_terms design ++ map (pending_term design automaton) (numbers_of automaton))
-        (unary_terms design automaton visits)
-        (append-from (term_within n) (valuation_terms design.signals 0 design.tables ++ before_terms 0 design.tables ++ earlier_terms design)
-        (map (pending_term design automaton) (numbers_of automaton))
-        (append-from (term_within n) (valuation_terms design.signals 0 design.tables ++ before_terms 0 design.tables) (earlier_terms design)
-        (append-from (term_within n) (valuation_terms design.signals 0 design.tables) (before_terms 0 design.tables)
-        (valuation-terms_within design 0 n sound (omega arith)) (before-terms_within design 0 n sound (omega arith)))
-        (below-all (term_within n) (λ signal. guarded (earlier 0 signal) (Literal (had 0))) design.signals
-        (λ signal below. guarded-within n (earlier 0 signal) (Literal (had 0)) (earlier-within design.signals 0 n signal (omega arith) below) (had-within design.signals 0 n (omega arith)))))
-        (below-all (term_within n) (pending_term design automaton) many pending-term_within))
-        (below-all (term_within n) (λ number. guarded (count_bit design automaton 0 (suc number)) (Literal (count_bit design automaton 0 number))) visits
-        (λ number below. guarded-within n (count_bit design automaton 0 (suc number)) (Literal (count_bit design automaton 0 number))
-        (count-within n 0 fits (suc number) (omega arith)) (count-within n 0 fits number (omega arith))))
+        append-from (term_within n) (valuation_terms design.signals base design.tables ++ before_terms base design.tables ++ earlier_terms design base ++ map (pending_term design automaton base) (numbers_of automaton))
+        (unary_terms design automaton visits base)
+        (append-from (term_within n) (valuation_terms design.signals base design.tables ++ before_terms base design.tables ++ earlier_terms design base)
+        (map (pending_term design automaton base) (numbers_of automaton))
+        (append-from (term_within n) (valuation_terms design.signals base design.tables ++ before_terms base design.tables) (earlier_terms design base)
+        (append-from (term_within n) (valuation_terms design.signals base design.tables) (before_terms base design.tables)
+        (valuation-terms_within design base n sound (omega arith)) (before-terms_within design base n sound (omega arith)))
+        (below-all (term_within n) (λ signal. guarded (earlier base signal) (Literal (had base))) design.signals
+        (λ signal below. guarded-within n (earlier base signal) (Literal (had base)) (earlier-within design.signals base n signal (omega arith) below) (had-within design.signals base n (omega arith)))))
+        (below-all (term_within n) (pending_term design automaton base) many pending-term_within))
+        (below-all (term_within n) (λ number. guarded (count_bit design automaton base (suc number)) (Literal (count_bit design automaton base number))) visits
+        (λ number below. guarded-within n (count_bit design automaton base (suc number)) (Literal (count_bit design automaton base number))
+        (count-within (suc number) (omega arith)) (count-within number (omega arith))))
 
+  -- the literals of an initial state
+
+  module _ (n : ℕ) (fits : 0 + joint_width design automaton visits ≤ n) where
     pub start-within : IsTrue (clause_within n (start_literals design automaton visits))
     start-within =
         append-from (is_within n) (first_literals design.signals 0 design.latches
@@ -178,9 +181,35 @@ module _ (design : Design) (automaton : Automaton) (visits : ℕ) (sound : netli
         (below-all (term_within n) (anew_term design automaton width) many anew-term_within))
         (below-all (term_within n) (count_term design automaton width) (suc visits) count-term_within)
 
-    step-within : IsTrue (list_all (term_within n) (step_terms design automaton visits width))
+    owed_asked-within : (number : ℕ) → number < many → IsTrue (term_within n (not_all_of (unasked_owed design automaton width number)))
+    owed_asked-within number below =
+        all_of-within n (unasked_owed design automaton width number) (omega arith)
+        (and_from (is_within n (owed_bit design width number)) (list_all (is_within n) (map (λ other. neg_ℤ (owed_bit design 0 other)) (askers automaton number)))
+        (owed-within n width next-fits number below)
+        (askers-all automaton (is_within n) (λ other. neg_ℤ (owed_bit design 0 other)) number
+        (λ other low. negated_within n (owed_bit design 0 other) (owed-within n 0 step-fits other low))))
+
+    pending_asked-within : (number : ℕ) → number < many → IsTrue (term_within n (not_all_of (unasked_pending design automaton width number)))
+    pending_asked-within number below =
+        let others = list_all (is_within n) (map (λ other. neg_ℤ (pending_bit design automaton 0 other)) (askers automaton number)) in
+        all_of-within n (unasked_pending design automaton width number) (omega arith)
+        (and_from (is_within n (pending_bit design automaton width number)) (is_within n (neg_ℤ (emptied_bit width)) && others)
+        (pending-within n width next-fits number below)
+        (and_from (is_within n (neg_ℤ (emptied_bit width))) others (negated_within n (emptied_bit width) emptied-within)
+        (askers-all automaton (is_within n) (λ other. neg_ℤ (pending_bit design automaton 0 other)) number
+        (λ other low. negated_within n (pending_bit design automaton 0 other) (pending-within n 0 step-fits other low)))))
+
+    support-within : IsTrue (list_all (term_within n) (support_terms design automaton width))
+    support-within =
+        append-from (term_within n) (map (λ number. not_all_of (unasked_owed design automaton width number)) (numbers_of automaton))
+        (map (λ number. not_all_of (unasked_pending design automaton width number)) (numbers_of automaton))
+        (below-all (term_within n) (λ number. not_all_of (unasked_owed design automaton width number)) many owed_asked-within)
+        (below-all (term_within n) (λ number. not_all_of (unasked_pending design automaton width number)) many pending_asked-within)
+
+    pub step-within : IsTrue (list_all (term_within n) (step_terms design automaton visits width))
     step-within =
-        append-from (term_within n) (met_terms design automaton width) (breakpoint_terms design automaton visits width) met-within breakpoint-within
+        append-from (term_within n) (met_terms design automaton width ++ breakpoint_terms design automaton visits width) (support_terms design automaton width)
+        (append-from (term_within n) (met_terms design automaton width) (breakpoint_terms design automaton visits width) met-within breakpoint-within) support-within
 
     bad-within : IsTrue (is_within n (neg_ℤ (bad_bit design automaton visits)))
     bad-within = negated_within n (bad_bit design automaton visits) (count-within n 0 step-fits visits (omega arith))
@@ -194,6 +223,6 @@ module _ (design : Design) (automaton : Automaton) (visits : ℕ) (sound : netli
   pub joint-closed : IsClosed (joint design automaton visits)
   joint-closed =
       let n = variables_of (joint design automaton visits) in
-      append-from (term_within (variables_of (joint design automaton visits))) (state_terms design automaton visits)
+      append-from (term_within (variables_of (joint design automaton visits))) (state_terms design automaton visits 0)
       (unless_bad design automaton visits (step_terms design automaton visits (joint_width design automaton visits)))
-      (state-within n (omega arith)) (unless-within n (omega arith))
+      (state-within n 0 (omega arith)) (unless-within n (omega arith))

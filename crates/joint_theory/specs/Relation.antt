@@ -1,9 +1,10 @@
 -- The relation of a joint state and one that may follow it, as terms over the bits of both. Behind these comes one
 -- choice: whether nothing is pending. What is asked of the next state counts only where the state is not bad, so that a
 -- path may go on from a bad one.
-use Rattle.std.specs.Prelude.{ℕ, zero, suc, ◌+◌, ℤ, pos, neg_ℤ, if◌then◌else◌, List, [], ◌∷◌, ◌++◌, map}
+use Rattle.std.specs.Prelude.{ℕ, zero, suc, ◌+◌, ℤ, pos, neg_ℤ, if◌then◌else◌, List, [], ◌∷◌, ◌++◌, map, filter}
 use Rattle.std.specs.List.{range_with_len}
 use Rattle.alternating_theory.specs.Obligations.{Automaton}
+use Rattle.alternating_theory.specs.Positive.{owes}
 use Rattle.circuit_theory.specs.Relations.{Relation}
 use Rattle.circuit_theory.specs.Terms.{Term, Literal, Negation, Conjunction, Equality}
 use Rattle.netlist.specs.Design.{Design}
@@ -16,29 +17,29 @@ use Rattle.joint_theory.specs.Bits.{bad_bit, count_bit, joint_width, numbers_of,
 use Rattle.joint_theory.specs.States.{delta_of, is_accepting}
 
 -- a bit of the valuation before is 1 only where there is one
-abbrev pub earlier_terms : Design → List Term
-earlier_terms design =
-    map (λ signal. guarded (earlier 0 signal) (Literal (had 0))) (range_with_len 0 design.signals)
+abbrev pub earlier_terms : Design → ℕ → List Term
+earlier_terms design base =
+    map (λ signal. guarded (earlier base signal) (Literal (had base))) (range_with_len 0 design.signals)
 
 -- what is pending is owed and not accepting
-abbrev pub pending_term : Design → Automaton → ℕ → Term
-pending_term design automaton number =
-    if is_accepting automaton number then Negation (Literal (pending_bit design automaton 0 number))
-    else guarded (pending_bit design automaton 0 number) (Literal (owed_bit design 0 number))
+abbrev pub pending_term : Design → Automaton → ℕ → ℕ → Term
+pending_term design automaton base number =
+    if is_accepting automaton number then Negation (Literal (pending_bit design automaton base number))
+    else guarded (pending_bit design automaton base number) (Literal (owed_bit design base number))
 
 -- a count that is more than a number is more than the one before it
-abbrev pub unary_terms : Design → Automaton → ℕ → List Term
-unary_terms design automaton visits =
-    map (λ number. guarded (count_bit design automaton 0 (suc number)) (Literal (count_bit design automaton 0 number))) (range_with_len 0 visits)
+abbrev pub unary_terms : Design → Automaton → ℕ → ℕ → List Term
+unary_terms design automaton visits base =
+    map (λ number. guarded (count_bit design automaton base (suc number)) (Literal (count_bit design automaton base number))) (range_with_len 0 visits)
 
--- the bits are those of a joint state
-abbrev pub state_terms : Design → Automaton → ℕ → List Term
-state_terms design automaton visits =
-    valuation_terms design.signals 0 design.tables
-    ++ before_terms 0 design.tables
-    ++ earlier_terms design
-    ++ map (pending_term design automaton) (numbers_of automaton)
-    ++ unary_terms design automaton visits
+-- the bits from a base on are those of a joint state
+abbrev pub state_terms : Design → Automaton → ℕ → ℕ → List Term
+state_terms design automaton visits base =
+    valuation_terms design.signals base design.tables
+    ++ before_terms base design.tables
+    ++ earlier_terms design base
+    ++ map (pending_term design automaton base) (numbers_of automaton)
+    ++ unary_terms design automaton visits base
 
 -- what is owed is met by the letter and what is owed next, where the bits of the next state follow so many others
 abbrev pub owed_term : Design → Automaton → ℕ → ℕ → Term
@@ -98,10 +99,37 @@ breakpoint_terms design automaton visits width =
     ++ map (anew_term design automaton width) (numbers_of automaton)
     ++ map (count_term design automaton width) (range_with_len 0 (suc visits))
 
+-- the obligations that ask for the one of a number at the next place
+abbrev pub askers : Automaton → ℕ → List ℕ
+askers automaton number = filter (λ other. owes (delta_of automaton other) number) (numbers_of automaton)
+
+-- an obligation is owed next, and nothing that is owed asks for it
+abbrev pub unasked_owed : Design → Automaton → ℕ → ℕ → List ℤ
+unasked_owed design automaton width number =
+    owed_bit design width number ∷ map (λ other. neg_ℤ (owed_bit design 0 other)) (askers automaton number)
+
+-- an obligation is pending next, something was pending, and nothing of that asks for it
+abbrev pub unasked_pending : Design → Automaton → ℕ → ℕ → List ℤ
+unasked_pending design automaton width number =
+    pending_bit design automaton width number ∷ neg_ℤ (emptied_bit width)
+    ∷ map (λ other. neg_ℤ (pending_bit design automaton 0 other)) (askers automaton number)
+
+-- not all of some literals are true
+abbrev pub not_all_of : List ℤ → Term
+not_all_of literals = Negation (all_of literals)
+
+-- Nothing is owed or pending next that nothing asks for.
+abbrev pub support_terms : Design → Automaton → ℕ → List Term
+support_terms design automaton width =
+    map (λ number. not_all_of (unasked_owed design automaton width number)) (numbers_of automaton)
+    ++ map (λ number. not_all_of (unasked_pending design automaton width number)) (numbers_of automaton)
+
 -- the next state may follow the first
 abbrev pub step_terms : Design → Automaton → ℕ → ℕ → List Term
 step_terms design automaton visits width =
-    met_terms design automaton width ++ breakpoint_terms design automaton visits width
+    met_terms design automaton width
+    ++ breakpoint_terms design automaton visits width
+    ++ support_terms design automaton width
 
 -- terms that count where a state is not bad
 abbrev pub unless_bad : Design → Automaton → ℕ → List Term → List Term
@@ -111,6 +139,6 @@ abbrev pub joint : Design → Automaton → ℕ → Relation
 joint design automaton visits = record {
   width = joint_width design automaton visits;
   choices = 1;
-  holds = state_terms design automaton visits
+  holds = state_terms design automaton visits 0
       ++ unless_bad design automaton visits (step_terms design automaton visits (joint_width design automaton visits));
 }

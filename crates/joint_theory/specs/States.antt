@@ -4,7 +4,7 @@ use Rattle.std.specs.Prelude.{◌≡◌, ℕ, suc, ◌<◌, ◌≤◌, min, Bool
 use Rattle.std.specs.List.{list_any}
 use Rattle.std.specs.List.Sorted.{IsStrictlyIncreasing}
 use Rattle.alternating_theory.specs.Obligations.{Automaton, obligation_at}
-use Rattle.alternating_theory.specs.Positive.{Positive, met}
+use Rattle.alternating_theory.specs.Positive.{Positive, met, owes}
 use Rattle.netlist.specs.Design.{Design}
 use Rattle.netlist.specs.Valuations.{IsValuation, IsInitial as IsInitialValuation, IsStep}
 use Rattle.psl_tree.specs.declared.letter.Letter.{Letter}
@@ -21,6 +21,13 @@ is_accepting automaton number = (obligation_at automaton.obligations number).acc
 
 abbrev pub delta_of : Automaton → ℕ → Positive
 delta_of automaton number = (obligation_at automaton.obligations number).delta
+
+-- whether one of some obligations asks for the one of a number at the next place, and each of some is so asked for
+abbrev pub is_asked : Automaton → List ℕ → ℕ → Truth
+is_asked automaton numbers number = list_any (λ other. owes (delta_of automaton other) number) numbers
+
+abbrev pub AreAsked : Automaton → List ℕ → List ℕ → Type 0
+AreAsked automaton numbers asked = All (λ number. IsTrue (is_asked automaton numbers number)) asked
 
 -- those of some obligations that are not accepting
 abbrev pub not_accepting : Automaton → List ℕ → List ℕ
@@ -64,9 +71,11 @@ AreMet automaton letter next numbers = All (λ number. IsTrue (met (delta_of aut
 abbrev pub may_meet : Automaton → JointState → ℕ → Truth
 may_meet automaton next number = is_listed next.owed number && (is_accepting automaton number || is_listed next.pending number)
 
--- while something is pending, what meets it is accepting or pending in its place
+-- while something is pending, what meets it is accepting or pending in its place, and nothing else becomes pending than
+-- what it asks for
 pub record PutsOff (design : Design) (automaton : Automaton) (state next : JointState) : Type 0 where
   pub met : AreMet automaton (letter_in design state) (may_meet automaton next) state.pending
+  pub supported : AreAsked automaton state.pending next.pending
   pub count : next.count ≡ state.count
 
 -- where nothing is pending, all that is owed next and not accepting becomes so, and the count rises up to one more than
@@ -76,10 +85,12 @@ pub record BeginsAnew (automaton : Automaton) (visits : ℕ) (state next : Joint
   pub count : next.count ≡ min (suc state.count) (suc visits)
 
 -- Two joint states of which the second may follow the first: its valuation may follow the first one's, which is the one
--- before it; what the first one owes is met; and what is pending is put off, or was none and begins anew.
+-- before it; what the first one owes is met, and nothing is owed next that it does not ask for; and what is pending is put
+-- off, or was none and begins anew.
 pub record AreNeighbours (design : Design) (automaton : Automaton) (visits : ℕ) (state next : JointState) : Type 0 where
   pub step : IsStep design state.valuation next.valuation
   pub before : next.before ≡ Some state.valuation
   pub owed : AreMet automaton (letter_in design state) (is_listed next.owed) state.owed
+  pub supported : AreAsked automaton state.owed next.owed
   pub put_off : 0 < length state.pending → PutsOff design automaton state next
   pub anew : length state.pending ≡ 0 → BeginsAnew automaton visits state next

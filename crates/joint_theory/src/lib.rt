@@ -5,5 +5,7 @@
 mod laws;
 mod path;
 
-pub use laws::{query_law, size_law, soundness_law, window_law};
+pub use laws::{
+    inductive_law, query_law, reach_law, size_law, slice_law, soundness_law, window_law,
+};
 pub use path::{JointPath, JointState, JointStates, Places};

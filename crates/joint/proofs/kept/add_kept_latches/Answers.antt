@@ -1,0 +1,20 @@
+use Rattle.std.proofs.Common.{ℕ, List, length, ◌∙◌, ap, flat_map, subst}
+use Rattle.std.specs.Prelude.{slice_get}
+use Rattle.std.specs.List.{range_with_len}
+use Rattle.circuit_theory.specs.Terms.{Term}
+use Rattle.joint_theory.specs.Sliced.{kept_by}
+use Rattle.netlist.specs.declared.latch.Latch.{Latch}
+use Rattle.run_gates.specs.Building.{BuildsAll}
+use Rattle.run_terms.specs.Moves.{latch_term}
+use Rattle.joint.specs.Kept.{kept_term, terms_of}
+use Rattle.joint.proofs.KeptTerms.{kept-elements}
+use Rattle.joint.proofs.kept.add_kept_latches.Goals as goal
+
+pub returns : goal.returns
+returns c =
+    let design = c.args.product.netlist.now in
+    let keep = λ (latch : Latch). kept_by c.args.kept.now latch.output in
+    let term : Latch → Term = latch_term design.signals 0 c.args.product.width in
+    subst (λ (terms : List Term). BuildsAll c.args.gates.now c.add_all_kept.new.gates c.args.held.now c.add_all_kept.new.held terms c.add_all_kept.result)
+    (ap (λ (n : ℕ). flat_map (λ number. terms_of (kept_term keep term) (slice_get design.latches number)) (range_with_len 0 n)) (c.len.ensures ∙ ap (λ (l : List Latch). length l) c.latches.ensures)
+    ∙ kept-elements keep term design.latches) c.add_all_kept.ensures
