@@ -1,0 +1,14 @@
+pub mod Asked
+pub mod Inductive
+pub mod Loops
+pub mod ModelBits
+pub mod ModelReads
+pub mod More
+pub mod Neighbours
+pub mod NoneApart
+pub mod Opening
+pub mod Outputs
+pub mod Plain
+pub mod Slicing
+pub mod States
+pub mod Walks

@@ -1,0 +1,11 @@
+pub mod Answers
+pub mod Entering
+pub mod Formulas
+pub mod Plain
+pub mod Progress
+pub mod Questions
+pub mod Readings
+pub mod Searched
+pub mod Searches
+pub mod Sliced
+pub mod Systems

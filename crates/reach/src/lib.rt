@@ -1,0 +1,34 @@
+//! Property directed reachability over the joint states of a netlist and an automaton: inductive clauses that keep the
+//! bad states out, a path to one, or frames that keep them out for so many steps.
+//!
+//! Sources: Bradley, SAT-based model checking without unrolling (2011); Een, Mishchenko and Brayton, Efficient
+//! implementation of property directed reachability (2011).
+#![tactic(auto)]
+
+mod answer;
+mod apart;
+mod asked_values;
+mod asking;
+mod bit_places;
+mod completing;
+mod core_bits;
+mod ending;
+mod leading;
+mod lifting;
+mod machine;
+mod question;
+mod quick;
+mod reaching;
+mod reading;
+mod search;
+mod signal_order;
+mod sliced;
+mod sliced_query;
+mod stepping;
+mod table_values;
+mod ternary;
+
+pub use answer::{ClauseLists, Frames, Reached};
+pub use reach_frames::ReachQuery;
+pub use reaching::reach;
+pub use search::Search;

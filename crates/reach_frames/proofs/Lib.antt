@@ -1,0 +1,14 @@
+pub mod Changes
+pub mod Closing
+pub mod Counts
+pub mod Cubes
+pub mod Leading
+pub mod LevelFrames
+pub mod Ending
+pub mod Insertions
+pub mod Narrowing
+pub mod Negations
+pub mod Parts
+pub mod Sifting
+pub mod Staying
+pub mod Turning

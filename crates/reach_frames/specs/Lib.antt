@@ -1,0 +1,9 @@
+pub mod Bits
+pub mod Cubes
+pub mod Entries
+pub mod Levels
+pub mod Marks
+pub mod Paths
+pub mod Searches
+pub mod Steps
+pub mod Systems
