@@ -1,5 +1,5 @@
 -- The directive of a number, and what is claimed of it.
-use Rattle.std.proofs.Common.{◌≡◌, ◌∙◌, ap, sym, subst, ℕ, Bool, true, false, cond, List, [], ◌∷◌, Option, Some, None, refl}
+use Rattle.std.proofs.Common.{◌≡◌, ◌∙◌, sym, subst, ℕ, Bool, true, false, cond, List, [], ◌∷◌, Option, Some}
 use Rattle.std.specs.Prelude.{◌==◌}
 use Rattle.std.specs.List.{All, find}
 use Rattle.std.proofs.lemmas.List.Elements.{All-head, All-tail}
@@ -7,12 +7,13 @@ use Rattle.alternating_theory.specs.Obligations.{Automaton}
 use Rattle.certificate.specs.declared.answer.CertAnswer.{CertAnswer}
 use Rattle.certificate.specs.declared.header.Asked.{Asked}
 use Rattle.certificate.specs.declared.header.Header.{Header}
-use Rattle.certificate.specs.declared.header.Section.TheVariants.{Base}
+use Rattle.certificate.specs.declared.header.Form.{Form}
+use Rattle.certificate.specs.declared.header.Form.TheVariants.{Windowed, Clausal}
 use Rattle.certificate.specs.Headers.{HasHeader}
 use Rattle.certificate.proofs.HeaderLines.{header_once}
-use Rattle.certificate.specs.Phases.Phase.{InSection}
+use Rattle.certificate.specs.Phases.{behind_form, behind_header}
 use Rattle.certificate.specs.Sections.{Queries}
-use Rattle.certificate.specs.Texts.{IsAnswer}
+use Rattle.certificate.specs.Texts.{HasClauses, IsAnswer}
 use Rattle.cert_lines.specs.Readings.{IsAt}
 use Rattle.cert_lines.specs.declared.reading.Reading.{Reading}
 use Rattle.netlist.specs.Design.{Design}
@@ -20,8 +21,8 @@ use Rattle.owed.specs.Owed.{plain_owed}
 use Rattle.owed.specs.Violations.{violation_of}
 use Rattle.psl_tree.specs.declared.directive.Directive.{Directive}
 use Rattle.work_limits.specs.Sized.{IsSized}
-use Rattle.cert_check.specs.Claims.{AnswersBehind, directive_of, queries_by, queries_for}
-use Rattle.cert_check.specs.Limits.{AreTooLarge, FitsLimits, IsFaultBehind, IsFormulaFault}
+use Rattle.cert_check.specs.Claims.{AnswersBehind, asked_of, directive_of, queries_by, queries_for, queries_of}
+use Rattle.cert_check.specs.Limits.{ClausesIn, FitsFrom, HasCause, IsFault, FitsLimits, IsFaultBehind, IsFaultFrom, IsFormulaFault, IsLargeFrom, IsLargeIn, IsSmallFrom}
 use Rattle.cert_check.specs.declared.fault.CertFault.{CertFault}
 use Rattle.cert_check.specs.declared.fault.CertFault.TheVariants.{SereTooLarge, AutomatonTooLarge, UnrollTooLarge, FormulaTooLarge, NoMemory}
 
@@ -44,39 +45,105 @@ pub moved_header : (asked wanted : Asked) (text bytes : List ℕ) (header : Head
 moved_header asked wanted text bytes header same is has =
     subst (λ (a : Asked). HasHeader a text header) (sym same) (subst (λ (t : List ℕ). HasHeader wanted t header) (sym is) has)
 
--- the limits of the header and the directive that there are
-pub same_limits : (design : Design) (unit : List Directive) (asked wanted : Asked) (text bytes : List ℕ) (header other : Header) (directive first : Directive) (found : Option Directive)
-    → asked ≡ wanted → text ≡ bytes → HasHeader asked text other → Some first ≡ found → FitsLimits design unit first other → HasHeader wanted bytes header
-    → found ≡ Some directive → FitsLimits design unit directive header
-same_limits design unit asked wanted text bytes header other directive first found same is has there fits wants finds =
-    let one : other ≡ header = header_once asked text other header has (moved_header asked wanted text bytes header same is wants) in
-    let both : Some first ≡ Some directive = there ∙ finds in
-    let two : first ≡ directive = cc in
-    subst (λ (d : Directive). FitsLimits design unit d header) two (subst (λ (h : Header). FitsLimits design unit first h) one fits)
+-- what was built behind a header, by its form
+small_in : (form : Form) (design : Design) (automaton : Automaton) (header : Header) (reading : Reading) (asked : Asked) (text : List ℕ)
+    → IsSmallFrom form design automaton header reading → IsAt asked (queries_for design automaton) text (behind_form form header) reading
+    → IsLargeIn form design automaton header (HasClauses asked (queries_for design automaton) text header) → ⊥
+small_in (Windowed version) design automaton header reading asked text small at large = small large
+small_in Clausal design automaton header reading asked text small at large = small asked text large.0 at large.1 large.2
+
+large_in : (form : Form) (design : Design) (automaton : Automaton) (header : Header) (reading : Reading) (asked : Asked) (text : List ℕ)
+    → IsLargeFrom form design automaton header reading → IsAt asked (queries_for design automaton) text (behind_form form header) reading
+    → IsLargeIn form design automaton header (HasClauses asked (queries_for design automaton) text header)
+large_in (Windowed version) design automaton header reading asked text large at = large
+large_in Clausal design automaton header reading asked text large at = (large.0, large.1 asked text at, large.2)
 
 module _ (design : Design) (unit : List Directive) (directive : Directive) (automaton : Automaton) (is : automaton ≡ violation_of unit directive) (header : Header)
-    (sized : IsSized design header.window (plain_owed unit directive)) where
-  pub fault_behind : (fault : CertFault) → IsFormulaFault design automaton header fault → IsFaultBehind design unit directive header fault
-  fault_behind SereTooLarge cause = absurd cause
-  fault_behind AutomatonTooLarge cause = absurd cause
-  fault_behind UnrollTooLarge cause = absurd cause
-  fault_behind FormulaTooLarge cause = (sized, subst (λ (a : Automaton). AreTooLarge design a header) is cause)
-  fault_behind NoMemory cause = tt
+    (sized : IsSized design header.window (plain_owed unit directive)) (reading : Reading) where
+  fault_at : (fault : CertFault) (asked : Asked) (text : List ℕ) → IsFormulaFault (IsLargeFrom header.form design (violation_of unit directive) header reading) fault
+      → IsAt asked (queries_for design (violation_of unit directive)) text (behind_header header) reading
+      → IsFaultBehind design unit directive header (HasClauses asked (queries_for design (violation_of unit directive)) text header) fault
+  fault_at SereTooLarge asked text cause at = absurd cause
+  fault_at AutomatonTooLarge asked text cause at = absurd cause
+  fault_at UnrollTooLarge asked text cause at = absurd cause
+  fault_at FormulaTooLarge asked text cause at = (sized, large_in header.form design (violation_of unit directive) header reading asked text cause at)
+  fault_at NoMemory asked text cause at = tt
 
-  pub fits_behind : (AreTooLarge design automaton header → ⊥) → FitsLimits design unit directive header
-  fits_behind few = record { sized = sized; formulas = λ large. few (subst (λ (a : Automaton). AreTooLarge design a header) (sym is) large) }
+  pub fault_behind : (fault : CertFault) → IsFormulaFault (IsLargeFrom header.form design automaton header reading) fault → IsFaultFrom design unit directive header reading fault
+  fault_behind fault cause = λ asked text at.
+      fault_at fault asked text (subst (λ (a : Automaton). IsFormulaFault (IsLargeFrom header.form design a header reading) fault) is cause) at
 
-  pub answers_behind : (reading : Reading) (answer : CertAnswer) → AnswersBehind design automaton header reading answer
+  pub fits_behind : IsSmallFrom header.form design automaton header reading → FitsFrom design unit directive header reading
+  fits_behind few = λ asked text at. record {
+    sized = sized;
+    formulas = λ large. small_in header.form design (violation_of unit directive) header reading asked text
+        (subst (λ (a : Automaton). IsSmallFrom header.form design a header reading) is few) at large;
+  }
+
+  pub answers_behind : (answer : CertAnswer) → AnswersBehind design automaton header reading answer
       → AnswersBehind design (violation_of unit directive) header reading answer
-  answers_behind reading answer answers = subst (λ (a : Automaton). AnswersBehind design a header reading answer) is answers
+  answers_behind answer answers = subst (λ (a : Automaton). AnswersBehind design a header reading answer) is answers
 
 -- the answer to the whole text
 pub whole_answer : (design : Design) (unit : List Directive) (directive : Directive) (found : Option Directive) (asked wanted : Asked) (text bytes : List ℕ) (header : Header)
     (reading : Reading) (answer : CertAnswer) → found ≡ Some directive → asked ≡ wanted → text ≡ bytes
-    → ((queries : Queries) → IsAt asked queries text (InSection header Base []) reading) → AnswersBehind design (violation_of unit directive) header reading answer
+    → ((queries : Queries) → IsAt asked queries text (behind_header header) reading) → AnswersBehind design (violation_of unit directive) header reading answer
     → IsAnswer wanted (queries_by design unit found) bytes answer
 whole_answer design unit directive found asked wanted text bytes header reading answer is same rest at answers =
     subst (λ (f : Option Directive). IsAnswer wanted (queries_by design unit f) bytes answer) (sym is)
     (subst (λ (t : List ℕ). IsAnswer wanted (queries_for design (violation_of unit directive)) t answer) rest
     (subst (λ (a : Asked). IsAnswer a (queries_for design (violation_of unit directive)) text answer) same
     (answers asked text (at (queries_for design (violation_of unit directive))))))
+
+-- the limits of the header and the directive that there are
+pub same_limits : (design : Design) (unit : List Directive) (number : ℕ) (asked : Asked) (text bytes : List ℕ) (header other : Header) (directive first : Directive) (reading : Reading)
+    → asked ≡ asked_of unit number → text ≡ bytes → HasHeader asked text other → Some first ≡ directive_of unit number
+    → ((queries : Queries) → IsAt asked queries text (behind_header other) reading) → FitsFrom design unit first other reading
+    → HasHeader (asked_of unit number) bytes header → directive_of unit number ≡ Some directive
+    → FitsLimits design unit directive header (ClausesIn design unit number bytes header)
+same_limits design unit number asked text bytes header other directive first reading same is has there at fits wants finds =
+    let one : other ≡ header = header_once asked text other header has (moved_header asked (asked_of unit number) text bytes header same is wants) in
+    let both : Some first ≡ Some directive = there ∙ finds in
+    let two : first ≡ directive = cc in
+    let here : FitsLimits design unit first other (HasClauses asked (queries_for design (violation_of unit first)) text other) =
+    fits asked text (at (queries_for design (violation_of unit first))) in
+    let by_found : FitsLimits design unit first other (HasClauses asked (queries_of design unit number) text other) =
+    subst (λ (f : Option Directive). FitsLimits design unit first other (HasClauses asked (queries_by design unit f) text other)) there here in
+    let by_asked : FitsLimits design unit first other (HasClauses (asked_of unit number) (queries_of design unit number) text other) =
+    subst (λ (a : Asked). FitsLimits design unit first other (HasClauses a (queries_of design unit number) text other)) same by_found in
+    let by_text : FitsLimits design unit first other (ClausesIn design unit number bytes other) =
+    subst (λ (t : List ℕ). FitsLimits design unit first other (HasClauses (asked_of unit number) (queries_of design unit number) t other)) is by_asked in
+    subst (λ (d : Directive). FitsLimits design unit d header (ClausesIn design unit number bytes header)) two
+    (subst (λ (h : Header). FitsLimits design unit first h (ClausesIn design unit number bytes h)) one by_text)
+
+-- the first limit that is passed
+pub same_fault : (design : Design) (unit : List Directive) (number : ℕ) (asked : Asked) (text bytes : List ℕ) (header : Header) (directive : Directive) (reading : Reading) (fault : CertFault)
+    → asked ≡ asked_of unit number → text ≡ bytes → HasHeader asked text header → Some directive ≡ directive_of unit number
+    → ((queries : Queries) → IsAt asked queries text (behind_header header) reading) → IsFaultFrom design unit directive header reading fault → IsFault design unit number bytes fault
+same_fault design unit number asked text bytes header directive reading fault same is has there at fault_is =
+    cause_of fault (record {
+      header = header;
+      directive = directive;
+      has = subst (λ (t : List ℕ). HasHeader (asked_of unit number) t header) is (subst (λ (a : Asked). HasHeader a text header) same has);
+      is = sym there;
+      fault_is = by_text;
+    })
+  where
+    here : IsFaultBehind design unit directive header (HasClauses asked (queries_for design (violation_of unit directive)) text header) fault
+    here = fault_is asked text (at (queries_for design (violation_of unit directive)))
+
+    by_found : IsFaultBehind design unit directive header (HasClauses asked (queries_of design unit number) text header) fault
+    by_found = subst (λ (f : Option Directive). IsFaultBehind design unit directive header (HasClauses asked (queries_by design unit f) text header) fault) there here
+
+    by_asked : IsFaultBehind design unit directive header (HasClauses (asked_of unit number) (queries_of design unit number) text header) fault
+    by_asked = subst (λ (a : Asked). IsFaultBehind design unit directive header (HasClauses a (queries_of design unit number) text header) fault) same by_found
+
+    by_text : IsFaultBehind design unit directive header (ClausesIn design unit number bytes header) fault
+    by_text = subst (λ (t : List ℕ). IsFaultBehind design unit directive header (HasClauses (asked_of unit number) (queries_of design unit number) t header) fault) is by_asked
+
+    cause_of : (fault : CertFault) → HasCause design unit number bytes fault → IsFault design unit number bytes fault
+    cause_of SereTooLarge cause = cause
+    cause_of AutomatonTooLarge cause = cause
+    cause_of UnrollTooLarge cause = cause
+    cause_of FormulaTooLarge cause = cause
+    cause_of NoMemory cause = tt

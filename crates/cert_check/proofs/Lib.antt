@@ -1,3 +1,4 @@
 mod Claiming
+mod Inducing
 mod Proving
 mod Sizes

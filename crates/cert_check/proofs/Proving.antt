@@ -1,18 +1,19 @@
 -- A certificate that is passed proves its claim.
-use Rattle.std.proofs.Common.{◌≡◌, ◌∙◌, ap, sym, subst, ℕ, ℤ, Bool as Truth, true, false, List, Option, Some, refl}
+use Rattle.std.proofs.Common.{◌≡◌, ◌⊎◌, ◌↔◌, inl, inr, ◌∙◌, ap, sym, subst, ℕ, ℤ, Bool as Truth, true, false, List, Option, Some, refl}
 use Rattle.std.specs.Bool.{IsTrue}
 use Rattle.std.proofs.lemmas.Bool.{false≢true}
 use Rattle.alternating_theory.specs.Acceptance.{Accepts}
 use Rattle.alternating_theory.specs.Obligations.{Automaton}
 use Rattle.certificate.specs.declared.header.Asked.{Asked}
-use Rattle.certificate.specs.declared.header.Section.TheVariants.{Base, Induction}
-use Rattle.certificate.specs.Sections.{Queries}
-use Rattle.certificate.specs.Shown.{IsRefuted, IsShown}
+use Rattle.certificate.specs.Shown.{IsClosed, IsInduced, IsRefuted, IsShown}
 use Rattle.certificate.specs.Texts.{IsPassed}
 use Rattle.certificate.proofs.Passed.{shown}
 use Rattle.clauses.proofs.Soundness.{no_model}
 use Rattle.clauses.specs.Literals.{clauses_within}
+use Rattle.joint_theory.specs.Bits.{joint_width}
 use Rattle.joint_theory.specs.Queries.{query, query_variables}
+use Rattle.joint_theory.specs.Reaching.{AreRefuted, LeavesBy, MeetsBadly, MissesInitially, StandsForOne, StandsForTwo, bad_variables, initial_variables, query_bad, query_initial, query_step, step_variables}
+use Rattle.joint_theory.specs.Sets.{IsInductive}
 use Rattle.netlist.specs.Design.{Design}
 use Rattle.netlist.specs.Runs.{IsRun, word}
 use Rattle.netlist.specs.Sound as netlists
@@ -24,13 +25,30 @@ use Rattle.psl_tree.specs.declared.directive.Kind.{Kind}
 use Rattle.psl_tree.specs.declared.directive.Kind.TheVariants.{Assert, Assume, Cover}
 use Rattle.run_terms.specs.Automata.{IsSound, TestsSignals}
 use Rattle.run_terms.specs.Formulas.{HasModel, values_of}
-use Rattle.cert_check.specs.Claims.{EachSatisfies, IsProved, asked_of, directive_of, is_some_assertion, queries_by, queries_for, queries_of}
+use Rattle.cert_check.specs.Claims.{EachSatisfies, IsProved, asked_of, bad_query, directive_of, initial_query, is_some_assertion, queries_by, queries_for, queries_of, step_query}
 
 -- a formula that is refuted has no model
 refuted_none : (variables : ℕ) (clauses : List (List ℤ)) → IsTrue (clauses_within variables clauses) → IsRefuted (record { variables = variables; clauses = clauses })
     → HasModel variables clauses → ⊥
 refuted_none variables clauses within refuted has =
     has (λ values size model. no_model (values_of values) variables clauses refuted.0 within refuted.1 model)
+
+-- the formulas of clauses, by what they are made of
+module _ (design : Design) (automaton : Automaton) (visits : ℕ) (clauses : List (List ℤ)) where
+  initial_refuted : IsRefuted (initial_query design automaton visits clauses)
+      → IsRefuted (record { variables = initial_variables design automaton visits clauses; clauses = query_initial design automaton visits clauses })
+  unfolding initial_query
+  initial_refuted is = is
+
+  step_refuted : IsRefuted (step_query design automaton visits clauses)
+      → IsRefuted (record { variables = step_variables design automaton visits clauses; clauses = query_step design automaton visits clauses })
+  unfolding step_query
+  step_refuted is = is
+
+  bad_refuted : IsRefuted (bad_query design automaton visits clauses)
+      → IsRefuted (record { variables = bad_variables design automaton visits; clauses = query_bad design automaton visits clauses })
+  unfolding bad_query
+  bad_refuted is = is
 
 -- what the laws of the joint states say
 abbrev pub RefutesRuns : Type 0
@@ -43,16 +61,71 @@ abbrev pub AreWithin : Type 0
 AreWithin = (design : Design) (automaton : Automaton) (visits window : ℕ) (initial : Truth) → netlists.IsSound design → IsSound automaton → TestsSignals design automaton
     → IsTrue (clauses_within (query_variables design automaton visits window initial) (query design automaton visits window initial))
 
-pub each_satisfies : (design : Design) (unit : List Directive) (directive : Directive) → netlists.IsSound design → IsSound (violation_of unit directive)
-    → TestsSignals design (violation_of unit directive) → RefutesRuns → AreWithin → AcceptsViolatingRuns design unit directive
-    → (asked : Asked) → IsShown asked (queries_for design (violation_of unit directive)) → EachSatisfies design unit directive
-each_satisfies design unit directive sound right tests refutes within tells asked is = λ run runs.
-    let automaton = violation_of unit directive in
-    (tells run runs.loops).satisfied
-    (refutes design automaton is.visits is.window sound right tests
-    (refuted_none (query_variables design automaton is.visits is.window true) (query design automaton is.visits is.window true) (within design automaton is.visits is.window true sound right tests) is.base)
-    (refuted_none (query_variables design automaton is.visits is.window false) (query design automaton is.visits is.window false) (within design automaton is.visits is.window false sound right tests) is.induction)
-    run runs)
+abbrev pub InductsRuns : Type 0
+InductsRuns = (design : Design) (automaton : Automaton) (visits : ℕ) (clauses : List (List ℤ)) → IsInductive design automaton visits clauses
+    → (run : Run) → IsRun design run → Accepts automaton (word design run) → ⊥
+
+-- what the formulas of clauses stand for
+abbrev pub StandInitially : Type 0
+StandInitially = (design : Design) (automaton : Automaton) (visits : ℕ) (clauses : List (List ℤ)) → netlists.IsSound design → IsSound automaton
+    → TestsSignals design automaton → IsTrue (clauses_within (joint_width design automaton visits) clauses)
+    → StandsForOne design automaton visits (initial_variables design automaton visits clauses) (query_initial design automaton visits clauses)
+    (MissesInitially design automaton visits clauses)
+
+abbrev pub StandForSteps : Type 0
+StandForSteps = (design : Design) (automaton : Automaton) (visits : ℕ) (clauses : List (List ℤ)) → netlists.IsSound design → IsSound automaton
+    → TestsSignals design automaton → IsTrue (clauses_within (joint_width design automaton visits) clauses)
+    → StandsForTwo design automaton visits (step_variables design automaton visits clauses) (query_step design automaton visits clauses)
+    (LeavesBy design automaton visits clauses)
+
+abbrev pub StandBadly : Type 0
+StandBadly = (design : Design) (automaton : Automaton) (visits : ℕ) (clauses : List (List ℤ)) → netlists.IsSound design → IsSound automaton
+    → TestsSignals design automaton → IsTrue (clauses_within (joint_width design automaton visits) clauses)
+    → StandsForOne design automaton visits (bad_variables design automaton visits) (query_bad design automaton visits clauses)
+    (MeetsBadly design automaton visits clauses)
+
+abbrev pub AreInductive : Type 0
+AreInductive = (design : Design) (automaton : Automaton) (visits : ℕ) (clauses : List (List ℤ)) → netlists.IsSound design → IsSound automaton
+    → TestsSignals design automaton → IsTrue (clauses_within (joint_width design automaton visits) clauses)
+    → IsInductive design automaton visits clauses ↔ AreRefuted design automaton visits clauses
+
+module _ (design : Design) (unit : List Directive) (directive : Directive) (sound : netlists.IsSound design) (right : IsSound (violation_of unit directive))
+    (tests : TestsSignals design (violation_of unit directive)) (tells : AcceptsViolatingRuns design unit directive) where
+  -- where no run's word is accepted, each run satisfies what is owed
+  none_accepted : ((run : Run) → IsRun design run → Accepts (violation_of unit directive) (word design run) → ⊥) → EachSatisfies design unit directive
+  none_accepted none = λ run runs. (tells run runs.loops).satisfied (none run runs)
+
+  by_window : RefutesRuns → AreWithin → IsClosed (queries_for design (violation_of unit directive)) → EachSatisfies design unit directive
+  by_window refutes within is =
+      let automaton = violation_of unit directive in
+      none_accepted
+      (refutes design automaton is.visits is.window sound right tests
+      (refuted_none (query_variables design automaton is.visits is.window true) (query design automaton is.visits is.window true) (within design automaton is.visits is.window true sound right tests) is.base)
+      (refuted_none (query_variables design automaton is.visits is.window false) (query design automaton is.visits is.window false) (within design automaton is.visits is.window false sound right tests) is.induction))
+
+  by_clauses : InductsRuns → StandInitially → StandForSteps → StandBadly → AreInductive → IsInduced (queries_for design (violation_of unit directive))
+      → EachSatisfies design unit directive
+  by_clauses inducts initially steps badly inductive is =
+      let automaton = violation_of unit directive in
+      let visits = is.visits in
+      let clauses = is.clauses in
+      none_accepted (inducts design automaton visits clauses ((inductive design automaton visits clauses sound right tests is.within).1 (record {
+        initial = refuted_none (initial_variables design automaton visits clauses) (query_initial design automaton visits clauses)
+            (initially design automaton visits clauses sound right tests is.within).within (initial_refuted design automaton visits clauses is.initial);
+        step = refuted_none (step_variables design automaton visits clauses) (query_step design automaton visits clauses)
+            (steps design automaton visits clauses sound right tests is.within).within (step_refuted design automaton visits clauses is.step);
+        bad = refuted_none (bad_variables design automaton visits) (query_bad design automaton visits clauses)
+            (badly design automaton visits clauses sound right tests is.within).within (bad_refuted design automaton visits clauses is.bad);
+      })))
+
+  by_either : RefutesRuns → AreWithin → InductsRuns → StandInitially → StandForSteps → StandBadly → AreInductive
+      → IsClosed (queries_for design (violation_of unit directive)) ⊎ IsInduced (queries_for design (violation_of unit directive)) → EachSatisfies design unit directive
+  by_either refutes within inducts initially steps badly inductive (inl is) = by_window refutes within is
+  by_either refutes within inducts initially steps badly inductive (inr is) = by_clauses inducts initially steps badly inductive is
+
+  pub each_satisfies : RefutesRuns → AreWithin → InductsRuns → StandInitially → StandForSteps → StandBadly → AreInductive
+      → (asked : Asked) → IsShown asked (queries_for design (violation_of unit directive)) → EachSatisfies design unit directive
+  each_satisfies refutes within inducts initially steps badly inductive asked is = by_either refutes within inducts initially steps badly inductive is.by
 
 assert_is : (kind : Kind) → is_assertion kind ≡ true → kind ≡ Assert
 assert_is Assert is = refl

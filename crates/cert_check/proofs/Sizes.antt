@@ -4,19 +4,21 @@ use Rattle.clauses.specs.Literals.{clause_words}
 use Rattle.clauses.specs.declared.cnf.Cnf.{Cnf}
 use Rattle.clauses.specs.declared.flat.CnfFault.{CnfFault}
 use Rattle.clauses.specs.declared.flat.CnfFault.TheVariants as formulas
-use Rattle.clauses.specs.declared.flat.TheConstants.{MOST_WORDS}
+use Rattle.clauses.specs.declared.flat.TheConstants.{MOST_VARIABLES, MOST_WORDS}
 use Rattle.circuit_theory.specs.Sizes.{IsTooLarge}
 use Rattle.alternating_theory.specs.Obligations.{Automaton}
 use Rattle.certificate.specs.declared.header.Header.{Header}
-use Rattle.certificate.specs.declared.header.Section.TheVariants.{Base, Induction}
 use Rattle.certificate.specs.Sections.{Query}
 use Rattle.cert_lines.specs.Sections.{query_of}
 use Rattle.joint.specs.Joined.{Joined}
-use Rattle.joint_theory.specs.Queries.{base, base_variables, induction, induction_variables, query, query_variables}
+use Rattle.joint_theory.specs.Queries.{base, base_variables, induction, induction_variables, joint_size, query, query_variables}
 use Rattle.netlist.specs.Design.{Design}
-use Rattle.cert_check.specs.Claims.{queries_for}
+use Rattle.joint_theory.specs.Reaching.{bad_variables, initial_variables, query_bad, query_initial, query_step, step_variables}
+use Rattle.cert_check.specs.Claims.{bad_query, initial_query, step_query, window_query}
 use Rattle.cert_check.specs.Faults.{of_formula}
-use Rattle.cert_check.specs.Limits.{AreTooLarge, IsFormulaFault}
+use Rattle.cert_check.specs.declared.fault.CertFault.{CertFault}
+use Rattle.cert_check.specs.declared.fault.CertFault.TheVariants.{SereTooLarge, AutomatonTooLarge, UnrollTooLarge, FormulaTooLarge, NoMemory}
+use Rattle.cert_check.specs.Limits.{AreClausesTooLarge, AreTooLarge, IsBadLarge, IsFormulaFault, IsInitialLarge, IsStepLarge}
 
 -- one that was built is not too large
 not_large : (formula : Cnf) (variables : ℕ) (clauses : List (List ℤ)) → formula.variables ≡ variables → formula.clauses ≡ clauses
@@ -43,13 +45,13 @@ pub record IsInduction (joint : Joined) (window : ℕ) (formula : Cnf) : Type 0 
 module _ (design : Design) (automaton : Automaton) (header : Header) (joint : Joined) (is : joint ≡ record { design = design; automaton = automaton; visits = header.visits }) where
   pub of_induction : (fault : CnfFault)
       → (fault ≡ formulas.TooLarge → IsTooLarge (induction_variables joint.design joint.automaton joint.visits header.window) (induction joint.design joint.automaton joint.visits header.window))
-      → IsFormulaFault design automaton header (of_formula fault)
+      → IsFormulaFault (AreTooLarge design automaton header.visits header.window) (of_formula fault)
   of_induction formulas.TooLarge large =
       inr (subst (λ (j : Joined). IsTooLarge (induction_variables j.design j.automaton j.visits header.window) (induction j.design j.automaton j.visits header.window)) is (large refl))
   of_induction formulas.NoMemory large = tt
 
   pub both_fit : (first second : Cnf) → IsBase joint header.window first → clause_words first.clauses ≤ MOST_WORDS → IsInduction joint header.window second
-      → clause_words second.clauses ≤ MOST_WORDS → AreTooLarge design automaton header → ⊥
+      → clause_words second.clauses ≤ MOST_WORDS → AreTooLarge design automaton header.visits header.window → ⊥
   both_fit first second one few two less (inl large) =
       let here = subst (λ (j : Joined). IsBase j header.window first) is one in
       not_large first (query_variables design automaton header.visits header.window true) (query design automaton header.visits header.window true) here.variables here.clauses few large
@@ -57,12 +59,85 @@ module _ (design : Design) (automaton : Automaton) (header : Header) (joint : Jo
       let here = subst (λ (j : Joined). IsInduction j header.window second) is two in
       not_large second (query_variables design automaton header.visits header.window false) (query design automaton header.visits header.window false) here.variables here.clauses less large
 
-  pub base_query : (formula : Cnf) → IsBase joint header.window formula → queries_for design automaton Base header.visits header.window ≡ query_of formula
+  pub base_query : (formula : Cnf) → IsBase joint header.window formula → window_query design automaton true header.visits header.window ≡ query_of formula
   base_query formula one =
       let here = subst (λ (j : Joined). IsBase j header.window formula) is one in
       sym (same_query formula (query_variables design automaton header.visits header.window true) (query design automaton header.visits header.window true) here.variables here.clauses)
 
-  pub induction_query : (formula : Cnf) → IsInduction joint header.window formula → queries_for design automaton Induction header.visits header.window ≡ query_of formula
+  pub induction_query : (formula : Cnf) → IsInduction joint header.window formula → window_query design automaton false header.visits header.window ≡ query_of formula
   induction_query formula one =
       let here = subst (λ (j : Joined). IsInduction j header.window formula) is one in
       sym (same_query formula (query_variables design automaton header.visits header.window false) (query design automaton header.visits header.window false) here.variables here.clauses)
+
+-- the fault of a formula
+pub formula_fault : (P : Type 0) (fault : CnfFault) → (fault ≡ formulas.TooLarge → P) → IsFormulaFault P (of_formula fault)
+formula_fault P formulas.TooLarge large = large refl
+formula_fault P formulas.NoMemory large = tt
+
+-- what is too large for one reason
+pub fault_for : (P Q : Type 0) (fault : CertFault) → (P → Q) → IsFormulaFault P fault → IsFormulaFault Q fault
+fault_for P Q SereTooLarge of cause = absurd cause
+fault_for P Q AutomatonTooLarge of cause = absurd cause
+fault_for P Q UnrollTooLarge of cause = absurd cause
+fault_for P Q FormulaTooLarge of cause = of cause
+fault_for P Q NoMemory of cause = tt
+
+-- the formulas of clauses
+pub record IsOf (query : Query) (formula : Cnf) : Type 0 where
+  pub variables : formula.variables ≡ query.variables
+  pub clauses : formula.clauses ≡ query.clauses
+
+pub small_of : (query : Query) (formula : Cnf) → IsOf query formula → clause_words formula.clauses ≤ MOST_WORDS → IsTooLarge query.variables query.clauses → ⊥
+small_of query formula of few = not_large formula query.variables query.clauses of.variables of.clauses few
+
+pub query_is : (query : Query) (formula : Cnf) → IsOf query formula → query ≡ query_of formula
+query_is query formula of = sym (same_query formula query.variables query.clauses of.variables of.clauses)
+
+-- where none of them is too large, nothing is
+pub none_large : (design : Design) (automaton : Automaton) (visits : ℕ) (clauses : List (List ℤ)) → joint_size design automaton visits ≤ MOST_VARIABLES
+    → (IsInitialLarge design automaton visits clauses → ⊥) → (IsStepLarge design automaton visits clauses → ⊥) → (IsBadLarge design automaton visits clauses → ⊥)
+    → AreClausesTooLarge design automaton visits clauses → ⊥
+none_large design automaton visits clauses few initial step bad (inl large) = omega (arith, few, large)
+none_large design automaton visits clauses few initial step bad (inr (inl large)) = initial large
+none_large design automaton visits clauses few initial step bad (inr (inr (inl large))) = step large
+none_large design automaton visits clauses few initial step bad (inr (inr (inr large))) = bad large
+
+-- they are what was built of the joint states
+module _ (joint : Joined) (clauses : List (List ℤ)) (formula : Cnf) where
+  pub initial_of : formula.variables ≡ initial_variables joint.design joint.automaton joint.visits clauses
+      → formula.clauses ≡ query_initial joint.design joint.automaton joint.visits clauses
+      → IsOf (initial_query joint.design joint.automaton joint.visits clauses) formula
+  unfolding initial_query
+  initial_of one two = record { variables = one; clauses = two }
+
+  pub step_of : formula.variables ≡ step_variables joint.design joint.automaton joint.visits clauses
+      → formula.clauses ≡ query_step joint.design joint.automaton joint.visits clauses
+      → IsOf (step_query joint.design joint.automaton joint.visits clauses) formula
+  unfolding step_query
+  step_of one two = record { variables = one; clauses = two }
+
+  pub bad_of : formula.variables ≡ bad_variables joint.design joint.automaton joint.visits
+      → formula.clauses ≡ query_bad joint.design joint.automaton joint.visits clauses
+      → IsOf (bad_query joint.design joint.automaton joint.visits clauses) formula
+  unfolding bad_query
+  bad_of one two = record { variables = one; clauses = two }
+
+-- and why they were not built
+module _ (joint : Joined) (clauses : List (List ℤ)) (fault : CnfFault) where
+  pub initial_fault : (fault ≡ formulas.TooLarge
+      → IsTooLarge (initial_variables joint.design joint.automaton joint.visits clauses) (query_initial joint.design joint.automaton joint.visits clauses))
+      → IsFormulaFault (AreClausesTooLarge joint.design joint.automaton joint.visits clauses) (of_formula fault)
+  unfolding initial_query
+  initial_fault large = formula_fault (AreClausesTooLarge joint.design joint.automaton joint.visits clauses) fault (λ is. inr (inl (large is)))
+
+  pub step_fault : (fault ≡ formulas.TooLarge
+      → IsTooLarge (step_variables joint.design joint.automaton joint.visits clauses) (query_step joint.design joint.automaton joint.visits clauses))
+      → IsFormulaFault (AreClausesTooLarge joint.design joint.automaton joint.visits clauses) (of_formula fault)
+  unfolding step_query
+  step_fault large = formula_fault (AreClausesTooLarge joint.design joint.automaton joint.visits clauses) fault (λ is. inr (inr (inl (large is))))
+
+  pub bad_fault : (fault ≡ formulas.TooLarge
+      → IsTooLarge (bad_variables joint.design joint.automaton joint.visits) (query_bad joint.design joint.automaton joint.visits clauses))
+      → IsFormulaFault (AreClausesTooLarge joint.design joint.automaton joint.visits clauses) (of_formula fault)
+  unfolding bad_query
+  bad_fault large = formula_fault (AreClausesTooLarge joint.design joint.automaton joint.visits clauses) fault (λ is. inr (inr (inr (large is))))

@@ -12,11 +12,11 @@ ghost use Rattle.psl_tree.specs.Trees.{formula_of};
 ghost use Rattle.psl_tree.specs.declared.directive.Directive.{Directive};
 ghost use Rattle.run_terms.specs.Automata.{IsSound, TestsSignals};
 ghost use Rattle.cert_check.specs.Claims.{AnswersBehind, IsProved, asked_of as asked_for, directive_of as directive_at, queries_of};
-ghost use Rattle.cert_check.specs.Limits.{FitsLimits, IsFault, IsFaultBehind};
+ghost use Rattle.cert_check.specs.Limits.{ClausesIn, FitsFrom, FitsLimits, IsFault, IsFaultFrom};
 
 use crate::CertFault;
 use crate::claim::{Claim, asked_of, directive_of};
-use crate::formulas::check_lines;
+use crate::lines::check_lines;
 use crate::soundness::claim_holds;
 use cert_lines::{Reading, read_header};
 use certificate::{CertAnswer, Header};
@@ -34,7 +34,9 @@ use work_limits::check_sizes;
 /// # Errors
 ///
 /// The header's lines are read first. Where none of them is refused, the first of the limits is told that what is owed or
-/// one of the formulas passes, in the order of the faults; then come the other lines. `NoMemory` if memory is refused.
+/// one of the formulas passes, in the order of the faults; then come the other lines. Of a certificate of clauses the
+/// limits of what is owed are told first, with a window of 1; then come the lines of the clauses, and then whether the
+/// circuit or one of the formulas is too large. `NoMemory` if memory is refused.
 pub fn check_cert(
     alloc: Global,
     unit: &Unit,
@@ -48,7 +50,8 @@ pub fn check_cert(
         (queries_of netlist.now unit.now assertion) bytes.now) }
     ensures fits { OnOk result ((header : Header) (directive : Directive)
         → HasHeader (asked_for unit.now assertion) bytes.now header
-        → directive_at unit.now assertion ≡ Some directive → FitsLimits netlist.now unit.now directive header) }
+        → directive_at unit.now assertion ≡ Some directive
+        → FitsLimits netlist.now unit.now directive header (ClausesIn netlist.now unit.now assertion bytes.now header)) }
     ensures fault { IfErr result (IsFault netlist.now unit.now assertion bytes.now) }
     ensures proved { result ≡ Ok CertAnswer.Passed → IsProved netlist.now unit.now assertion }
 {
@@ -83,8 +86,8 @@ fn check_claim(
     requires least { 1 ≤ header.window }
     requires most { header.window ≤ 1000 }
     ensures answer { IfOk result (AnswersBehind claim.entry.netlist.now (violation_of claim.entry.unit.now claim.entry.directive.now) header reading.old) }
-    ensures fits { OnOk result (FitsLimits claim.entry.netlist.now claim.entry.unit.now claim.entry.directive.now header) }
-    ensures fault { IfErr result (IsFaultBehind claim.entry.netlist.now claim.entry.unit.now claim.entry.directive.now header) }
+    ensures fits { OnOk result (FitsFrom claim.entry.netlist.now claim.entry.unit.now claim.entry.directive.now header reading.old) }
+    ensures fault { IfErr result (IsFaultFrom claim.entry.netlist.now claim.entry.unit.now claim.entry.directive.now header reading.old) }
     ensures sound { OnOk result (IsSound (violation_of claim.entry.unit.now claim.entry.directive.now)) }
     ensures tests { OnOk result (TestsSignals claim.entry.netlist.now (violation_of claim.entry.unit.now claim.entry.directive.now)) }
 {

@@ -12,10 +12,10 @@ pub enum CertFault {
     /// What is owed counts more than 2,048 obligations.
     #[error("the formula counts more than 2048 obligations")]
     AutomatonTooLarge,
-    /// The netlist and what is owed are too large for the certificate's window.
+    /// The netlist and what is owed are too large for the certificate's window, or for one step where it has clauses.
     #[error("too large to be unrolled")]
     UnrollTooLarge,
-    /// The formula of the base or of the induction is too large.
+    /// A formula of the certificate's window or of its clauses is too large, or the circuit of the joint states.
     #[error("the formula is too large")]
     FormulaTooLarge,
     /// The allocator refused memory.

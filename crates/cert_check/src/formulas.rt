@@ -1,10 +1,11 @@
-// The lines of both sections, against their formulas.
+// The lines of both sections of a certificate of a window, against their formulas.
 ghost use Rattle.std.specs.Prelude.{◌≤◌, [], IfOk, IfErr, OnOk};
 ghost use Rattle.certificate.specs.declared.header.Section.TheVariants as sections;
 ghost use Rattle.clauses.specs.Literals.{clause_words};
 ghost use Rattle.clauses.specs.declared.flat.TheConstants.{MOST_WORDS};
 ghost use Rattle.run_terms.specs.Automata.{TestsSignals};
-ghost use Rattle.cert_check.specs.Claims.{AnswersBehind};
+ghost use Rattle.certificate.specs.Phases.Phase.{InSection};
+ghost use Rattle.cert_check.specs.Claims.{AnswersAt};
 ghost use Rattle.cert_check.specs.Limits.{AreTooLarge, IsFormulaFault};
 
 use crate::CertFault;
@@ -18,7 +19,7 @@ use std::alloc::Global;
 
 /// Checks what is left of a certificate behind its header. Both formulas are built before a line is looked at, so that it
 /// is told whether one of them is too large; but only one is there at a time, so the induction's is built twice.
-pub(crate) fn check_lines(
+pub(crate) fn check_windowed(
     alloc: Global,
     netlist: &Netlist,
     violation: &Alternating,
@@ -28,9 +29,9 @@ pub(crate) fn check_lines(
     requires tests { TestsSignals netlist.now violation.now }
     requires visits { header.visits ≤ 16 }
     requires window { 1 ≤ header.window }
-    ensures answer { IfOk result (AnswersBehind netlist.now violation.now header reading.old) }
-    ensures fits { OnOk result (AreTooLarge netlist.now violation.now header → ⊥) }
-    ensures fault { IfErr result (IsFormulaFault netlist.now violation.now header) }
+    ensures answer { IfOk result (AnswersAt netlist.now violation.now (InSection header [] sections.Base []) reading.old) }
+    ensures fits { OnOk result (AreTooLarge netlist.now violation.now header.visits header.window → ⊥) }
+    ensures fault { IfErr result (IsFormulaFault (AreTooLarge netlist.now violation.now header.visits header.window)) }
 {
     let joint = joint(alloc, netlist, violation, header.visits)?;
     let early = joint.induction(alloc, header.window)?;
@@ -52,7 +53,7 @@ pub(crate) fn check_lines(
 }
 
 /// A formula that was built is not too large.
-fn formula_is_small(formula: &Cnf)
+pub(crate) fn formula_is_small(formula: &Cnf)
     ensures { clause_words formula.now.clauses ≤ MOST_WORDS }
 {
     let _words = formula.clauses.words();

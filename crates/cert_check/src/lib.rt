@@ -4,8 +4,10 @@
 
 mod checking;
 mod claim;
+mod clausal;
 mod fault;
 mod formulas;
+mod lines;
 mod soundness;
 
 pub use certificate::{CertAnswer, CertReason};

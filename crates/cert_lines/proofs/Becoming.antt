@@ -23,7 +23,7 @@ module _ (old new : SectionChecker) (query : Query) (entries : List LogEntry) (l
     ended = ended ∙ sym (ends_push entries entry none);
   }
 
-  pub becomes_taken : (entry : LogEntry) (step : Step) → IsEntryLine old.header.version line entry → new.ended ≡ is_empty_lemma entry → Answers old.checker entry step new.checker
+  pub becomes_taken : (entry : LogEntry) (step : Step) → IsEntryLine old.header.form line entry → new.ended ≡ is_empty_lemma entry → Answers old.checker entry step new.checker
       → Becomes old query entries line (step_of step) new
   becomes_taken (Lemma literals hints) Passes is ended answers = (
     Lemma literals hints,

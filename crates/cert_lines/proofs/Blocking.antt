@@ -1,5 +1,5 @@
--- Where a line of the header is refused, the text has no header.
-use Rattle.std.proofs.Common.{◌≡◌, inl, inr, ◌∙◌, ap, sym, subst, ℕ, Bool, true, false, List, [], ◌∷◌, ◌++◌, refl}
+-- Where a line of the header is refused, the text has no header; where one among the clauses is, it has no clauses.
+use Rattle.std.proofs.Common.{◌≡◌, inl, inr, ◌∙◌, ap, sym, subst, ℕ, ℤ, Bool, true, false, List, [], ◌∷◌, ◌++◌, refl}
 use Rattle.std.specs.Bool.{IsTrue}
 use Rattle.std.specs.List.{list_all}
 use Rattle.std.proofs.lemmas.Bool.{and_parts, true≢false}
@@ -7,13 +7,16 @@ use Rattle.log_lines.specs.Lines.{lacks}
 use Rattle.certificate.specs.declared.answer.CertReason.{CertReason}
 use Rattle.certificate.specs.declared.header.Asked.{Asked}
 use Rattle.certificate.specs.declared.header.Header.{Header}
-use Rattle.certificate.specs.declared.header.Section.TheVariants.{Base, Induction}
+use Rattle.certificate.specs.declared.header.Form.{Form}
+use Rattle.certificate.specs.declared.header.Form.TheVariants.{Windowed, Clausal}
+use Rattle.certificate.specs.declared.header.Section.{Section}
+use Rattle.certificate.specs.declared.header.Section.TheVariants.{Base, Induction, Initial, Step, Bad}
 use Rattle.certificate.specs.Headers.{HasHeader}
 use Rattle.certificate.specs.Lines.{header_lines, lines_text}
-use Rattle.certificate.specs.Phases.{Phase, Follows, IsRefusedLine}
-use Rattle.certificate.specs.Phases.Phase.{AtVersion, AtAssertion, AtVisits, AtWindow, AtLive, AtBase, InSection, AtEnd}
+use Rattle.certificate.specs.Phases.{Phase, Follows, IsRefusedLine, behind_form, behind_header, behind_section}
+use Rattle.certificate.specs.Phases.Phase.{AtVersion, AtAssertion, AtVisits, AtWindow, AtLive, AtLast, InClauses, InSection, AtEnd}
 use Rattle.certificate.specs.Sections.{Queries}
-use Rattle.certificate.specs.Texts.{FollowAll}
+use Rattle.certificate.specs.Texts.{FollowAll, HasClauses}
 use Rattle.certificate.proofs.HeaderLines.{header_reaches}
 use Rattle.certificate.proofs.Once.{follows_once, follows_refused}
 use Rattle.certificate.proofs.OneAnswer.{feed_in, first_line, same_line}
@@ -24,26 +27,38 @@ use Rattle.cert_lines.specs.Readings.{IsAt, IsRefusedBy}
 -- a line of the header comes next
 abbrev pub is_head : Phase → Bool
 is_head AtVersion = true
-is_head (AtAssertion version) = true
-is_head (AtVisits version) = true
-is_head (AtWindow version visits) = true
-is_head (AtLive visits window) = true
-is_head (AtBase header) = true
-is_head (InSection header section entries) = false
+is_head (AtAssertion form) = true
+is_head (AtVisits form) = true
+is_head (AtWindow form visits) = true
+is_head (AtLive form visits window) = true
+is_head (AtLast header) = true
+is_head (InClauses header clauses) = false
+is_head (InSection header clauses section entries) = false
 is_head AtEnd = false
 
 -- behind the header none comes any more
+section_behind : (header : Header) (clauses : List (List ℤ)) (section : Section) → is_head (behind_section header clauses section) ≡ false
+section_behind header clauses Base = refl
+section_behind header clauses Induction = refl
+section_behind header clauses Initial = refl
+section_behind header clauses Step = refl
+section_behind header clauses Bad = refl
+
+form_behind : (form : Form) (header : Header) → is_head (behind_form form header) ≡ false
+form_behind (Windowed version) header = refl
+form_behind Clausal header = refl
+
 next_behind : (asked : Asked) (queries : Queries) (phase next : Phase) (line : List ℕ) → is_head phase ≡ false → Follows asked queries phase line next → is_head next ≡ false
 next_behind asked queries AtVersion next line behind follows = absurd (true≢false behind)
-next_behind asked queries (AtAssertion version) next line behind follows = absurd (true≢false behind)
-next_behind asked queries (AtVisits version) next line behind follows = absurd (true≢false behind)
-next_behind asked queries (AtWindow version visits) next line behind follows = absurd (true≢false behind)
-next_behind asked queries (AtLive visits window) next line behind follows = absurd (true≢false behind)
-next_behind asked queries (AtBase header) next line behind follows = absurd (true≢false behind)
-next_behind asked queries (InSection header Base entries) next line behind (inl follows) = ap is_head follows.3
-next_behind asked queries (InSection header Base entries) next line behind (inr follows) = ap is_head follows.2
-next_behind asked queries (InSection header Induction entries) next line behind (inl follows) = ap is_head follows.3
-next_behind asked queries (InSection header Induction entries) next line behind (inr follows) = ap is_head follows.2
+next_behind asked queries (AtAssertion form) next line behind follows = absurd (true≢false behind)
+next_behind asked queries (AtVisits form) next line behind follows = absurd (true≢false behind)
+next_behind asked queries (AtWindow form visits) next line behind follows = absurd (true≢false behind)
+next_behind asked queries (AtLive form visits window) next line behind follows = absurd (true≢false behind)
+next_behind asked queries (AtLast header) next line behind follows = absurd (true≢false behind)
+next_behind asked queries (InClauses header clauses) next line behind (inl follows) = ap is_head follows.3
+next_behind asked queries (InClauses header clauses) next line behind (inr follows) = ap is_head follows.1
+next_behind asked queries (InSection header clauses section entries) next line behind (inl follows) = ap is_head follows.3
+next_behind asked queries (InSection header clauses section entries) next line behind (inr follows) = ap is_head follows.2 ∙ section_behind header clauses section
 next_behind asked queries AtEnd next line behind follows = absurd follows
 
 stays_behind : (asked : Asked) (queries : Queries) (lines : List (List ℕ)) (from to : Phase) → is_head from ≡ false → FollowAll asked queries from lines to → is_head to ≡ false
@@ -66,29 +81,81 @@ blocked_by asked queries phase rule reading refusal of (inr refused) = λ line b
     follows_refused asked queries phase line next follows refusal.reason
     (subst (λ (l : List ℕ). IsRefusedLine asked queries phase l refusal.reason) same (of refused.line refusal.reason refused.refused))
 
--- two ways into a text, of which one is blocked in the header and the other goes on behind it
-meets : (asked : Asked) (queries : Queries) (lines others : List (List ℕ)) (from phase end : Phase) (text rest tail : List ℕ) → text ≡ lines_text lines ++ rest
-    → text ≡ lines_text others ++ tail → IsTrue (list_all (lacks 10) lines) → IsTrue (list_all (lacks 10) others) → FollowAll asked queries from lines phase
-    → FollowAll asked queries from others end → IsBlocked asked queries phase rest → is_head phase ≡ true → is_head end ≡ false → ⊥
-meets asked queries [] [] from phase end text rest tail one two whole also first second blocked head behind =
-    true≢false (sym head ∙ ap is_head (sym first ∙ second) ∙ behind)
-meets asked queries [] (other ∷ others) from phase end text rest tail one two whole also first second blocked head behind =
+-- a kind of phases is in front of all others
+abbrev pub AreInFront : Asked → Queries → (Phase → Bool) → Type 0
+AreInFront asked queries front =
+    (lines : List (List ℕ)) (from to : Phase) → front from ≡ false → FollowAll asked queries from lines to → front to ≡ false
+
+-- two ways into a text, of which one is blocked in front and the other goes on behind
+meets : (asked : Asked) (queries : Queries) (front : Phase → Bool) → AreInFront asked queries front → (lines others : List (List ℕ)) (from phase end : Phase) (text rest tail : List ℕ)
+    → text ≡ lines_text lines ++ rest → text ≡ lines_text others ++ tail → IsTrue (list_all (lacks 10) lines) → IsTrue (list_all (lacks 10) others)
+    → FollowAll asked queries from lines phase → FollowAll asked queries from others end → IsBlocked asked queries phase rest → front phase ≡ true → front end ≡ false → ⊥
+meets asked queries front stays [] [] from phase end text rest tail one two whole also first second blocked head behind =
+    true≢false (sym head ∙ ap front (sym first ∙ second) ∙ behind)
+meets asked queries front stays [] (other ∷ others) from phase end text rest tail one two whole also first second blocked head behind =
     blocked other (lines_text others ++ tail) second.0 (sym one ∙ first_line text other tail others two) (and_parts (lacks 10 other) (list_all (lacks 10) others) also).0
     (subst (λ (p : Phase). Follows asked queries p other second.0) first second.1)
-meets asked queries (line ∷ lines) [] from phase end text rest tail one two whole also first second blocked head behind =
-    true≢false (sym head ∙ stays_behind asked queries (line ∷ lines) from phase (ap is_head second ∙ behind) first)
-meets asked queries (line ∷ lines) (other ∷ others) from phase end text rest tail one two whole also first second blocked head behind =
+meets asked queries front stays (line ∷ lines) [] from phase end text rest tail one two whole also first second blocked head behind =
+    true≢false (sym head ∙ stays (line ∷ lines) from phase (ap front second ∙ behind) first)
+meets asked queries front stays (line ∷ lines) (other ∷ others) from phase end text rest tail one two whole also first second blocked head behind =
     let here = and_parts (lacks 10 line) (list_all (lacks 10) lines) whole in
     let there = and_parts (lacks 10 other) (list_all (lacks 10) others) also in
     let same = same_line line (lines_text lines ++ rest) other (lines_text others ++ tail) here.0 there.0
     (sym (first_line text line rest lines one) ∙ first_line text other tail others two) in
     let next = follows_once asked queries from other first.0 second.0 (subst (λ (l : List ℕ). Follows asked queries from l first.0) same.0 first.1) second.1 in
-    meets asked queries lines others first.0 phase end (lines_text lines ++ rest) rest tail refl same.1 here.1 there.1 first.2
+    meets asked queries front stays lines others first.0 phase end (lines_text lines ++ rest) rest tail refl same.1 here.1 there.1 first.2
     (subst (λ (p : Phase). FollowAll asked queries p others end) (sym next) second.2) blocked head behind
 
 pub no_header : (asked : Asked) (queries : Queries) (text : List ℕ) (phase : Phase) (reading : Reading) → IsAt asked queries text phase reading
     → is_head phase ≡ true → IsBlocked asked queries phase reading.rest.now → (header : Header) → HasHeader asked text header → ⊥
 no_header asked queries text phase reading at head blocked header has =
     let reaches = header_reaches asked queries text header has in
-    meets asked queries at.lines (header_lines asked.number header) AtVersion phase (InSection header Base []) text reading.rest.now has.rest
-    at.reaches.is reaches.is at.reaches.whole reaches.whole at.reaches.follow reaches.follow blocked head refl
+    meets asked queries is_head (stays_behind asked queries) at.lines (header_lines asked.number header) AtVersion phase (behind_header header) text reading.rest.now has.rest
+    at.reaches.is reaches.is at.reaches.whole reaches.whole at.reaches.follow reaches.follow blocked head (form_behind header.form header)
+
+-- a line of the header or of a clause comes next
+is_front : Phase → Bool
+is_front AtVersion = true
+is_front (AtAssertion form) = true
+is_front (AtVisits form) = true
+is_front (AtWindow form visits) = true
+is_front (AtLive form visits window) = true
+is_front (AtLast header) = true
+is_front (InClauses header clauses) = true
+is_front (InSection header clauses section entries) = false
+is_front AtEnd = false
+
+-- behind these none comes any more
+section_past : (header : Header) (clauses : List (List ℤ)) (section : Section) → is_front (behind_section header clauses section) ≡ false
+unfolding is_front
+section_past header clauses Base = refl
+section_past header clauses Induction = refl
+section_past header clauses Initial = refl
+section_past header clauses Step = refl
+section_past header clauses Bad = refl
+
+next_past : (asked : Asked) (queries : Queries) (phase next : Phase) (line : List ℕ) → is_front phase ≡ false → Follows asked queries phase line next → is_front next ≡ false
+unfolding is_front
+next_past asked queries AtVersion next line past follows = absurd (true≢false past)
+next_past asked queries (AtAssertion form) next line past follows = absurd (true≢false past)
+next_past asked queries (AtVisits form) next line past follows = absurd (true≢false past)
+next_past asked queries (AtWindow form visits) next line past follows = absurd (true≢false past)
+next_past asked queries (AtLive form visits window) next line past follows = absurd (true≢false past)
+next_past asked queries (AtLast header) next line past follows = absurd (true≢false past)
+next_past asked queries (InClauses header clauses) next line past follows = absurd (true≢false past)
+next_past asked queries (InSection header clauses section entries) next line past (inl follows) = ap is_front follows.3
+next_past asked queries (InSection header clauses section entries) next line past (inr follows) = ap is_front follows.2 ∙ section_past header clauses section
+next_past asked queries AtEnd next line past follows = absurd follows
+
+stays_past : (asked : Asked) (queries : Queries) (lines : List (List ℕ)) (from to : Phase) → is_front from ≡ false → FollowAll asked queries from lines to → is_front to ≡ false
+stays_past asked queries [] from to past follow = ap is_front (sym follow) ∙ past
+stays_past asked queries (line ∷ lines) from to past follow =
+    stays_past asked queries lines follow.0 to (next_past asked queries from follow.0 line past follow.1) follow.2
+
+pub no_clauses : (asked : Asked) (queries : Queries) (text : List ℕ) (header other : Header) (clauses others : List (List ℤ)) (reading : Reading)
+    → IsAt asked queries text (InClauses header clauses) reading → IsBlocked asked queries (InClauses header clauses) reading.rest.now
+    → HasClauses asked queries text other others → ⊥
+unfolding is_front
+no_clauses asked queries text header other clauses others reading at blocked has =
+    meets asked queries is_front (stays_past asked queries) at.lines has.lines AtVersion (InClauses header clauses) (InSection other others Initial []) text reading.rest.now has.rest
+    at.reaches.is has.reaches.is at.reaches.whole has.reaches.whole at.reaches.follow has.reaches.follow blocked refl refl

@@ -22,7 +22,7 @@ use Rattle.clauses.specs.Passing as passing
 use Rattle.clauses.specs.declared.flat.TheConstants.{MOST_VARIABLES}
 use Rattle.log_lines.specs.Lines.{entry_text, hints_text, literals_text}
 use Rattle.log_lines.proofs.Numerals.{number_parts}
-use Rattle.certificate.specs.declared.header.Version.{Version}
+use Rattle.certificate.specs.declared.header.Form.{Form}
 use Rattle.certificate.specs.Sections.{IsEntryLine, NamesLive, PassesBehind, Query, has_empty, live_lemmas}
 use Rattle.certificate.proofs.Entries.{entry_is}
 use Rattle.certificate.proofs.Passed.{empty_push}
@@ -129,7 +129,7 @@ literal_long : (literal : ℤ) → is_literal literal ≡ true → 0 < length (s
 literal_long (pos n) some = decimal_nonempty n (omega (arith, (number_parts n some).1))
 literal_long (negsuc n) some = omega arith
 
-literals_long : (literals : List ℤ) → IsTrue (clause_within MOST_VARIABLES literals) → 2 * (length literals + 1) ≤ length (literals_text literals) + 1
+pub literals_long : (literals : List ℤ) → IsTrue (clause_within MOST_VARIABLES literals) → 2 * (length literals + 1) ≤ length (literals_text literals) + 1
 literals_long [] within = omega arith
 literals_long (literal ∷ literals) within =
     let parts = and_parts (is_literal literal) (clause_within MOST_VARIABLES literals) within in
@@ -147,9 +147,9 @@ entry_long (Lemma literals hints) some =
     omega (arith, literals_long literals parts.0, hints_long hints parts.1, length-append (literals_text literals) (32 ∷ hints_text hints))
 entry_long (Forget number) some = omega arith
 
-pub line_long : (version : Version) (line : List ℕ) (entry : LogEntry) → IsEntryLine version line entry → 2 * entry_words entry ≤ length line + 1
-line_long version line entry is =
-    omega (arith, entry_long entry (entry_is version line entry is), ap (λ (text : List ℕ). length text) is.is)
+pub line_long : (form : Form) (line : List ℕ) (entry : LogEntry) → IsEntryLine form line entry → 2 * entry_words entry ≤ length line + 1
+line_long form line entry is =
+    omega (arith, entry_long entry (entry_is form line entry is), ap (λ (text : List ℕ). length text) is.is)
 
 -- what is held takes no more bytes than the lines had
 pub bytes_after : (old new : Checking) (entry : LogEntry) (step : Step) (size : ℕ) → 2 * entry_words entry ≤ size + 1 → Answers old entry step new → bytes_of new ≤ bytes_of old + size + 1

@@ -1,5 +1,6 @@
 mod Becoming
 mod Blocking
+mod Clausing
 mod Heads
 mod Holding
 mod Moving

@@ -7,7 +7,7 @@ use Rattle.std.proofs.lemmas.List.{length_push}
 use Rattle.std.proofs.lemmas.List.Folds.{list_all-append}
 use Rattle.log_lines.specs.Lines.{lacks}
 use Rattle.certificate.specs.declared.answer.CertReason.{CertReason}
-use Rattle.certificate.specs.declared.answer.CertReason.TheVariants.{BadHeader, BadLine, WrongAssertion, LemmaFails, NoEmptyClause, EndsInside, TrailingBytes, TooManyLive, BadDrop}
+use Rattle.certificate.specs.declared.answer.CertReason.TheVariants.{BadHeader, BadLine, WrongAssertion, LemmaFails, NoEmptyClause, EndsInside, TrailingBytes, TooManyLive, BadDrop, BadClause}
 use Rattle.certificate.specs.declared.header.Asked.{Asked}
 use Rattle.certificate.specs.Lines.{lines_text}
 use Rattle.certificate.specs.Phases.{Phase, Follows, IsRefusedLine}
@@ -76,6 +76,7 @@ refusal_of asked queries text EndsInside number refuses = absurd refuses.refused
 refusal_of asked queries text TrailingBytes number refuses = absurd refuses.refused
 refusal_of asked queries text TooManyLive number refuses = refuses
 refusal_of asked queries text BadDrop number refuses = refuses
+refusal_of asked queries text BadClause number refuses = refuses
 
 pub refused_next : (asked : Asked) (queries : Queries) (text : List ℕ) (phase : Phase) (reading : Reading) (line behind : List ℕ) (reason : CertReason) (number : ℕ)
     → IsAt asked queries text phase reading → reading.rest.now ≡ line ++ 10 ∷ behind → IsTrue (lacks 10 line) → IsRefusedLine asked queries phase line reason

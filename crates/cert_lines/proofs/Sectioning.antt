@@ -1,16 +1,16 @@
 -- A section, line by line.
-use Rattle.std.proofs.Common.{◌≡◌, inl, inr, ◌∙◌, ap, sym, subst, ℕ, ◌+◌, ◌≤◌, List, [], ◌∷◌, ◌++◌, length, arith, refl, length-append}
+use Rattle.std.proofs.Common.{◌≡◌, inl, inr, ◌∙◌, ap, sym, subst, ℕ, ℤ, ◌+◌, ◌≤◌, List, [], ◌∷◌, ◌++◌, length, arith, refl, length-append}
 use Rattle.psl_base.specs.Places.{file_limit}
 use Rattle.clauses.specs.Logs.{LogEntry}
 use Rattle.certificate.specs.declared.answer.CertReason.{CertReason}
-use Rattle.certificate.specs.declared.answer.CertReason.TheVariants.{BadHeader, BadLine, WrongAssertion, LemmaFails, NoEmptyClause, EndsInside, TrailingBytes, TooManyLive, BadDrop}
+use Rattle.certificate.specs.declared.answer.CertReason.TheVariants.{BadHeader, BadLine, WrongAssertion, LemmaFails, NoEmptyClause, EndsInside, TrailingBytes, TooManyLive, BadDrop, BadClause}
 use Rattle.certificate.specs.declared.header.Asked.{Asked}
 use Rattle.certificate.specs.declared.header.Header.{Header}
 use Rattle.certificate.specs.declared.header.Section.{Section}
 use Rattle.certificate.specs.Lines.{end_line}
 use Rattle.certificate.specs.Phases.{IsRefusedLine, behind_section}
 use Rattle.certificate.specs.Phases.Phase.{InSection}
-use Rattle.certificate.specs.Sections.{IsEntryLine, IsSectionRefused, IsTaken, Queries, Query}
+use Rattle.certificate.specs.Sections.{IsEntryLine, IsSectionRefused, IsTaken, Queries, Query, query_at}
 use Rattle.cert_lines.specs.declared.entries.LineStep.TheVariants as steps
 use Rattle.cert_lines.specs.declared.entries.SectionChecker.{SectionChecker}
 use Rattle.cert_lines.specs.declared.reading.Reading.{Reading}
@@ -25,8 +25,8 @@ pub record SectionAt (header : Header) (section : Section) (query : Query) (begi
   pub holds : Holds query entries checker
   pub header_is : checker.header ≡ header
   pub section_is : checker.section ≡ section
-  pub at : (asked : Asked) (queries : Queries) (text : List ℕ) → queries section header.visits header.window ≡ query
-      → IsAt asked queries text (InSection header section []) begin → IsAt asked queries text (InSection header section entries) reading
+  pub at : (asked : Asked) (queries : Queries) (text : List ℕ) (clauses : List (List ℤ)) → query_at queries header clauses section ≡ query
+      → IsAt asked queries text (InSection header clauses section []) begin → IsAt asked queries text (InSection header clauses section entries) reading
   pub room : taken_bytes checker + length reading.rest.now ≤ file_limit
 
 -- none was
@@ -37,7 +37,7 @@ none_taken header section query begin checker holds header_is section_is bytes =
   holds = holds;
   header_is = header_is;
   section_is = section_is;
-  at = λ asked queries text same at. at;
+  at = λ asked queries text clauses same at. at;
   room = omega (arith, bytes, begin.some, begin.few);
 }
 
@@ -47,7 +47,7 @@ module _ (header : Header) (section : Section) (query : Query) (begin reading : 
   has_room line new takes = omega (arith, so_far.room, ap length takes.is, length-append line (10 ∷ new.rest.now))
 
   -- one more is taken
-  pub entry_next : (line : List ℕ) (new : Reading) (after : SectionChecker) → Takes line reading new → Becomes checker query so_far.entries line steps.Entry after
+  pub entry_next : (line : List ℕ) (new : Reading) (after : SectionChecker) → Takes line reading new → Becomes checker query so_far.entries line steps.Taken after
       → after.header ≡ checker.header → after.section ≡ checker.section → taken_bytes after ≤ taken_bytes checker + length line + 1
       → SectionAt header section query begin new after
   entry_next line new after takes becomes header_is section_is bytes = record {
@@ -55,12 +55,12 @@ module _ (header : Header) (section : Section) (query : Query) (begin reading : 
     holds = becomes.3;
     header_is = header_is ∙ so_far.header_is;
     section_is = section_is ∙ so_far.section_is;
-    at = λ asked queries text same at.
-        at_next asked queries text (InSection header section so_far.entries) (InSection header section (so_far.entries ++ becomes.0 ∷ [])) line reading new
-        (so_far.at asked queries text same at) takes
+    at = λ asked queries text clauses same at.
+        at_next asked queries text (InSection header clauses section so_far.entries) (InSection header clauses section (so_far.entries ++ becomes.0 ∷ [])) line reading new
+        (so_far.at asked queries text clauses same at) takes
         (inl (
           becomes.0,
-          subst (λ (h : Header). IsEntryLine h.version line becomes.0) so_far.header_is becomes.1,
+          subst (λ (h : Header). IsEntryLine h.form line becomes.0) so_far.header_is becomes.1,
           subst (λ (q : Query). IsTaken header q so_far.entries becomes.0) (sym same)
               (subst (λ (h : Header). IsTaken h query so_far.entries becomes.0) so_far.header_is becomes.2),
           refl,
@@ -71,36 +71,37 @@ module _ (header : Header) (section : Section) (query : Query) (begin reading : 
   -- the section ends
   pub section_ends : (line : List ℕ) (new : Reading) (after : SectionChecker) → Takes line reading new → Becomes checker query so_far.entries line steps.End after
       → StandsBehind header section query begin new
-  section_ends line new after takes becomes = λ asked queries text same at.
-      at_next asked queries text (InSection header section so_far.entries) (behind_section header section) line reading new (so_far.at asked queries text same at) takes
+  section_ends line new after takes becomes = λ asked queries text clauses same at.
+      at_next asked queries text (InSection header clauses section so_far.entries) (behind_section header clauses section) line reading new (so_far.at asked queries text clauses same at) takes
       (inr (subst (λ (s : Section). line ≡ end_line s) so_far.section_is becomes.0, becomes.1, refl))
 
   -- there is no line more
   pub section_cut : (refusal : Refusal) → IsCutAt reading refusal → IsRefusedIn header section query begin refusal
-  section_cut refusal cut = λ asked queries text same at.
-      cut_at asked queries text (InSection header section so_far.entries) reading refusal (so_far.at asked queries text same at) refl cut
+  section_cut refusal cut = λ asked queries text clauses same at.
+      cut_at asked queries text (InSection header clauses section so_far.entries) reading refusal (so_far.at asked queries text clauses same at) refl cut
 
-  outside : (asked : Asked) (queries : Queries) (entries : List LogEntry) (line : List ℕ) (reason : CertReason)
-      → IsSectionRefused header section (queries section header.visits header.window) entries line reason → IsRefusedLine asked queries (InSection header section entries) line reason
-  outside asked queries entries line BadHeader refused = refused
-  outside asked queries entries line BadLine refused = refused
-  outside asked queries entries line WrongAssertion refused = refused
-  outside asked queries entries line LemmaFails refused = refused
-  outside asked queries entries line NoEmptyClause refused = refused
-  outside asked queries entries line EndsInside refused = refused
-  outside asked queries entries line TrailingBytes refused = refused
-  outside asked queries entries line TooManyLive refused = refused
-  outside asked queries entries line BadDrop refused = refused
+  outside : (asked : Asked) (queries : Queries) (clauses : List (List ℤ)) (entries : List LogEntry) (line : List ℕ) (reason : CertReason)
+      → IsSectionRefused header section (query_at queries header clauses section) entries line reason → IsRefusedLine asked queries (InSection header clauses section entries) line reason
+  outside asked queries clauses entries line BadHeader refused = refused
+  outside asked queries clauses entries line BadLine refused = refused
+  outside asked queries clauses entries line WrongAssertion refused = refused
+  outside asked queries clauses entries line LemmaFails refused = refused
+  outside asked queries clauses entries line NoEmptyClause refused = refused
+  outside asked queries clauses entries line EndsInside refused = refused
+  outside asked queries clauses entries line TrailingBytes refused = refused
+  outside asked queries clauses entries line TooManyLive refused = refused
+  outside asked queries clauses entries line BadDrop refused = refused
+  outside asked queries clauses entries line BadClause refused = refused
 
   -- a line is refused
   pub section_refused : (line : List ℕ) (new : Reading) (after : SectionChecker) (reason : CertReason) (refusal : Refusal) → Takes line reading new
       → Becomes checker query so_far.entries line (steps.Refused reason) after → refusal.reason ≡ reason → refusal.line ≡ reading.line
       → IsRefusedIn header section query begin refusal
-  section_refused line new after reason refusal takes becomes reason_is line_is = λ asked queries text same at.
-      refused_next asked queries text (InSection header section so_far.entries) reading line new.rest.now refusal.reason refusal.line (so_far.at asked queries text same at)
+  section_refused line new after reason refusal takes becomes reason_is line_is = λ asked queries text clauses same at.
+      refused_next asked queries text (InSection header clauses section so_far.entries) reading line new.rest.now refusal.reason refusal.line (so_far.at asked queries text clauses same at)
       takes.is takes.whole
-      (subst (λ (r : CertReason). IsRefusedLine asked queries (InSection header section so_far.entries) line r) (sym reason_is)
-      (outside asked queries so_far.entries line reason
+      (subst (λ (r : CertReason). IsRefusedLine asked queries (InSection header clauses section so_far.entries) line r) (sym reason_is)
+      (outside asked queries clauses so_far.entries line reason
       (subst (λ (q : Query). IsSectionRefused header section q so_far.entries line reason) (sym same)
       (subst (λ (s : Section). IsSectionRefused header s query so_far.entries line reason) so_far.section_is
       (subst (λ (h : Header). IsSectionRefused h checker.section query so_far.entries line reason) so_far.header_is becomes)))))

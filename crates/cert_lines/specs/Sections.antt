@@ -1,5 +1,5 @@
 -- What is checked of a section, line by line.
-use Rattle.std.specs.Prelude.{◌≡◌, ℕ, ◌+◌, ◌*◌, Bool, true, false, List, [], ◌∷◌, ◌++◌, length}
+use Rattle.std.specs.Prelude.{◌≡◌, ℕ, ℤ, ◌+◌, ◌*◌, Bool, true, false, List, [], ◌∷◌, ◌++◌, length}
 use Rattle.clause_log.specs.Checking.{Checking, live_literals}
 use Rattle.clause_log.specs.declared.step.Step.{Step}
 use Rattle.clause_log.specs.declared.step.Step.TheVariants.{Passes, Fails, TooManyLive, BadDrop}
@@ -13,7 +13,7 @@ use Rattle.certificate.specs.declared.header.Section.{Section}
 use Rattle.certificate.specs.Lines.{end_line}
 use Rattle.certificate.specs.Phases.{behind_section}
 use Rattle.certificate.specs.Phases.Phase.{InSection}
-use Rattle.certificate.specs.Sections.{IsEntryLine, IsSectionRefused, IsTaken, Queries, Query, has_empty}
+use Rattle.certificate.specs.Sections.{IsEntryLine, IsSectionRefused, IsTaken, Queries, Query, has_empty, query_at}
 use Rattle.cert_lines.specs.declared.entries.LineStep.{LineStep}
 use Rattle.cert_lines.specs.declared.entries.LineStep.TheVariants as steps
 use Rattle.cert_lines.specs.declared.entries.SectionChecker.{SectionChecker}
@@ -44,8 +44,8 @@ taken_bytes section = bytes_of section.checker
 
 -- what becomes of a line behind entries
 abbrev pub Becomes : SectionChecker → Query → List LogEntry → List ℕ → LineStep → SectionChecker → Type 0
-Becomes old query entries line steps.Entry new =
-    (entry : LogEntry) × IsEntryLine old.header.version line entry × IsTaken old.header query entries entry
+Becomes old query entries line steps.Taken new =
+    (entry : LogEntry) × IsEntryLine old.header.form line entry × IsTaken old.header query entries entry
     × Holds query (entries ++ entry ∷ []) new
 Becomes old query entries line steps.End new = (line ≡ end_line old.section) × (has_empty entries ≡ true)
 Becomes old query entries line (steps.Refused reason) new =
@@ -57,20 +57,21 @@ at_end true = steps.End
 at_end false = steps.Refused reasons.NoEmptyClause
 
 abbrev pub step_of : Step → LineStep
-step_of Passes = steps.Entry
+step_of Passes = steps.Taken
 step_of Fails = steps.Refused reasons.LemmaFails
 step_of TooManyLive = steps.Refused reasons.TooManyLive
 step_of BadDrop = steps.Refused reasons.BadDrop
 
--- the lines of a section stand, whatever text it is that they are a part of, where the section has this formula
+-- the lines of a section stand, whatever text it is that they are a part of and whatever clauses stand in front of them,
+-- where the section has this formula
 abbrev pub StandsBehind : Header → Section → Query → Reading → Reading → Type 0
 StandsBehind header section query old new =
-    (asked : Asked) (queries : Queries) (text : List ℕ) → queries section header.visits header.window ≡ query
-    → IsAt asked queries text (InSection header section []) old
-    → IsAt asked queries text (behind_section header section) new
+    (asked : Asked) (queries : Queries) (text : List ℕ) (clauses : List (List ℤ)) → query_at queries header clauses section ≡ query
+    → IsAt asked queries text (InSection header clauses section []) old
+    → IsAt asked queries text (behind_section header clauses section) new
 
 -- one of them is refused
 abbrev pub IsRefusedIn : Header → Section → Query → Reading → Refusal → Type 0
 IsRefusedIn header section query old refusal =
-    (asked : Asked) (queries : Queries) (text : List ℕ) → queries section header.visits header.window ≡ query
-    → IsAt asked queries text (InSection header section []) old → RefusesAs asked queries text refusal
+    (asked : Asked) (queries : Queries) (text : List ℕ) (clauses : List (List ℤ)) → query_at queries header clauses section ≡ query
+    → IsAt asked queries text (InSection header clauses section []) old → RefusesAs asked queries text refusal

@@ -7,19 +7,19 @@ ghost use Rattle.clauses.specs.Entries.{entry_of};
 ghost use Rattle.clauses.specs.Logs.{LogEntry, is_empty_lemma};
 ghost use Rattle.cert_lines.specs.Sections.{Becomes, Holds, at_end, query_of, step_of, taken_bytes};
 
-use certificate::{CertReason, Header, Section, Version};
+use certificate::{CertReason, Form, Header, Section, Version};
 use clause_log::{LogChecker, Step};
 use clauses::{Cnf, Entry};
 use log_lines::{LineRoom, read_entry};
 use psl_base::NoMemory;
 use std::alloc::Global;
 
-/// What becomes of a line of a section.
+/// What becomes of a line of a section, or of one among the clauses.
 #[derive(Clone, Copy, Debug, PartialEq, Eq, Drop)]
 pub(crate) enum LineStep {
-    /// Its entry is taken.
-    Entry,
-    /// It ends the section.
+    /// Its entry or its clause is taken.
+    Taken,
+    /// It ends the section or the clauses.
     End,
     /// It is refused.
     Refused(CertReason),
@@ -68,7 +68,7 @@ impl<'a> SectionChecker<'a> {
         if line == end_line(self.section) {
             return Ok(at_end(self.ended));
         }
-        let Some(entry) = read_entry(line, drops_in(self.header.version), room)? else {
+        let Some(entry) = read_entry(line, drops_in(self.header.form), room)? else {
             return Ok(LineStep::Refused(CertReason::BadLine));
         };
         if self.ended {
@@ -96,7 +96,7 @@ fn step_of(step: Step) -> LineStep
     ensures { result ≡ step_of step }
 {
     match step {
-        Step::Passes => LineStep::Entry,
+        Step::Passes => LineStep::Taken,
         Step::Fails => LineStep::Refused(CertReason::LemmaFails),
         Step::TooManyLive => LineStep::Refused(CertReason::TooManyLive),
         Step::BadDrop => LineStep::Refused(CertReason::BadDrop),
@@ -120,15 +120,19 @@ fn end_line(section: Section) -> &'static [u8]
     match section {
         Section::Base => b"induction",
         Section::Induction => b"end",
+        Section::Initial => b"step",
+        Section::Step => b"bad",
+        Section::Bad => b"end",
     }
 }
 
 /// Whether drops have lines.
-fn drops_in(version: Version) -> bool
-    ensures { result ≡ drops_in version }
+fn drops_in(form: Form) -> bool
+    ensures { result ≡ drops_in form }
 {
-    match version {
-        Version::One => false,
-        Version::Two => true,
+    match form {
+        Form::Windowed(Version::One) => false,
+        Form::Windowed(Version::Two) => true,
+        Form::Clausal => true,
     }
 }

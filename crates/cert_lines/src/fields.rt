@@ -1,28 +1,27 @@
 // The lines of a header.
-ghost use Rattle.std.specs.Prelude.{IfOk, IfErr};
-ghost use Rattle.certificate.specs.Lines.{base_line};
+ghost use Rattle.std.specs.Prelude.{◌≡◌, IfOk, IfErr};
+ghost use Rattle.certificate.specs.Lines.{last_line};
 ghost use Rattle.cert_lines.specs.Readings.{IsRefusedBy, Takes};
-ghost use Rattle.cert_lines.specs.Fields.{GivesLive, GivesNumber, GivesVersion, IsAskedFor, IsNoAsked, IsNoBase, IsNoLive, IsNoNumber, IsNoVersion};
+ghost use Rattle.cert_lines.specs.Fields.{GivesForm, GivesLive, GivesNumber, GivesWindow, IsAskedFor};
+ghost use Rattle.cert_lines.specs.Fields.{IsNoAsked, IsNoForm, IsNoLast, IsNoLive, IsNoNumber, IsNoWindow};
 
+use crate::forms::form_of;
 use crate::numbers::number_in;
 use crate::{Reading, Refusal};
-use certificate::{Asked, CertReason, Field, Version};
+use certificate::{Asked, CertReason, Field, Form, Version};
 use clauses::MOST_VARIABLES;
 
 impl<'a> Reading<'a> {
-    /// The version that the first line names.
-    pub(crate) fn version(&mut self) -> Result<Version, Refusal>
-        ensures version { IfOk result (λ version. GivesVersion version self.old self.new) }
-        ensures refused { IfErr result (IsRefusedBy IsNoVersion self.old) }
+    /// The form that the first line names.
+    pub(crate) fn form(&mut self) -> Result<Form, Refusal>
+        ensures form { IfOk result (λ form. GivesForm form self.old self.new) }
+        ensures refused { IfErr result (IsRefusedBy IsNoForm self.old) }
     {
         let bad = self.refused(CertReason::BadHeader);
         let line = self.next()?;
-        if line == b"pslc-cert 1".as_slice() {
-            Ok(Version::One)
-        } else if line == b"pslc-cert 2".as_slice() {
-            Ok(Version::Two)
-        } else {
-            Err(bad)
+        match form_of(line) {
+            Some(form) => Ok(form),
+            None => Err(bad),
         }
     }
 
@@ -53,28 +52,50 @@ impl<'a> Reading<'a> {
         }
     }
 
-    /// How many lemmas may be live, where the version says it.
-    pub(crate) fn live(&mut self, version: Version) -> Result<u32, Refusal>
-        ensures live { IfOk result (λ live. GivesLive version live self.old self.new) }
-        ensures refused { IfErr result (IsRefusedBy (IsNoLive version) self.old) }
+    /// The window, where the certificate has one, and else 1.
+    pub(crate) fn window(&mut self, form: Form) -> Result<u32, Refusal>
+        ensures window { IfOk result (λ window. GivesWindow form window self.old self.new) }
+        ensures refused { IfErr result (IsRefusedBy (IsNoWindow form) self.old) }
     {
-        match version {
-            Version::One => Ok(MOST_VARIABLES),
-            Version::Two => self.number(Field::Live),
+        match form {
+            Form::Windowed(_) => self.number(Field::Window),
+            Form::Clausal => Ok(1),
+        }
+    }
+
+    /// How many lemmas may be live, where a line says it.
+    pub(crate) fn live(&mut self, form: Form) -> Result<u32, Refusal>
+        ensures live { IfOk result (λ live. GivesLive form live self.old self.new) }
+        ensures refused { IfErr result (IsRefusedBy (IsNoLive form) self.old) }
+    {
+        match form {
+            Form::Windowed(Version::One) => Ok(MOST_VARIABLES),
+            Form::Windowed(Version::Two) => self.number(Field::Live),
+            Form::Clausal => self.number(Field::Live),
         }
     }
 
     /// The last line of the header.
-    pub(crate) fn base(&mut self) -> Result<(), Refusal>
-        ensures base { IfOk result (λ _. Takes base_line self.old self.new) }
-        ensures refused { IfErr result (IsRefusedBy IsNoBase self.old) }
+    pub(crate) fn last(&mut self, form: Form) -> Result<(), Refusal>
+        ensures last { IfOk result (λ _. Takes (last_line form) self.old self.new) }
+        ensures refused { IfErr result (IsRefusedBy (IsNoLast form) self.old) }
     {
         let bad = self.refused(CertReason::BadHeader);
         let line = self.next()?;
-        if line == b"base".as_slice() {
+        if line == last_line(form) {
             Ok(())
         } else {
             Err(bad)
         }
+    }
+}
+
+/// The last line of the header of a form.
+fn last_line(form: Form) -> &'static [u8]
+    ensures { result.now ≡ last_line form }
+{
+    match form {
+        Form::Windowed(_) => b"base",
+        Form::Clausal => b"clauses",
     }
 }

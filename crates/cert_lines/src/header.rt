@@ -1,9 +1,8 @@
 // The header of a certificate.
-ghost use Rattle.std.specs.Prelude.{◌≡◌, [], IfOk, IfErr};
+ghost use Rattle.std.specs.Prelude.{◌≡◌, IfOk, IfErr};
 ghost use Rattle.certificate.specs.declared.header.Header.{Header};
-ghost use Rattle.certificate.specs.declared.header.Section.TheVariants.{Base};
 ghost use Rattle.certificate.specs.Headers.{HasHeader};
-ghost use Rattle.certificate.specs.Phases.Phase.{InSection};
+ghost use Rattle.certificate.specs.Phases.{behind_header};
 ghost use Rattle.certificate.specs.Sections.{Queries};
 ghost use Rattle.cert_lines.specs.Readings.{IsAt, RefusesAs};
 
@@ -18,20 +17,20 @@ use certificate::{Asked, Field, Header};
 pub fn read_header(asked: Asked, reading: &mut Reading<'_>) -> Result<Header, Refusal>
     requires { reading.old.line ≡ 1 }
     ensures header { IfOk result (HasHeader asked reading.old.rest.now) }
-    ensures base { IfOk result (λ header. (queries : Queries)
-        → IsAt asked queries reading.old.rest.now (InSection header Base []) reading.new) }
+    ensures behind { IfOk result (λ header. (queries : Queries)
+        → IsAt asked queries reading.old.rest.now (behind_header header) reading.new) }
     ensures refused { IfErr result (λ refusal. (queries : Queries)
         → RefusesAs asked queries reading.old.rest.now refusal) }
     ensures none { IfErr result (λ _. (header : Header) → HasHeader asked reading.old.rest.now header → ⊥) }
 {
-    let version = reading.version()?;
+    let form = reading.form()?;
     reading.asked(asked)?;
     let visits = reading.number(Field::Visits)?;
-    let window = reading.number(Field::Window)?;
-    let live = reading.live(version)?;
-    reading.base()?;
+    let window = reading.window(form)?;
+    let live = reading.live(form)?;
+    reading.last(form)?;
     Ok(Header {
-        version,
+        form,
         visits,
         window,
         live,

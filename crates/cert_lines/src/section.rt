@@ -35,7 +35,7 @@ pub fn check_section(
             Err(refusal) => return Ok(Some(refusal)),
         };
         match checker.take(line, &mut room)? {
-            LineStep::Entry => {}
+            LineStep::Taken => {}
             LineStep::End => return Ok(None),
             LineStep::Refused(reason) => {
                 return Ok(Some(Refusal {

@@ -1,5 +1,6 @@
--- A line of a section is that of one entry, or the word at its end.
-use Rattle.std.proofs.Common.{◌≡◌, ◌∙◌, ap, sym, ℕ, ℤ, true, false, not, eqb, ◌||◌, List, [], ◌∷◌, ◌++◌, refl}
+-- A line of a section is that of one entry, or the word at its end; and so is a line among clauses.
+use Rattle.std.proofs.Common.{◌≡◌, ◌∙◌, ap, sym, ℕ, ℤ, true, false, not, eqb, ◌||◌, List, [], ◌∷◌, ◌++◌, get_or, arith, refl}
+use Rattle.std.specs.Fmt.{signed_decimal}
 use Rattle.std.specs.List.{All}
 use Rattle.std.proofs.lemmas.Bool.{and_parts, false≢true}
 use Rattle.std.proofs.lemmas.List.Elements.{All-head, All-tail}
@@ -7,12 +8,12 @@ use Rattle.std.proofs.lemmas.List.Folds.{list_all-append}
 use Rattle.clauses.specs.Logs.{LogEntry, is_empty_lemma, is_entry, is_lemma}
 use Rattle.clauses.specs.Logs.LogEntry.{Lemma, Forget}
 use Rattle.log_lines.specs.Lines.{entry_text, hints_text, lacks, literals_text}
-use Rattle.log_lines.proofs.Once.{entry_once}
+use Rattle.log_lines.proofs.Once.{entry_once, literals_once}
+use Rattle.certificate.specs.declared.header.Form.{Form}
 use Rattle.certificate.specs.declared.header.Header.{Header}
 use Rattle.certificate.specs.declared.header.Section.{Section}
-use Rattle.certificate.specs.declared.header.Section.TheVariants.{Base, Induction}
-use Rattle.certificate.specs.declared.header.Version.{Version}
-use Rattle.certificate.specs.Lines.{end_line}
+use Rattle.certificate.specs.declared.header.Section.TheVariants.{Base, Induction, Initial, Step, Bad}
+use Rattle.certificate.specs.Lines.{IsClauseLine, end_line, initial_line}
 use Rattle.certificate.specs.Sections.{IsEntryLine, IsTaken, PassesBehind, Query, drops_in, has_empty}
 
 -- a blank stands in the line of an entry
@@ -29,16 +30,31 @@ entry_blank (Forget number) none = false≢true none
 end_lacks : (section : Section) → lacks 32 (end_line section) ≡ true
 end_lacks Base = refl
 end_lacks Induction = refl
+end_lacks Initial = refl
+end_lacks Step = refl
+end_lacks Bad = refl
 
-pub no_end : (version : Version) (section : Section) (line : List ℕ) (entry : LogEntry) → IsEntryLine version line entry → line ≡ end_line section → ⊥
-no_end version section line entry is end = entry_blank entry (ap (lacks 32) (sym is.is ∙ end) ∙ end_lacks section)
+pub no_end : (form : Form) (section : Section) (line : List ℕ) (entry : LogEntry) → IsEntryLine form line entry → line ≡ end_line section → ⊥
+no_end form section line entry is end = entry_blank entry (ap (lacks 32) (sym is.is ∙ end) ∙ end_lacks section)
 
-pub entry_is : (version : Version) (line : List ℕ) (entry : LogEntry) → IsEntryLine version line entry → is_entry entry ≡ true
-entry_is version line entry is = (and_parts (is_entry entry) (drops_in version || is_lemma entry) is.has).0
+pub entry_is : (form : Form) (line : List ℕ) (entry : LogEntry) → IsEntryLine form line entry → is_entry entry ≡ true
+entry_is form line entry is = (and_parts (is_entry entry) (drops_in form || is_lemma entry) is.has).0
 
-pub entry_same : (version : Version) (line : List ℕ) (entry other : LogEntry) → IsEntryLine version line entry → IsEntryLine version line other → entry ≡ other
-entry_same version line entry other one two =
-    entry_once entry other (entry_is version line entry one) (entry_is version line other two) (sym one.is ∙ two.is)
+pub entry_same : (form : Form) (line : List ℕ) (entry other : LogEntry) → IsEntryLine form line entry → IsEntryLine form line other → entry ≡ other
+entry_same form line entry other one two =
+    entry_once entry other (entry_is form line entry one) (entry_is form line other two) (sym one.is ∙ two.is)
+
+-- a line is that of one clause, and the word behind the clauses is none
+pub clause_same : (line : List ℕ) (clause other : List ℤ) → IsClauseLine line clause → IsClauseLine line other → clause ≡ other
+clause_same line clause other one two =
+    (literals_once clause other [] [] one.has two.has tt tt (ap (λ (text : List ℕ). text ++ []) (sym one.is ∙ two.is))).0
+
+literals_initial : (clause : List ℤ) → literals_text clause ≡ initial_line → ⊥
+literals_initial [] same = omega (arith, ap (λ (text : List ℕ). get_or text 0 0) same)
+literals_initial (literal ∷ literals) same = blank_in (signed_decimal literal) (literals_text literals) (ap (lacks 32) same)
+
+pub no_initial : (line : List ℕ) (clause : List ℤ) → IsClauseLine line clause → line ≡ initial_line → ⊥
+no_initial line clause is initial = literals_initial clause (sym is.is ∙ initial)
 
 -- whether the empty lemma stands among entries
 pub none_empty : (entries : List LogEntry) → All (λ entry. is_empty_lemma entry ≡ false) entries → has_empty entries ≡ false

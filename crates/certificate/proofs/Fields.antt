@@ -4,10 +4,11 @@ use Rattle.std.specs.Prelude.{decimal}
 use Rattle.std.proofs.lemmas.Fmt.{decimal_injective}
 use Rattle.certificate.specs.declared.header.Field.{Field}
 use Rattle.certificate.specs.declared.header.Field.TheVariants.{Assertion, Visits, Window, Live}
-use Rattle.certificate.specs.declared.header.Version.{Version}
+use Rattle.certificate.specs.declared.header.Form.{Form}
+use Rattle.certificate.specs.declared.header.Form.TheVariants.{Windowed, Clausal}
 use Rattle.certificate.specs.declared.header.Version.TheVariants.{One, Two}
 use Rattle.certificate.specs.Headers.{MayBe, Says}
-use Rattle.certificate.specs.Lines.{field_line, version_line, word_of}
+use Rattle.certificate.specs.Lines.{field_line, form_line, word_of}
 
 pub small_number : (field : Field) (number : ℕ) → MayBe field number → number < 2 ^ 64
 small_number Assertion number may = omega (arith, may.most)
@@ -27,8 +28,30 @@ says_once field line number other one two =
     decimal_injective number other (small_number field number one.may) (small_number field other two.may)
     (sym (digits_behind field number) ∙ ap (drop (suc (length (word_of field)))) (sym one.is ∙ two.is) ∙ digits_behind field other)
 
-pub version_once : (version other : Version) → version_line version ≡ version_line other → version ≡ other
-version_once One One same = refl
-version_once One Two same = let last : 49 ≡ 50 = ap (λ (text : List ℕ). get_or text 10 0) same in absurd (omega (arith, last))
-version_once Two One same = let last : 50 ≡ 49 = ap (λ (text : List ℕ). get_or text 10 0) same in absurd (omega (arith, last))
-version_once Two Two same = refl
+-- the digit at the end of a first line
+digit_of : Form → ℕ
+digit_of (Windowed One) = 49
+digit_of (Windowed Two) = 50
+digit_of Clausal = 51
+
+digit_is : (form : Form) → get_or (form_line form) 10 0 ≡ digit_of form
+unfolding digit_of
+digit_is (Windowed One) = refl
+digit_is (Windowed Two) = refl
+digit_is Clausal = refl
+
+digit_once : (form other : Form) → digit_of form ≡ digit_of other → form ≡ other
+unfolding digit_of
+digit_once (Windowed One) (Windowed One) same = refl
+digit_once (Windowed One) (Windowed Two) same = absurd (omega (arith, same))
+digit_once (Windowed One) Clausal same = absurd (omega (arith, same))
+digit_once (Windowed Two) (Windowed One) same = absurd (omega (arith, same))
+digit_once (Windowed Two) (Windowed Two) same = refl
+digit_once (Windowed Two) Clausal same = absurd (omega (arith, same))
+digit_once Clausal (Windowed One) same = absurd (omega (arith, same))
+digit_once Clausal (Windowed Two) same = absurd (omega (arith, same))
+digit_once Clausal Clausal same = refl
+
+pub form_once : (form other : Form) → form_line form ≡ form_line other → form ≡ other
+form_once form other same =
+    digit_once form other (sym (digit_is form) ∙ ap (λ (text : List ℕ). get_or text 10 0) same ∙ digit_is other)

@@ -1,3 +1,4 @@
+pub mod ClausesOnce
 pub mod Entries
 mod ExamplesHold
 pub mod Fields

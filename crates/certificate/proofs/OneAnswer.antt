@@ -9,7 +9,7 @@ use Rattle.log_lines.proofs.Splitting.{split_once}
 use Rattle.certificate.specs.declared.answer.CertAnswer.{CertAnswer}
 use Rattle.certificate.specs.declared.answer.CertAnswer.TheVariants.{Passed, Refused}
 use Rattle.certificate.specs.declared.answer.CertReason.{CertReason}
-use Rattle.certificate.specs.declared.answer.CertReason.TheVariants.{BadHeader, BadLine, WrongAssertion, LemmaFails, NoEmptyClause, EndsInside, TrailingBytes, TooManyLive, BadDrop}
+use Rattle.certificate.specs.declared.answer.CertReason.TheVariants.{BadHeader, BadLine, WrongAssertion, LemmaFails, NoEmptyClause, EndsInside, TrailingBytes, TooManyLive, BadDrop, BadClause}
 use Rattle.certificate.specs.declared.header.Asked.{Asked}
 use Rattle.certificate.specs.Lines.{lines_text}
 use Rattle.certificate.specs.Phases.{Phase, Follows, IsRefusedLine}
@@ -207,6 +207,7 @@ answered asked queries text (Refused EndsInside number) is = cut asked queries t
 answered asked queries text (Refused TrailingBytes number) is = long asked queries text number is
 answered asked queries text (Refused TooManyLive number) is = refuses asked queries text TooManyLive number is
 answered asked queries text (Refused BadDrop number) is = refuses asked queries text BadDrop number is
+answered asked queries text (Refused BadClause number) is = refuses asked queries text BadClause number is
 
 pub one_answer : (asked : Asked) (queries : Queries) (text : List ℕ) (answer other : CertAnswer) → IsAnswer asked queries text answer → IsAnswer asked queries text other → answer ≡ other
 one_answer asked queries text answer other one two =

@@ -1,18 +1,23 @@
--- A text that is passed holds two logs, and each refutes its formula.
-use Rattle.std.proofs.Common.{◌≡◌, inl, inr, ◌∙◌, ap, sym, subst, ℕ, Bool, true, false, ◌||◌, List, [], ◌∷◌, ◌++◌, refl}
-use Rattle.std.proofs.lemmas.Bool.{false≢true}
+-- A text that is passed holds logs, and each refutes its formula.
+use Rattle.std.proofs.Common.{◌≡◌, inl, inr, ◌∙◌, ap, sym, subst, ℕ, ℤ, Bool, true, false, ◌||◌, List, [], ◌∷◌, ◌++◌, refl}
+use Rattle.std.specs.Bool.{IsTrue}
+use Rattle.std.proofs.lemmas.Bool.{and_from, false≢true}
 use Rattle.std.proofs.lemmas.List.Elements.{All-nil}
+use Rattle.std.proofs.lemmas.List.Folds.{list_all-append}
+use Rattle.clauses.specs.Literals.{clause_within, clauses_within}
 use Rattle.clauses.specs.Logs.{LogEntry, AllPass, LemmaPasses, is_empty_lemma, is_lemma}
 use Rattle.clauses.specs.Logs.LogEntry.{Lemma, Forget}
 use Rattle.clauses.proofs.Lives.{each_lemma-push, each_lemma-push_drop}
 use Rattle.certificate.specs.declared.header.Asked.{Asked}
 use Rattle.certificate.specs.declared.header.Header.{Header}
-use Rattle.certificate.specs.declared.header.Section.TheVariants.{Base, Induction}
-use Rattle.certificate.specs.declared.header.Version.{Version}
+use Rattle.certificate.specs.declared.header.Form.{Form}
+use Rattle.certificate.specs.declared.header.Form.TheVariants.{Windowed, Clausal}
+use Rattle.certificate.specs.declared.header.Section.{Section}
+use Rattle.certificate.specs.declared.header.Section.TheVariants.{Base, Induction, Initial, Step, Bad}
 use Rattle.certificate.specs.declared.header.Version.TheVariants.{One, Two}
-use Rattle.certificate.specs.Phases.{Phase, Follows, behind_window}
-use Rattle.certificate.specs.Phases.Phase.{AtVersion, AtAssertion, AtVisits, AtWindow, AtLive, AtBase, InSection, AtEnd}
-use Rattle.certificate.specs.Sections.{IsTaken, Queries, Query, has_empty}
+use Rattle.certificate.specs.Phases.{Phase, Follows, NamesBits, behind_form, behind_section, behind_visits, behind_window}
+use Rattle.certificate.specs.Phases.Phase.{AtVersion, AtAssertion, AtVisits, AtWindow, AtLive, AtLast, InClauses, InSection, AtEnd}
+use Rattle.certificate.specs.Sections.{IsTaken, Queries, Query, has_empty, query_at}
 use Rattle.certificate.specs.Shown.{IsRefuted, IsShown}
 use Rattle.certificate.specs.Texts.{FollowAll, IsPassed}
 use Rattle.certificate.proofs.Entries.{passes_none}
@@ -59,51 +64,101 @@ refuted query entries progress some =
       record { all_pass = progress.passed; before = last.0; hints = last.1; behind = []; is = last.2; last = All-nil (λ entry. is_lemma entry ≡ false) },
     )
 
+-- the clauses of a certificate name state bits
+AreWithin : Queries → Header → List (List ℤ) → Type 0
+AreWithin queries header clauses = IsTrue (clauses_within (queries.width header.visits) clauses)
+
+none_within : (queries : Queries) (header : Header) → AreWithin queries header []
+unfolding AreWithin
+none_within queries header = refl
+
+one_within : (queries : Queries) (header : Header) (clauses : List (List ℤ)) (clause : List ℤ) → AreWithin queries header clauses → NamesBits (queries.width header.visits) clause
+    → AreWithin queries header (clauses ++ clause ∷ [])
+unfolding AreWithin
+one_within queries header clauses clause all here =
+    let width = queries.width header.visits in
+    list_all-append (clause_within width) clauses (clause ∷ [])
+    ∙ and_from (clauses_within width clauses) (clauses_within width (clause ∷ [])) all (and_from (clause_within width clause) true here refl)
+
+-- what is known of the sections in front of one
+Before : Queries → Header → List (List ℤ) → Section → Type 0
+Before queries header clauses Base = Unit {0}
+Before queries header clauses Induction = IsRefuted (queries.base header.visits header.window)
+Before queries header clauses Initial = AreWithin queries header clauses
+Before queries header clauses Step = AreWithin queries header clauses × IsRefuted (queries.initial header.visits clauses)
+Before queries header clauses Bad =
+    AreWithin queries header clauses × IsRefuted (queries.initial header.visits clauses) × IsRefuted (queries.step header.visits clauses)
+
+first_before : (queries : Queries) (header : Header) (clauses : List (List ℤ)) → AreWithin queries header clauses → Before queries header clauses Initial
+unfolding Before
+first_before queries header clauses within = within
+
 -- what is known at a phase
 Known : Asked → Queries → Phase → Type 0
 Known asked queries AtVersion = Unit {0}
-Known asked queries (AtAssertion version) = Unit {0}
-Known asked queries (AtVisits version) = asked.is_assertion ≡ true
-Known asked queries (AtWindow version visits) = asked.is_assertion ≡ true
-Known asked queries (AtLive visits window) = asked.is_assertion ≡ true
-Known asked queries (AtBase header) = asked.is_assertion ≡ true
-Known asked queries (InSection header Base entries) =
-    (asked.is_assertion ≡ true) × Progress (queries Base header.visits header.window) entries
-Known asked queries (InSection header Induction entries) =
-    (asked.is_assertion ≡ true) × IsRefuted (queries Base header.visits header.window)
-    × Progress (queries Induction header.visits header.window) entries
+Known asked queries (AtAssertion form) = Unit {0}
+Known asked queries (AtVisits form) = asked.is_assertion ≡ true
+Known asked queries (AtWindow form visits) = asked.is_assertion ≡ true
+Known asked queries (AtLive form visits window) = asked.is_assertion ≡ true
+Known asked queries (AtLast header) = asked.is_assertion ≡ true
+Known asked queries (InClauses header clauses) = (asked.is_assertion ≡ true) × AreWithin queries header clauses
+Known asked queries (InSection header clauses section entries) =
+    (asked.is_assertion ≡ true) × Before queries header clauses section × Progress (query_at queries header clauses section) entries
 Known asked queries AtEnd = IsShown asked queries
 
-behind_known : (asked : Asked) (queries : Queries) (version : Version) (visits window : ℕ) → asked.is_assertion ≡ true → Known asked queries (behind_window version visits window)
+windowed_known : (asked : Asked) (queries : Queries) (form : Form) (visits window : ℕ) → asked.is_assertion ≡ true → Known asked queries (behind_window form visits window)
 unfolding Known
-behind_known asked queries One visits window is = is
-behind_known asked queries Two visits window is = is
+windowed_known asked queries (Windowed One) visits window is = is
+windowed_known asked queries (Windowed Two) visits window is = is
+windowed_known asked queries Clausal visits window is = is
+
+visited_known : (asked : Asked) (queries : Queries) (form : Form) (visits : ℕ) → asked.is_assertion ≡ true → Known asked queries (behind_visits form visits)
+unfolding Known
+visited_known asked queries (Windowed version) visits is = is
+visited_known asked queries Clausal visits is = is
+
+headed_known : (asked : Asked) (queries : Queries) (form : Form) (header : Header) → asked.is_assertion ≡ true → Known asked queries (behind_form form header)
+unfolding Known Before AreWithin
+headed_known asked queries (Windowed version) header is = (is, tt, nothing (queries.base header.visits header.window))
+headed_known asked queries Clausal header is = (is, none_within queries header)
+
+-- behind a section
+ended_known : (asked : Asked) (queries : Queries) (header : Header) (clauses : List (List ℤ)) (section : Section) → asked.is_assertion ≡ true
+    → Before queries header clauses section → IsRefuted (query_at queries header clauses section) → Known asked queries (behind_section header clauses section)
+unfolding Known Before AreWithin
+ended_known asked queries header clauses Base is before refuted_ = (is, refuted_, nothing (queries.induction header.visits header.window))
+ended_known asked queries header clauses Induction is before refuted_ = record {
+  is_assertion = is;
+  by = inl (record { visits = header.visits; window = header.window; base = before; induction = refuted_ });
+}
+ended_known asked queries header clauses Initial is before refuted_ = (is, (before, refuted_), nothing (queries.step header.visits clauses))
+ended_known asked queries header clauses Step is before refuted_ = (is, (before.0, before.1, refuted_), nothing (queries.bad header.visits clauses))
+ended_known asked queries header clauses Bad is before refuted_ = record {
+  is_assertion = is;
+  by = inr (record { visits = header.visits; clauses = clauses; within = before.0; initial = before.1; step = before.2; bad = refuted_ });
+}
 
 known_next : (asked : Asked) (queries : Queries) (phase : Phase) (line : List ℕ) (next : Phase) → Known asked queries phase → Follows asked queries phase line next → Known asked queries next
 unfolding Known
 known_next asked queries AtVersion line next known follows = subst (Known asked queries) (sym follows.2) tt
-known_next asked queries (AtAssertion version) line next known follows = subst (Known asked queries) (sym follows.3) follows.2.1
-known_next asked queries (AtVisits version) line next known follows = subst (Known asked queries) (sym follows.2) known
-known_next asked queries (AtWindow version visits) line next known follows =
-    subst (Known asked queries) (sym follows.2) (behind_known asked queries version visits follows.0 known)
-known_next asked queries (AtLive visits window) line next known follows = subst (Known asked queries) (sym follows.2) known
-known_next asked queries (AtBase header) line next known follows =
-    subst (Known asked queries) (sym follows.1) (known, nothing (queries Base header.visits header.window))
-known_next asked queries (InSection header Base entries) line next known (inl follows) =
-    subst (Known asked queries) (sym follows.3) (known.0, taken header (queries Base header.visits header.window) entries follows.0 known.1 follows.2)
-known_next asked queries (InSection header Base entries) line next known (inr follows) =
+known_next asked queries (AtAssertion form) line next known follows = subst (Known asked queries) (sym follows.3) follows.2.1
+known_next asked queries (AtVisits form) line next known follows =
+    subst (Known asked queries) (sym follows.2) (visited_known asked queries form follows.0 known)
+known_next asked queries (AtWindow form visits) line next known follows =
+    subst (Known asked queries) (sym follows.2) (windowed_known asked queries form visits follows.0 known)
+known_next asked queries (AtLive form visits window) line next known follows = subst (Known asked queries) (sym follows.2) known
+known_next asked queries (AtLast header) line next known follows =
+    subst (Known asked queries) (sym follows.1) (headed_known asked queries header.form header known)
+known_next asked queries (InClauses header clauses) line next known (inl follows) =
+    subst (Known asked queries) (sym follows.3) (known.0, one_within queries header clauses follows.0 known.1 follows.2)
+known_next asked queries (InClauses header clauses) line next known (inr follows) =
+    subst (Known asked queries) (sym follows.1) (known.0, first_before queries header clauses known.1, nothing (queries.initial header.visits clauses))
+known_next asked queries (InSection header clauses section entries) line next known (inl follows) =
+    subst (Known asked queries) (sym follows.3)
+    (known.0, known.1, taken header (query_at queries header clauses section) entries follows.0 known.2 follows.2)
+known_next asked queries (InSection header clauses section entries) line next known (inr follows) =
     subst (Known asked queries) (sym follows.2)
-    (known.0, refuted (queries Base header.visits header.window) entries known.1 follows.1, nothing (queries Induction header.visits header.window))
-known_next asked queries (InSection header Induction entries) line next known (inl follows) =
-    subst (Known asked queries) (sym follows.3) (known.0, known.1, taken header (queries Induction header.visits header.window) entries follows.0 known.2 follows.2)
-known_next asked queries (InSection header Induction entries) line next known (inr follows) =
-    subst (Known asked queries) (sym follows.2) (record {
-      is_assertion = known.0;
-      visits = header.visits;
-      window = header.window;
-      base = known.1;
-      induction = refuted (queries Induction header.visits header.window) entries known.2 follows.1;
-    })
+    (ended_known asked queries header clauses section known.0 known.1 (refuted (query_at queries header clauses section) entries known.2 follows.1))
 known_next asked queries AtEnd line next known follows = absurd follows
 
 known_all : (asked : Asked) (queries : Queries) (lines : List (List ℕ)) (from to : Phase) → Known asked queries from → FollowAll asked queries from lines to → Known asked queries to

@@ -2,16 +2,27 @@
 use Rattle.std.specs.Prelude.{ℕ, pos, negsuc, true, List, [], ◌∷◌, ◌++◌, codes}
 use Rattle.certificate.specs.declared.answer.CertAnswer.{CertAnswer}
 use Rattle.certificate.specs.declared.answer.CertAnswer.TheVariants.{Passed, Refused}
-use Rattle.certificate.specs.declared.answer.CertReason.TheVariants.{BadHeader, BadLine, WrongAssertion, LemmaFails, NoEmptyClause, EndsInside, TrailingBytes, TooManyLive, BadDrop}
+use Rattle.certificate.specs.declared.answer.CertReason.TheVariants.{BadHeader, BadLine, WrongAssertion, LemmaFails, NoEmptyClause, EndsInside, TrailingBytes, TooManyLive, BadDrop, BadClause}
 use Rattle.certificate.specs.declared.header.Asked.{Asked}
-use Rattle.certificate.specs.Sections.{Queries}
+use Rattle.certificate.specs.Sections.{Queries, Query}
 use Rattle.certificate.specs.Texts.{IsAnswer}
 
--- both formulas ask that the variable 1 is true, and that it is false
-abbrev pub contradictions : Queries
-contradictions section visits window = record {
+-- a formula asks that the variable 1 is true, and that it is false
+abbrev pub contradiction : Query
+contradiction = record {
   variables = 1;
   clauses = (pos 1 ∷ []) ∷ ((negsuc 0 ∷ []) ∷ []);
+}
+
+-- each formula does, and a state has three bits
+abbrev pub contradictions : Queries
+contradictions = record {
+  base = λ visits window. contradiction;
+  induction = λ visits window. contradiction;
+  initial = λ visits clauses. contradiction;
+  step = λ visits clauses. contradiction;
+  bad = λ visits clauses. contradiction;
+  width = λ visits. 3;
 }
 
 -- an assertion of a number is asked for
@@ -34,9 +45,17 @@ abbrev pub FirstVersionPasses : Type 0
 FirstVersionPasses =
     Answers (codes "pslc-cert 1\nassertion 1\nvisits 0\nwindow 1\nbase\n0 1 2 0\ninduction\n0 1 2 0\nend\n") Passed
 
--- there are two versions
-abbrev pub ThirdVersion : Type 0
-ThirdVersion = Answers (codes "pslc-cert 3\n") (Refused BadHeader 1)
+-- the header of the third version, and clauses
+abbrev pub inductive : List ℕ
+inductive = codes "pslc-cert 3\nassertion 1\nvisits 0\nlive 1\nclauses\n"
+
+abbrev pub ThirdVersionPasses : Type 0
+ThirdVersionPasses =
+    Answers (inductive ++ codes "1 -3 0\n2 0\ninitial\n0 1 2 0\nstep\n0 1 2 0\nbad\n0 1 2 0\nend\n") Passed
+
+-- there are three versions
+abbrev pub FourthVersion : Type 0
+FourthVersion = Answers (codes "pslc-cert 4\n") (Refused BadHeader 1)
 
 -- the certificate is of another assertion
 abbrev pub OfAnother : Type 0
@@ -77,3 +96,15 @@ LemmaBehindEmpty = Answers (begun ++ codes "live 2\nbase\n0 1 2 0\n0 1 2 0\n") (
 abbrev pub OneMoreByte : Type 0
 OneMoreByte =
     Answers (begun ++ codes "live 1\nbase\n0 1 2 0\ninduction\n0 1 2 0\nend\n\n") (Refused TrailingBytes 11)
+
+-- there is no state bit 4
+abbrev pub NoStateBit : Type 0
+NoStateBit = Answers (inductive ++ codes "4 0\ninitial\n") (Refused BadClause 6)
+
+-- the 0 at the end of a clause is missing
+abbrev pub NoClauseLine : Type 0
+NoClauseLine = Answers (inductive ++ codes "1 2\ninitial\n") (Refused BadLine 6)
+
+-- the section of the initial states ends without the empty lemma
+abbrev pub NothingInitial : Type 0
+NothingInitial = Answers (inductive ++ codes "initial\nstep\n") (Refused NoEmptyClause 7)

@@ -4,6 +4,7 @@ use Rattle.clauses.specs.declared.flat.TheConstants.{MOST_VARIABLES}
 use Rattle.certificate.specs.declared.header.Asked.{Asked}
 use Rattle.certificate.specs.declared.header.Field.{Field}
 use Rattle.certificate.specs.declared.header.Field.TheVariants.{Assertion, Visits, Window, Live}
+use Rattle.certificate.specs.declared.header.Form.TheVariants.{Windowed, Clausal}
 use Rattle.certificate.specs.declared.header.Header.{Header}
 use Rattle.certificate.specs.declared.header.TheConstants.{MOST_VISITS, MOST_WINDOW}
 use Rattle.certificate.specs.declared.header.Version.TheVariants.{One}
@@ -36,12 +37,14 @@ pub record Says (field : Field) (line : List ℕ) (number : ℕ) : Type 0 where
 abbrev pub IsAsked : Asked → ℕ → Type 0
 IsAsked asked number = (number ≡ asked.number) × (asked.is_assertion ≡ true)
 
--- the numbers of a header; in the first version as many lemmas may be live as there are numbers
+-- the numbers of a header; in the first version as many lemmas may be live as there are numbers, and where the
+-- certificate has clauses the window is 1
 pub record IsHeader (header : Header) : Type 0 where
   pub visits : MayBe Visits header.visits
   pub window : MayBe Window header.window
   pub live : MayBe Live header.live
-  pub first : header.version ≡ One → header.live ≡ MOST_VARIABLES
+  pub first : header.form ≡ Windowed One → header.live ≡ MOST_VARIABLES
+  pub third : header.form ≡ Clausal → header.window ≡ 1
 
 -- a text begins with the header of a certificate of the assertion that is asked for
 pub record HasHeader (asked : Asked) (text : List ℕ) (header : Header) : Type 0 where

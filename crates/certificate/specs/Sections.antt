@@ -7,10 +7,12 @@ use Rattle.clauses.specs.Logs.LogEntry.{Lemma, Forget}
 use Rattle.log_lines.specs.Lines.{entry_text, has_line}
 use Rattle.certificate.specs.Lines.{end_line}
 use Rattle.certificate.specs.declared.answer.CertReason.{CertReason}
-use Rattle.certificate.specs.declared.answer.CertReason.TheVariants.{BadHeader, BadLine, WrongAssertion, LemmaFails, NoEmptyClause, EndsInside, TrailingBytes, TooManyLive, BadDrop}
+use Rattle.certificate.specs.declared.answer.CertReason.TheVariants.{BadHeader, BadLine, WrongAssertion, LemmaFails, NoEmptyClause, EndsInside, TrailingBytes, TooManyLive, BadDrop, BadClause}
+use Rattle.certificate.specs.declared.header.Form.{Form}
+use Rattle.certificate.specs.declared.header.Form.TheVariants.{Windowed, Clausal}
 use Rattle.certificate.specs.declared.header.Header.{Header}
 use Rattle.certificate.specs.declared.header.Section.{Section}
-use Rattle.certificate.specs.declared.header.Version.{Version}
+use Rattle.certificate.specs.declared.header.Section.TheVariants.{Base, Induction, Initial, Step, Bad}
 use Rattle.certificate.specs.declared.header.Version.TheVariants.{One, Two}
 
 -- a formula that a section refutes: how many variables it has, and its clauses
@@ -18,19 +20,36 @@ pub record Query : Type 0 where
   pub variables : ℕ
   pub clauses : List (List ℤ)
 
--- the formula of each section, for so many visits and a window
-abbrev pub Queries : Type 0
-Queries = Section → ℕ → ℕ → Query
+-- what the certificates of an assertion speak of
+pub record Queries : Type 0 where
+  -- the formulas for so many visits and a window
+  pub base : ℕ → ℕ → Query
+  pub induction : ℕ → ℕ → Query
+  -- the formulas for so many visits and clauses
+  pub initial : ℕ → List (List ℤ) → Query
+  pub step : ℕ → List (List ℤ) → Query
+  pub bad : ℕ → List (List ℤ) → Query
+  -- how many bits a state has, where so many visits are counted
+  pub width : ℕ → ℕ
+
+-- the formula of each section, behind a header and clauses
+abbrev pub query_at : Queries → Header → List (List ℤ) → Section → Query
+query_at queries header clauses Base = queries.base header.visits header.window
+query_at queries header clauses Induction = queries.induction header.visits header.window
+query_at queries header clauses Initial = queries.initial header.visits clauses
+query_at queries header clauses Step = queries.step header.visits clauses
+query_at queries header clauses Bad = queries.bad header.visits clauses
 
 -- whether drops have lines
-abbrev pub drops_in : Version → Bool
-drops_in One = false
-drops_in Two = true
+abbrev pub drops_in : Form → Bool
+drops_in (Windowed One) = false
+drops_in (Windowed Two) = true
+drops_in Clausal = true
 
 -- a line is that of an entry
-pub record IsEntryLine (version : Version) (line : List ℕ) (entry : LogEntry) : Type 0 where
+pub record IsEntryLine (form : Form) (line : List ℕ) (entry : LogEntry) : Type 0 where
   pub is : line ≡ entry_text entry
-  pub has : has_line (drops_in version) entry ≡ true
+  pub has : has_line (drops_in form) entry ≡ true
 
 -- the empty lemma stands among some entries
 abbrev pub has_empty : List LogEntry → Bool
@@ -58,26 +77,27 @@ IsTaken header query entries (Lemma literals hints) =
 IsTaken header query entries (Forget number) = (has_empty entries ≡ false) × NamesLive query entries number
 
 -- the line of an entry is wanted, or the word that ends the section
-abbrev pub IsBadLine : Version → Section → List LogEntry → List ℕ → Type 0
-IsBadLine version section entries line =
-    ((line ≡ end_line section → ⊥) × ((entry : LogEntry) → IsEntryLine version line entry → ⊥))
-    ⊎ ((has_empty entries ≡ true) × (entry : LogEntry) × IsEntryLine version line entry)
+abbrev pub IsBadLine : Form → Section → List LogEntry → List ℕ → Type 0
+IsBadLine form section entries line =
+    ((line ≡ end_line section → ⊥) × ((entry : LogEntry) → IsEntryLine form line entry → ⊥))
+    ⊎ ((has_empty entries ≡ true) × (entry : LogEntry) × IsEntryLine form line entry)
 
 -- why a whole line is refused behind the entries of a section: the first reason that stands
 abbrev pub IsSectionRefused : Header → Section → Query → List LogEntry → List ℕ → CertReason → Type 0
 IsSectionRefused header section query entries line BadHeader = ⊥
-IsSectionRefused header section query entries line BadLine = IsBadLine header.version section entries line
+IsSectionRefused header section query entries line BadLine = IsBadLine header.form section entries line
 IsSectionRefused header section query entries line WrongAssertion = ⊥
 IsSectionRefused header section query entries line LemmaFails =
     (has_empty entries ≡ false) × (literals : List ℤ) × (hints : List ℕ)
-    × IsEntryLine header.version line (Lemma literals hints) × (PassesBehind query entries literals hints → ⊥)
+    × IsEntryLine header.form line (Lemma literals hints) × (PassesBehind query entries literals hints → ⊥)
 IsSectionRefused header section query entries line NoEmptyClause =
     (line ≡ end_line section) × (has_empty entries ≡ false)
 IsSectionRefused header section query entries line EndsInside = ⊥
 IsSectionRefused header section query entries line TrailingBytes = ⊥
 IsSectionRefused header section query entries line TooManyLive =
-    (literals : List ℤ) × (hints : List ℕ) × IsEntryLine header.version line (Lemma literals hints)
+    (literals : List ℤ) × (hints : List ℕ) × IsEntryLine header.form line (Lemma literals hints)
     × PassesBehind query entries literals hints × (header.live ≤ live_lemmas query entries)
 IsSectionRefused header section query entries line BadDrop =
     (has_empty entries ≡ false) × (number : ℕ)
-    × IsEntryLine header.version line (Forget number) × (NamesLive query entries number → ⊥)
+    × IsEntryLine header.form line (Forget number) × (NamesLive query entries number → ⊥)
+IsSectionRefused header section query entries line BadClause = ⊥

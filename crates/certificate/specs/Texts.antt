@@ -1,14 +1,16 @@
 -- What is answered to the text of a certificate.
-use Rattle.std.specs.Prelude.{◌≡◌, ℕ, suc, ◌<◌, Bool, true, false, List, [], ◌∷◌, ◌++◌, length, IsTrue}
+use Rattle.std.specs.Prelude.{◌≡◌, ℕ, ℤ, suc, ◌<◌, Bool, true, false, List, [], ◌∷◌, ◌++◌, length, IsTrue}
 use Rattle.std.specs.List.{list_all}
 use Rattle.log_lines.specs.Lines.{lacks}
 use Rattle.certificate.specs.declared.answer.CertAnswer.{CertAnswer}
 use Rattle.certificate.specs.declared.answer.CertAnswer.TheVariants.{Passed, Refused}
 use Rattle.certificate.specs.declared.answer.CertReason.{CertReason}
-use Rattle.certificate.specs.declared.answer.CertReason.TheVariants.{BadHeader, BadLine, WrongAssertion, LemmaFails, NoEmptyClause, EndsInside, TrailingBytes, TooManyLive, BadDrop}
+use Rattle.certificate.specs.declared.answer.CertReason.TheVariants.{BadHeader, BadLine, WrongAssertion, LemmaFails, NoEmptyClause, EndsInside, TrailingBytes, TooManyLive, BadDrop, BadClause}
 use Rattle.certificate.specs.declared.header.Asked.{Asked}
+use Rattle.certificate.specs.declared.header.Header.{Header}
+use Rattle.certificate.specs.declared.header.Section.TheVariants.{Initial}
 use Rattle.certificate.specs.Phases.{Phase, Follows, IsRefusedLine}
-use Rattle.certificate.specs.Phases.Phase.{AtVersion, AtAssertion, AtVisits, AtWindow, AtLive, AtBase, InSection, AtEnd}
+use Rattle.certificate.specs.Phases.Phase.{AtVersion, AtAssertion, AtVisits, AtWindow, AtLive, AtLast, InClauses, InSection, AtEnd}
 use Rattle.certificate.specs.Lines.{lines_text}
 use Rattle.certificate.specs.Sections.{Queries}
 
@@ -24,15 +26,22 @@ pub record Reaches (asked : Asked) (queries : Queries) (text : List ℕ) (lines 
   pub whole : IsTrue (list_all (lacks 10) lines)
   pub follow : FollowAll asked queries AtVersion lines phase
 
+-- a text begins with a header and lines of clauses, up to the word behind them
+pub record HasClauses (asked : Asked) (queries : Queries) (text : List ℕ) (header : Header) (clauses : List (List ℤ)) : Type 0 where
+  pub lines : List (List ℕ)
+  pub rest : List ℕ
+  pub reaches : Reaches asked queries text lines (InSection header clauses Initial []) rest
+
 -- a line comes next, or none
 abbrev pub is_end : Phase → Bool
 is_end AtVersion = false
-is_end (AtAssertion version) = false
-is_end (AtVisits version) = false
-is_end (AtWindow version visits) = false
-is_end (AtLive visits window) = false
-is_end (AtBase header) = false
-is_end (InSection header section entries) = false
+is_end (AtAssertion form) = false
+is_end (AtVisits form) = false
+is_end (AtWindow form visits) = false
+is_end (AtLive form visits window) = false
+is_end (AtLast header) = false
+is_end (InClauses header clauses) = false
+is_end (InSection header clauses section entries) = false
 is_end AtEnd = true
 
 -- no line is refused, and nothing follows the last
@@ -79,6 +88,7 @@ IsRefusal asked queries text EndsInside number = IsCut asked queries text number
 IsRefusal asked queries text TrailingBytes number = IsTooLong asked queries text number
 IsRefusal asked queries text TooManyLive number = RefusesLine asked queries text TooManyLive number
 IsRefusal asked queries text BadDrop number = RefusesLine asked queries text BadDrop number
+IsRefusal asked queries text BadClause number = RefusesLine asked queries text BadClause number
 
 -- the answer to a text: no line is refused, or the first that is
 abbrev pub IsAnswer : Asked → Queries → List ℕ → CertAnswer → Type 0

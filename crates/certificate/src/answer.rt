@@ -3,8 +3,8 @@
 pub enum CertReason {
     /// A whole line of the header has not its shape, or its number is out of range.
     BadHeader,
-    /// A whole line behind the header is neither an entry's nor the word that ends the section, or it is an entry's behind
-    /// the empty lemma.
+    /// A whole line behind the header is neither a clause's or an entry's nor the word that ends its part, or it is an
+    /// entry's behind the empty lemma.
     BadLine,
     /// The certificate is not of the assertion that was asked for, or there is no such assertion.
     WrongAssertion,
@@ -20,6 +20,8 @@ pub enum CertReason {
     TooManyLive,
     /// A drop names no live lemma of its section.
     BadDrop,
+    /// A literal of a clause names no state bit.
+    BadClause,
 }
 
 /// What is answered to the text of a certificate.

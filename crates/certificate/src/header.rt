@@ -4,12 +4,21 @@ pub const MOST_VISITS: u32 = 16;
 /// The widest window of a certificate.
 pub const MOST_WINDOW: u32 = 1_000;
 
-/// The lines of a certificate come in two versions. The second has lines of drops, and says how many lemmas are live at
-/// once; the first is like a second one that says the greatest number and has no drops.
+/// The lines of a certificate of a window come in two versions. The second has lines of drops, and says how many lemmas
+/// are live at once; the first is like a second one that says the greatest number and has no drops.
 #[derive(Clone, Copy, Debug, PartialEq, Eq, Drop)]
 pub enum Version {
     One,
     Two,
+}
+
+/// What the first line of a certificate names.
+#[derive(Clone, Copy, Debug, PartialEq, Eq, Drop)]
+pub enum Form {
+    /// It has a window, and the logs of two formulas.
+    Windowed(Version),
+    /// It has clauses, and the logs of three formulas: the third version, with drops as in the second.
+    Clausal,
 }
 
 /// The lines of a header that give a number.
@@ -25,20 +34,25 @@ pub enum Field {
     Live,
 }
 
-/// The two parts of a certificate behind its header: the logs of the two formulas.
+/// The parts of a certificate that are logs of formulas: the first two where it has a window, the others where it has
+/// clauses.
 #[derive(Clone, Copy, Debug, PartialEq, Eq, Drop)]
 pub enum Section {
     Base,
     Induction,
+    Initial,
+    Step,
+    Bad,
 }
 
 /// What the header of a certificate says.
 #[derive(Clone, Copy, Debug, PartialEq, Eq, Drop)]
 pub struct Header {
-    pub version: Version,
+    pub form: Form,
     /// How many visits the joint states count, at most `MOST_VISITS`.
     pub visits: u32,
-    /// How many joint states a path of the base has at most, from 1 to `MOST_WINDOW`.
+    /// How many joint states a path of the base has at most, from 1 to `MOST_WINDOW`. A certificate of clauses does not
+    /// say it: it is then 1, since its formulas look one state ahead, as those of that window do.
     pub window: u32,
     /// How many lemmas of a section may be live at once.
     pub live: u32,

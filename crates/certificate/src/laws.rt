@@ -1,22 +1,23 @@
 // What follows from the definitions alone.
-ghost use Rattle.std.specs.Prelude.{◌≡◌, ℕ, List};
+ghost use Rattle.std.specs.Prelude.{◌≡◌, ℕ, ℤ, List};
 ghost use Rattle.certificate.specs.declared.answer.CertAnswer.{CertAnswer};
 ghost use Rattle.certificate.specs.declared.header.Asked.{Asked};
 ghost use Rattle.certificate.specs.declared.header.Header.{Header};
-ghost use Rattle.certificate.specs.Examples.{Passes, FirstVersionPasses, ThirdVersion, OfAnother, NoWindow, CutBehindLine};
+ghost use Rattle.certificate.specs.Examples.{Passes, FirstVersionPasses, ThirdVersionPasses, FourthVersion, OfAnother, NoWindow, CutBehindLine};
 ghost use Rattle.certificate.specs.Examples.{CutInsideLine, NoHints, NoneMayLive, DropOfFormula, NothingShown};
-ghost use Rattle.certificate.specs.Examples.{LemmaBehindEmpty, OneMoreByte};
+ghost use Rattle.certificate.specs.Examples.{LemmaBehindEmpty, OneMoreByte, NoStateBit, NoClauseLine, NothingInitial};
 ghost use Rattle.certificate.specs.Headers.{HasHeader};
 ghost use Rattle.certificate.specs.Sections.{Queries};
 ghost use Rattle.certificate.specs.Shown.{IsShown};
-ghost use Rattle.certificate.specs.Texts.{IsAnswer, IsPassed};
+ghost use Rattle.certificate.specs.Texts.{HasClauses, IsAnswer, IsPassed};
 
 /// Worked examples of the definitions, as laws: texts of certificates, and what is answered to them.
 #[tactic(auto, using(crate::proofs::ExamplesHold::examples))]
 pub fn worked_examples()
     ensures passes { Passes }
     ensures first { FirstVersionPasses }
-    ensures third { ThirdVersion }
+    ensures third { ThirdVersionPasses }
+    ensures fourth { FourthVersion }
     ensures another { OfAnother }
     ensures window { NoWindow }
     ensures cut { CutBehindLine }
@@ -27,6 +28,9 @@ pub fn worked_examples()
     ensures nothing { NothingShown }
     ensures behind { LemmaBehindEmpty }
     ensures more { OneMoreByte }
+    ensures bit { NoStateBit }
+    ensures clause { NoClauseLine }
+    ensures initial { NothingInitial }
 {}
 
 /// A law of the definitions: a text has one answer. So it is passed only where no line of it is refused, and where some
@@ -37,14 +41,17 @@ pub fn one_answer_law()
         → IsAnswer asked queries text answer → IsAnswer asked queries text other → answer ≡ other }
 {}
 
-/// A law of the definitions: a text begins with one header at most.
+/// A law of the definitions: a text begins with one header at most, and has one list of clauses behind it at most.
 pub fn one_header_law()
     ensures header { (asked : Asked) (text : List ℕ) (header other : Header) → HasHeader asked text header
         → HasHeader asked text other → header ≡ other }
+    ensures clauses { (asked : Asked) (queries : Queries) (text : List ℕ) (header other : Header)
+        (clauses others : List (List ℤ)) → HasClauses asked queries text header clauses
+        → HasClauses asked queries text other others → clauses ≡ others }
 {}
 
-/// A law of the definitions: where the text of a certificate is passed, what was asked for is an assertion, and both
-/// formulas are refuted, for some visits and some window.
+/// A law of the definitions: where the text of a certificate is passed, what was asked for is an assertion, and for some
+/// visits both formulas of some window are refuted, or the three formulas of some clauses over the state bits.
 pub fn shown_law()
     ensures shown { (asked : Asked) (queries : Queries) (text : List ℕ) → IsPassed asked queries text
         → IsShown asked queries }

@@ -8,6 +8,6 @@ mod header;
 mod laws;
 
 pub use answer::{CertAnswer, CertReason};
-pub use certificate::Certificate;
-pub use header::{Asked, Field, Header, MOST_VISITS, MOST_WINDOW, Section, Version};
+pub use certificate::{Certificate, InductiveCert};
+pub use header::{Asked, Field, Form, Header, MOST_VISITS, MOST_WINDOW, Section, Version};
 pub use laws::{one_answer_law, one_header_law, shown_law, worked_examples};

@@ -1,15 +1,14 @@
--- The worked example holds.
+-- The worked examples hold.
 use Rattle.std.proofs.Common.{◌≡◌, ◌⊎◌, inl, ℤ, pos, negsuc, false, List, [], ◌∷◌, arith, refl}
 use Rattle.std.specs.Fmt.{digits}
 use Rattle.std.specs.List.{All, Contains}
 use Rattle.std.proofs.lemmas.List.Elements.{All-cons, All-nil}
-use Rattle.certificate.specs.Examples.{contradictions}
+use Rattle.certificate.specs.Examples.{contradiction}
 use Rattle.certificate.specs.Sections.{PassesBehind}
-use Rattle.certificate.specs.declared.header.Section.TheVariants.{Base, Induction}
 use Rattle.clauses.specs.Logs.{LogEntry, is_empty_lemma, is_lemma}
 use Rattle.clauses.specs.Logs.LogEntry.{Lemma, Forget}
 use Rattle.certificate_text.specs.Evidence.{IsRefuted}
-use Rattle.certificate_text.specs.Examples.{HasFirstText, HasText, IsEvident, certificate}
+use Rattle.certificate_text.specs.Examples.{HasFirstText, HasInductiveText, HasText, IsEvident, IsInductivelyEvident, certificate}
 
 pub has_text : HasText
 unfolding digits
@@ -18,6 +17,10 @@ has_text = refl
 pub has_first_text : HasFirstText
 unfolding digits
 has_first_text = refl
+
+pub has_inductive_text : HasInductiveText
+unfolding digits
+has_inductive_text = refl
 
 -- no entry of some is empty
 abbrev NoneEmpty : List LogEntry → Type 0
@@ -39,7 +42,7 @@ one_literal : (literal : ℤ) (set : List ℤ) → Contains set literal → All 
 one_literal literal set among = All-cons (Contains set) literal [] among (All-nil (Contains set))
 
 -- the lemmas pass
-first_passes : PassesBehind (contradictions Base 0 1) [] (pos 1 ∷ []) (1 ∷ [])
+first_passes : PassesBehind contradiction [] (pos 1 ∷ []) (1 ∷ [])
 first_passes = record {
   none_empty = none_empty;
   within = refl;
@@ -49,7 +52,7 @@ first_passes = record {
 left_open : All (λ other. (other ≡ pos 1) ⊎ Contains [] other) (pos 1 ∷ [])
 left_open = All-cons (λ other. (other ≡ pos 1) ⊎ Contains [] other) (pos 1) [] (inl refl) (All-nil (λ other. (other ≡ pos 1) ⊎ Contains [] other))
 
-last_passes : PassesBehind (contradictions Base 0 1) front [] (1 ∷ 2 ∷ [])
+last_passes : PassesBehind contradiction front [] (1 ∷ 2 ∷ [])
 last_passes = record {
   none_empty = front_none;
   within = refl;
@@ -62,7 +65,7 @@ last_passes = record {
   );
 }
 
-only_passes : PassesBehind (contradictions Induction 0 1) [] [] (1 ∷ 2 ∷ [])
+only_passes : PassesBehind contradiction [] [] (1 ∷ 2 ∷ [])
 only_passes = record {
   none_empty = none_empty;
   within = refl;
@@ -78,7 +81,7 @@ only_passes = record {
 no_drops : All (λ entry. is_lemma entry ≡ false) []
 no_drops = All-nil (λ entry. is_lemma entry ≡ false)
 
-base_refuted : IsRefuted (contradictions Base 0 1) certificate.base
+base_refuted : IsRefuted contradiction certificate.base
 base_refuted = record {
   variables = omega arith;
   words = omega arith;
@@ -87,7 +90,7 @@ base_refuted = record {
   empty_last = front_none;
 }
 
-induction_refuted : IsRefuted (contradictions Induction 0 1) certificate.induction
+induction_refuted : IsRefuted contradiction certificate.induction
 induction_refuted = record {
   variables = omega arith;
   words = omega arith;
@@ -106,4 +109,16 @@ is_evident = record {
   induction = induction_refuted;
 }
 
-pub ruleset example = (is_evident, has_text, has_first_text)
+pub is_inductively_evident : IsInductivelyEvident
+is_inductively_evident = record {
+  is_asked = (refl, refl);
+  number = record { least = omega arith; most = omega arith };
+  visits = record { least = omega arith; most = omega arith };
+  bits = omega arith;
+  within = refl;
+  initial = induction_refuted;
+  step = base_refuted;
+  bad = induction_refuted;
+}
+
+pub ruleset example = (is_evident, has_text, has_first_text, is_inductively_evident, has_inductive_text)

@@ -12,17 +12,20 @@ use Rattle.clauses.specs.Logs.LogEntry.{Lemma, Forget}
 use Rattle.clauses.specs.declared.flat.TheConstants.{MOST_VARIABLES}
 use Rattle.log_lines.specs.Lines.{lacks, lemmas_alone}
 use Rattle.log_lines.proofs.Once.{all_have_lines, lemmas_have_lines, lemma_words}
+use Rattle.certificate.specs.Phases.{behind_header}
 use Rattle.certificate.specs.Phases.Phase.{AtVersion, AtEnd, InSection}
-use Rattle.certificate.specs.Headers.{HasHeader, IsHeader, MayBe}
-use Rattle.certificate.specs.Lines.{end_line, header_lines, lines_text}
-use Rattle.certificate.specs.Printed.{cert_text, entry_lines, header_of, live_of, most_live, printed}
-use Rattle.certificate.specs.Sections.{NamesLive, Queries, Query, has_empty}
+use Rattle.certificate.specs.Headers.{HasHeader, IsAsked, IsHeader, MayBe}
+use Rattle.certificate.specs.Lines.{header_lines, lines_text}
+use Rattle.certificate.specs.Printed.{cert_text, certificate_lines, header_of, live_of, most_live, printed, section_lines}
+use Rattle.certificate.specs.Sections.{NamesLive, Queries, Query, drops_in, has_empty}
 use Rattle.certificate.specs.Texts.{FollowAll, IsPassed, IsRefusal}
 use Rattle.certificate.specs.declared.answer.CertAnswer.TheVariants.{Passed, Refused}
 use Rattle.certificate.specs.declared.answer.CertReason.{CertReason}
 use Rattle.certificate.specs.declared.certificate.Certificate.{Certificate}
 use Rattle.certificate.specs.declared.header.Asked.{Asked}
 use Rattle.certificate.specs.declared.header.Field.TheVariants.{Assertion, Live}
+use Rattle.certificate.specs.declared.header.Form.TheVariants.{Windowed, Clausal}
+use Rattle.certificate.specs.declared.header.Header.{Header}
 use Rattle.certificate.specs.declared.header.Section.TheVariants.{Base, Induction}
 use Rattle.certificate.specs.declared.header.Version.{Version}
 use Rattle.certificate.specs.declared.header.Version.TheVariants.{One, Two}
@@ -33,7 +36,7 @@ use Rattle.certificate_text.proofs.Alone.{alone_drops, alone_passes}
 use Rattle.certificate_text.proofs.Counting.{at_most, lemmas_words}
 use Rattle.certificate_text.proofs.Entries.{refuted_entries}
 use Rattle.certificate_text.proofs.Following.{IsSound, followed, section_follows, section_whole}
-use Rattle.certificate_text.proofs.Joining.{all_lines, lines_text-append, section_lines}
+use Rattle.certificate_text.proofs.Joining.{all_lines, both_lines, lines_text-append}
 use Rattle.certificate_text.proofs.Living.{live_below, live_few}
 
 -- the empty lemma is there
@@ -61,7 +64,7 @@ few_lemmas : (query : Query) (log : List LogEntry) → IsRefuted query log → l
 few_lemmas query log refuted = omega (arith, refuted.words)
 
 -- a log with its drops is sound where as many lemmas may be live as are
-sound_two : (live : ℕ) (query : Query) (log : List LogEntry) → IsRefuted query log → most_live log ≤ live → IsSound Two live query log
+pub sound_two : (live : ℕ) (query : Query) (log : List LogEntry) → IsRefuted query log → most_live log ≤ live → IsSound true live query log
 sound_two live query log refuted most = record {
   passes = refuted.refutes.all_pass;
   drops = refuted.drops_live;
@@ -89,7 +92,7 @@ ends_alone query log refutes =
     ∙ ap has_empty (filter-append is_lemma refutes.before (Lemma [] refutes.hints ∷ refutes.behind))
     ∙ ends_of (lemmas_alone refutes.before) (lemmas_alone refutes.behind) refutes.hints
 
-sound_one : (query : Query) (log : List LogEntry) → IsRefuted query log → IsSound One MOST_VARIABLES query (lemmas_alone log)
+sound_one : (query : Query) (log : List LogEntry) → IsRefuted query log → IsSound false MOST_VARIABLES query (lemmas_alone log)
 sound_one query log refuted =
     let alone = lemmas_alone log in
     record {
@@ -102,12 +105,12 @@ sound_one query log refuted =
     }
 
 sound : (version : Version) (certificate : Certificate) (query : Query) (log : List LogEntry) → IsRefuted query log → most_live log ≤ live_of Two certificate
-    → IsSound version (live_of version certificate) query (printed version log)
+    → IsSound (drops_in (Windowed version)) (live_of version certificate) query (printed (Windowed version) log)
 sound One certificate query log refuted most = sound_one query log refuted
 sound Two certificate query log refuted most = sound_two (live_of Two certificate) query log refuted most
 
 -- the number of live lemmas may stand in the header
-few_live : (query : Query) (log : List LogEntry) → IsRefuted query log → most_live log ≤ MOST_VARIABLES
+pub few_live : (query : Query) (log : List LogEntry) → IsRefuted query log → most_live log ≤ MOST_VARIABLES
 few_live query log refuted = omega (arith, at_most 0 log, lemmas_words log, few_lemmas query log refuted)
 
 live_stands : (version : Version) (certificate : Certificate) (base induction : Query) → IsRefuted base certificate.base → IsRefuted induction certificate.induction
@@ -116,45 +119,52 @@ live_stands One certificate base induction first second = record { least = omega
 live_stands Two certificate base induction first second =
     record { least = omega arith; most = omega (arith, few_live base certificate.base first, few_live induction certificate.induction second) }
 
-first_live : (version : Version) (certificate : Certificate) → version ≡ One → live_of version certificate ≡ MOST_VARIABLES
-first_live version certificate is = rw is refl
+first_live : (version : Version) (certificate : Certificate) → Windowed version ≡ Windowed One → live_of version certificate ≡ MOST_VARIABLES
+first_live version certificate is = let same : version ≡ One = cc in rw same refl
+
+not_clausal : (version : Version) (window : ℕ) → Windowed version ≡ Clausal → window ≡ 1
+not_clausal version window is = cc
 
 -- so it is a header
 is_header : (asked : Asked) (queries : Queries) (version : Version) (certificate : Certificate) → IsEvidence asked queries certificate → IsHeader (header_of version certificate)
 is_header asked queries version certificate evidence = record {
   visits = evidence.visits;
   window = evidence.window;
-  live = live_stands version certificate (queries Base certificate.visits certificate.window) (queries Induction certificate.visits certificate.window) evidence.base evidence.induction;
+  live = live_stands version certificate (queries.base certificate.visits certificate.window) (queries.induction certificate.visits certificate.window) evidence.base evidence.induction;
   first = first_live version certificate;
+  third = not_clausal version certificate.window;
 }
 
-front_follows : (asked : Asked) (queries : Queries) (version : Version) (certificate : Certificate) → IsEvidence asked queries certificate
-    → FollowAll asked queries AtVersion (header_lines certificate.assertion (header_of version certificate)) (InSection (header_of version certificate) Base [])
-front_follows asked queries version certificate evidence =
-    let number : MayBe Assertion asked.number = subst (MayBe Assertion) evidence.is_asked.0 evidence.number in
-    let header = header_of version certificate in
-    subst (λ (n : ℕ). FollowAll asked queries AtVersion (header_lines n header) (InSection header Base [])) (sym evidence.is_asked.0)
-    (header_follows asked queries header number evidence.is_asked.1 (is_header asked queries version certificate evidence))
+-- the lines of a header lead behind it
+pub front_follows : (asked : Asked) (queries : Queries) (number : ℕ) (header : Header) → IsAsked asked number → MayBe Assertion number → IsHeader header
+    → FollowAll asked queries AtVersion (header_lines number header) (behind_header header)
+front_follows asked queries number header is_asked may is =
+    subst (λ (n : ℕ). FollowAll asked queries AtVersion (header_lines n header) (behind_header header)) (sym is_asked.0)
+    (header_follows asked queries header (subst (MayBe Assertion) is_asked.0 may) is_asked.1 is)
+
+-- a text that begins with them has the header
+pub text_begins : (asked : Asked) (number : ℕ) (header : Header) (text : List ℕ) (lines behind : List (List ℕ)) → IsAsked asked number → MayBe Assertion number → IsHeader header
+    → text ≡ lines_text lines → lines ≡ header_lines number header ++ behind → HasHeader asked text header
+text_begins asked number header text lines behind is_asked may is text_is lines_are = record {
+  number = subst (MayBe Assertion) is_asked.0 may;
+  is_assertion = is_asked.1;
+  numbers = is;
+  rest = lines_text behind;
+  is = text_is
+      ∙ ap lines_text lines_are
+      ∙ lines_text-append (header_lines number header) behind
+      ∙ ap (λ (n : ℕ). lines_text (header_lines n header) ++ lines_text behind) is_asked.0;
+}
 
 -- with which the text begins
 pub text_header : (asked : Asked) (queries : Queries) (version : Version) (certificate : Certificate) → IsEvidence asked queries certificate
     → HasHeader asked (cert_text version certificate) (header_of version certificate)
 text_header asked queries version certificate evidence =
-    let says = header_of version certificate in
-    let behind = section_lines version certificate in
-    record {
-      number = subst (MayBe Assertion) evidence.is_asked.0 evidence.number;
-      is_assertion = evidence.is_asked.1;
-      numbers = is_header asked queries version certificate evidence;
-      rest = lines_text behind;
-      is =
-          ap lines_text (all_lines version certificate)
-          ∙ lines_text-append (header_lines certificate.assertion says) behind
-          ∙ ap (λ (n : ℕ). lines_text (header_lines n says) ++ lines_text behind) evidence.is_asked.0;
-    }
+    text_begins asked certificate.assertion (header_of version certificate) (cert_text version certificate) (certificate_lines version certificate) (both_lines version certificate)
+    evidence.is_asked evidence.number (is_header asked queries version certificate evidence) refl (all_lines version certificate)
 
 -- lines have no line feed inside where those of each part have none
-both_whole : (first second : List (List ℕ)) → IsTrue (list_all (lacks 10) first) → IsTrue (list_all (lacks 10) second) → IsTrue (list_all (lacks 10) (first ++ second))
+pub both_whole : (first second : List (List ℕ)) → IsTrue (list_all (lacks 10) first) → IsTrue (list_all (lacks 10) second) → IsTrue (list_all (lacks 10) (first ++ second))
 both_whole first second one other =
     list_all-append (lacks 10) first second ∙ and_from (list_all (lacks 10) first) (list_all (lacks 10) second) one other
 
@@ -163,22 +173,25 @@ pub text_passes : (asked : Asked) (queries : Queries) (version : Version) (certi
 text_passes asked queries version certificate evidence =
     let visits = certificate.visits in
     let window = certificate.window in
+    let form = Windowed version in
     let says = header_of version certificate in
+    let is = is_header asked queries version certificate evidence in
     let header = header_lines certificate.assertion says in
-    let base = entry_lines version certificate.base ++ end_line Base ∷ [] in
-    let induction = entry_lines version certificate.induction ++ end_line Induction ∷ [] in
-    let base_sound = sound version certificate (queries Base visits window) certificate.base evidence.base (omega arith) in
-    let induction_sound = sound version certificate (queries Induction visits window) certificate.induction evidence.induction (omega arith) in
+    let base = section_lines form Base certificate.base in
+    let induction = section_lines form Induction certificate.induction in
+    let base_sound = sound version certificate (queries.base visits window) certificate.base evidence.base (omega arith) in
+    let induction_sound = sound version certificate (queries.induction visits window) certificate.induction evidence.induction (omega arith) in
     let sections =
-    followed asked queries (InSection says Base []) (InSection says Induction []) AtEnd base induction
-    (section_follows asked queries says Base (printed version certificate.base) base_sound)
-    (section_follows asked queries says Induction (printed version certificate.induction) induction_sound) in
+    followed asked queries (InSection says [] Base []) (InSection says [] Induction []) AtEnd base induction
+    (section_follows asked queries says [] Base (printed form certificate.base) base_sound)
+    (section_follows asked queries says [] Induction (printed form certificate.induction) induction_sound) in
     let follow : FollowAll asked queries AtVersion (header ++ (base ++ induction)) AtEnd =
-    followed asked queries AtVersion (InSection says Base []) AtEnd header (base ++ induction) (front_follows asked queries version certificate evidence) sections in
+    followed asked queries AtVersion (InSection says [] Base []) AtEnd header (base ++ induction)
+    (front_follows asked queries certificate.assertion says evidence.is_asked evidence.number is) sections in
     let whole : IsTrue (list_all (lacks 10) (header ++ (base ++ induction))) =
-    both_whole header (base ++ induction) (header_lacks certificate.assertion says evidence.number (is_header asked queries version certificate evidence))
-    (both_whole base induction (section_whole version Base (printed version certificate.base) base_sound.lines)
-    (section_whole version Induction (printed version certificate.induction) induction_sound.lines)) in (
+    both_whole header (base ++ induction) (header_lacks certificate.assertion says evidence.number is)
+    (both_whole base induction (section_whole (drops_in form) Base (printed form certificate.base) base_sound.lines)
+    (section_whole (drops_in form) Induction (printed form certificate.induction) induction_sound.lines)) in (
       header ++ (base ++ induction),
       record {
         is = ap lines_text (all_lines version certificate) ∙ sym (append-nil (lines_text (header ++ (base ++ induction))));
@@ -187,12 +200,16 @@ text_passes asked queries version certificate evidence =
       },
     )
 
--- so none is refused
+-- a text that is passed has no refusal
 not_refused : (reason : CertReason) (number : ℕ) → Passed ≡ Refused reason number → ⊥
 not_refused reason number same = cc
+
+pub passed_none : (asked : Asked) (queries : Queries) (text : List ℕ) → IsPassed asked queries text → (reason : CertReason) (number : ℕ)
+    → IsRefusal asked queries text reason number → ⊥
+passed_none asked queries text passed reason number refusal =
+    not_refused reason number (one_answer asked queries text Passed (Refused reason number) passed refusal)
 
 pub none_refused : (asked : Asked) (queries : Queries) (version : Version) (certificate : Certificate) → IsEvidence asked queries certificate
     → (reason : CertReason) (number : ℕ) → IsRefusal asked queries (cert_text version certificate) reason number → ⊥
 none_refused asked queries version certificate evidence reason number refusal =
-    not_refused reason number
-    (one_answer asked queries (cert_text version certificate) Passed (Refused reason number) (text_passes asked queries version certificate evidence) refusal)
+    passed_none asked queries (cert_text version certificate) (text_passes asked queries version certificate evidence) reason number refusal

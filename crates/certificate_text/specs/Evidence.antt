@@ -1,7 +1,7 @@
 -- Which certificates show what they are asked for, and how many lemmas their logs hold.
-use Rattle.std.specs.Prelude.{◌≡◌, ◌+◌, ◌-◌, ◌≤◌, ℕ, List, [], ◌∷◌, ◌++◌, length, take, false}
+use Rattle.std.specs.Prelude.{◌≡◌, ◌+◌, ◌-◌, ◌≤◌, ℕ, List, [], ◌∷◌, ◌++◌, length, take, false, IsTrue}
 use Rattle.std.specs.List.{All}
-use Rattle.clauses.specs.Literals.{clause_words}
+use Rattle.clauses.specs.Literals.{clause_words, clauses_within}
 use Rattle.clauses.specs.Logs.{LogEntry, Refutes, is_empty_lemma, log_words}
 use Rattle.clauses.specs.Logs.LogEntry.{Lemma, Forget}
 use Rattle.clauses.specs.declared.flat.TheConstants.{MOST_VARIABLES}
@@ -9,9 +9,9 @@ use Rattle.clauses.specs.declared.log.TheConstants.{MOST_LOG_WORDS}
 use Rattle.certificate.specs.Headers.{IsAsked, MayBe}
 use Rattle.certificate.specs.Sections.{NamesLive, Queries, Query, live_lemmas}
 use Rattle.certificate.specs.declared.certificate.Certificate.{Certificate}
+use Rattle.certificate.specs.declared.certificate.InductiveCert.{InductiveCert}
 use Rattle.certificate.specs.declared.header.Asked.{Asked}
 use Rattle.certificate.specs.declared.header.Field.TheVariants.{Assertion, Visits, Window}
-use Rattle.certificate.specs.declared.header.Section.TheVariants.{Base, Induction}
 
 -- what holds of each drop of a log and the entries before it; `before` are the entries in front of the log
 abbrev pub EachDrop : (List LogEntry → ℕ → Type 0) → List LogEntry → List LogEntry → Type 0
@@ -38,8 +38,20 @@ pub record IsEvidence (asked : Asked) (queries : Queries) (certificate : Certifi
   pub number : MayBe Assertion certificate.assertion
   pub visits : MayBe Visits certificate.visits
   pub window : MayBe Window certificate.window
-  pub base : IsRefuted (queries Base certificate.visits certificate.window) certificate.base
-  pub induction : IsRefuted (queries Induction certificate.visits certificate.window) certificate.induction
+  pub base : IsRefuted (queries.base certificate.visits certificate.window) certificate.base
+  pub induction : IsRefuted (queries.induction certificate.visits certificate.window) certificate.induction
+
+-- a certificate of clauses is of the assertion that is asked for, its clauses name state bits, and its logs refute the
+-- three formulas; a state has no more bits than a formula may have variables
+pub record IsInductiveEvidence (asked : Asked) (queries : Queries) (certificate : InductiveCert) : Type 0 where
+  pub is_asked : IsAsked asked certificate.assertion
+  pub number : MayBe Assertion certificate.assertion
+  pub visits : MayBe Visits certificate.visits
+  pub bits : queries.width certificate.visits ≤ MOST_VARIABLES
+  pub within : IsTrue (clauses_within (queries.width certificate.visits) certificate.clauses)
+  pub initial : IsRefuted (queries.initial certificate.visits certificate.clauses) certificate.initial
+  pub step : IsRefuted (queries.step certificate.visits certificate.clauses) certificate.step
+  pub bad : IsRefuted (queries.bad certificate.visits certificate.clauses) certificate.bad
 
 -- a number is the greatest number of lemmas of a log that are live at once
 pub record IsMostLive (query : Query) (log : List LogEntry) (most : ℕ) : Type 0 where

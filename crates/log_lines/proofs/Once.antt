@@ -115,8 +115,20 @@ is_lemma_line line second first read hints false begins hint = λ others more so
     let tails : second ≡ hints_text more = (let end = both.1 in cc) in
     hint more (and_parts (clause_within MOST_VARIABLES others) (list_all is_number more) some).1 tails
 
+-- a line that begins with literals and a 0 and goes on is no clause's
+pub no_clause : (line behind : List ℕ) (read others : List ℤ) → Begins line behind read → (behind ≡ [] → ⊥) → IsTrue (clause_within MOST_VARIABLES others) → line ≡ literals_text others → ⊥
+no_clause line behind read others begins more within is =
+    more (begins_once line behind [] read others begins (record { is = is ∙ sym (append-nil (literals_text others)); within = within; ends = tt })).1
+
+-- nor is one that begins with no list of literals
+pub no_list : (line : List ℕ) (others : List ℤ) → ((behind : List ℕ) (literals : List ℤ) → Begins line behind literals → ⊥) → IsTrue (clause_within MOST_VARIABLES others) → line ≡ literals_text others → ⊥
+no_list line others none within is = none [] others (record { is = is ∙ sym (append-nil (literals_text others)); within = within; ends = tt })
+
+pub clause_is : (line behind : List ℕ) (read : List ℤ) → Begins line behind read → behind ≡ [] → line ≡ literals_text read
+clause_is line behind read begins none = begins.is ∙ ap (λ (bs : List ℕ). literals_text read ++ bs) none ∙ append-nil (literals_text read)
+
 -- the line of an entry has no line feed
-literals_lack : (mark : ℕ) (literals : List ℤ) → mark < 32 → IsTrue (clause_within MOST_VARIABLES literals) → lacks mark (literals_text literals) ≡ true
+pub literals_lack : (mark : ℕ) (literals : List ℤ) → mark < 32 → IsTrue (clause_within MOST_VARIABLES literals) → lacks mark (literals_text literals) ≡ true
 literals_lack mark [] low all = and_from (not (eqb 48 mark)) true (ap not (ne_eqb 48 mark (λ same. omega arith))) refl
 literals_lack mark (literal ∷ literals) low all =
     let parts = within_parts literal literals all in

@@ -1,11 +1,13 @@
 // The lines of a text, and the entries of lines.
-ghost use Rattle.std.specs.Prelude.{◌≡◌, ℕ, Bool, true, ◌∷◌, ◌++◌, IfOk, IfSome, IfNone};
+ghost use Rattle.std.specs.Prelude.{◌≡◌, ℕ, ℤ, Bool, true, List, ◌∷◌, ◌++◌, IsTrue, IfOk, IfSome, IfNone};
 ghost use Rattle.clauses.specs.Entries.{entry_of};
+ghost use Rattle.clauses.specs.Literals.{clause_within};
 ghost use Rattle.clauses.specs.Logs.{LogEntry, is_number};
 ghost use Rattle.clauses.specs.Logs.LogEntry.{Forget};
-ghost use Rattle.log_lines.specs.Lines.{entry_text, has_line, lacks};
+ghost use Rattle.clauses.specs.declared.flat.TheConstants.{MOST_VARIABLES};
+ghost use Rattle.log_lines.specs.Lines.{entry_text, has_line, lacks, literals_text};
 
-use crate::words::{length_before, read_drop, read_lemma};
+use crate::words::{length_before, read_drop, read_lemma, read_literals};
 use clauses::Entry;
 use psl_base::NoMemory;
 use std::alloc::Global;
@@ -62,6 +64,24 @@ pub fn read_entry<'a>(
         literals: &room.literals,
         hints: &room.hints,
     }))
+}
+
+/// The literals of the line of a clause, which has no line feed: its literals and a 0, with one blank between two of them.
+/// None where the line is no clause's.
+pub fn read_clause<'a>(line: &[u8], room: &'a mut LineRoom) -> Result<Option<&'a [i32]>, NoMemory>
+    ensures some { IfOk result (λ read. IfSome read (λ literals. (line.now ≡ literals_text literals.now)
+        × IsTrue (clause_within MOST_VARIABLES literals.now))) }
+    ensures none { IfOk result (λ read. IfNone read ((literals : List ℤ) → IsTrue (clause_within MOST_VARIABLES literals)
+        → line.now ≡ literals_text literals → ⊥)) }
+{
+    let Some(behind) = read_literals(line, &mut room.literals)? else {
+        return Ok(None);
+    };
+    if behind.is_empty() {
+        Ok(Some(&room.literals))
+    } else {
+        Ok(None)
+    }
 }
 
 /// The number that a drop line names, where drops have lines.

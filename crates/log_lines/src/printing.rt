@@ -59,6 +59,17 @@ pub fn add_log2(text: &mut Vec<u8>, log: &Log) -> Result<(), NoMemory>
     Ok(())
 }
 
+/// Adds the line of a clause at the end of a text: its literals and a 0.
+///
+/// # Errors
+/// `NoMemory` where the allocator refuses memory.
+pub fn add_clause_line(text: &mut Vec<u8>, literals: &[i32]) -> Result<(), NoMemory>
+    ensures { OnOk result (text.new.items ≡ text.old.items ++ (literals_text literals.now ++ 10 ∷ [])) }
+{
+    add_literals(text, literals)?;
+    add_bytes(text, b"\n")
+}
+
 fn add_lemma_line(text: &mut Vec<u8>, literals: &[i32], hints: &[u32]) -> Result<(), NoMemory>
     ensures { OnOk result (text.new.items ≡ text.old.items ++ (entry_text (Lemma literals.now hints.now) ++ 10 ∷ [])) }
 {

@@ -10,7 +10,7 @@ returns-in_err-answer-clause-fault c =
     let unit = c.args.claim.unit.now in
     let p = err_from_is_err_and c.from_residual-in_err-answer.result c.from_residual-in_err-answer.ensures.1 in
     rw (p.1, p.2) (fault_behind c.args.claim.netlist.now unit c.args.claim.directive.now c.in_ok-violation.violation c.in_ok-violation.ensures.automaton c.args.header
-    (c.in_ok-check_sizes.ensures.sized unit c.in_ok-assumed.ensures) c.in_err-answer.field-0.0 c.in_err-answer.ensures.fault)
+    (c.in_ok-check_sizes.ensures.sized unit c.in_ok-assumed.ensures) c.args.reading.now c.in_err-answer.field-0.0 c.in_err-answer.ensures.fault)
 
 pub returns-clause-answer : goal.returns-clause-answer
 returns-clause-answer c =
@@ -22,7 +22,7 @@ pub returns-clause-fits : goal.returns-clause-fits
 returns-clause-fits c =
     let unit = c.args.claim.unit.now in
     fits_behind c.args.claim.netlist.now unit c.args.claim.directive.now c.in_ok-violation.violation c.in_ok-violation.ensures.automaton c.args.header
-    (c.in_ok-check_sizes.ensures.sized unit c.in_ok-assumed.ensures) c.in_ok-answer.ensures.fits
+    (c.in_ok-check_sizes.ensures.sized unit c.in_ok-assumed.ensures) c.args.reading.now c.in_ok-answer.ensures.fits
 
 pub returns-clause-sound : goal.returns-clause-sound
 returns-clause-sound c = subst IsSound c.in_ok-violation.ensures.automaton c.automaton_law.ensures

@@ -26,8 +26,8 @@ pub loop-line-preserved : goal.loop-line-preserved
 loop-line-preserved c =
     let query = query_of c.args.formula.now in
     let so_far = c.loop-line.invariant in
-    let becomes : Becomes c.loop-line.checker query so_far.entries c.in-Ok.line.now steps.Entry c.take.new.self =
-    rw c.in-Entry.is at (c.in_ok-take.ensures.becomes query so_far.entries so_far.holds) in
+    let becomes : Becomes c.loop-line.checker query so_far.entries c.in-Ok.line.now steps.Taken c.take.new.self =
+    rw c.in-Taken.is at (c.in_ok-take.ensures.becomes query so_far.entries so_far.holds) in
     entry_next c.args.header c.args.section query c.args.reading.now c.loop-line.reading c.loop-line.checker so_far
     c.in-Ok.line.now c.next.new.self c.take.new.self c.in-Ok.ensures.line becomes c.in_ok-take.ensures.header c.in_ok-take.ensures.section c.in_ok-take.ensures.room
 

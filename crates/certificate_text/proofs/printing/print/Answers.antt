@@ -1,6 +1,7 @@
-use Rattle.std.proofs.Common.{◌∙◌, ap, sym, [], ◌∷◌, ◌++◌, ℕ, List, append_assoc}
-use Rattle.certificate.specs.Lines.{end_line, header_lines, lines_text}
-use Rattle.certificate.specs.Printed.{entry_lines, header_of}
+use Rattle.std.proofs.Common.{◌∙◌, ap, sym, [], ◌++◌, ℕ, List, append_assoc}
+use Rattle.certificate.specs.Lines.{header_lines, lines_text}
+use Rattle.certificate.specs.Printed.{header_of, section_lines}
+use Rattle.certificate.specs.declared.header.Form.TheVariants.{Windowed}
 use Rattle.certificate.specs.declared.header.Section.TheVariants.{Base, Induction}
 use Rattle.certificate_text.proofs.Joining.{all_lines, lines_added}
 use Rattle.certificate_text.proofs.printing.print.Goals as goal
@@ -9,8 +10,8 @@ pub returns : goal.returns
 returns c =
     let certificate = c.args.certificate.now in
     let header = header_lines certificate.assertion (header_of c.args.version certificate) in
-    let base = entry_lines c.args.version certificate.base ++ end_line Base ∷ [] in
-    let induction = entry_lines c.args.version certificate.induction ++ end_line Induction ∷ [] in
+    let base = section_lines (Windowed c.args.version) Base certificate.base in
+    let induction = section_lines (Windowed c.args.version) Induction certificate.induction in
     let empty = c.new-text.ensures.items in
     let first = c.in_ok-add_header.ensures ∙ ap (λ (text : List ℕ). text ++ lines_text header) empty in
     let second = lines_added header base [] c.add_header.new.text.items c.add_section.new.text.items first c.in_ok-add_section.ensures in

@@ -1,7 +1,8 @@
+use Rattle.std.proofs.Common.{[]}
 use Rattle.std.proofs.lemmas.Result.{err_from_is_err_and}
 use Rattle.cert_check.specs.Claims.{queries_for}
 use Rattle.cert_check.proofs.Sizes.{base_query, both_fit, induction_query, of_induction}
-use Rattle.cert_check.proofs.formulas.check_lines.Goals as goal
+use Rattle.cert_check.proofs.formulas.check_windowed.Goals as goal
 
 pub returns-in_err-early-clause-fault : goal.returns-in_err-early-clause-fault
 returns-in_err-early-clause-fault c =
@@ -32,9 +33,9 @@ returns-in-Some-2-clause-answer c = λ asked text at.
     (record { variables = c.in_ok-base.ensures.variables; clauses = c.in_ok-base.ensures.clauses }) in
     let second = induction_query c.args.netlist.now c.args.violation.now c.args.header c.in_ok-joint.joint c.in_ok-joint.ensures.is c.in_ok-induction.induction
     (record { variables = c.in_ok-induction.ensures.variables; clauses = c.in_ok-induction.ensures.clauses }) in
-    let behind = c.in_ok-refusal.ensures.stands c.in_default.is asked (queries_for c.args.netlist.now c.args.violation.now) text first at in
+    let behind = c.in_ok-refusal.ensures.stands c.in_default.is asked (queries_for c.args.netlist.now c.args.violation.now) text [] first at in
     let refused = rw c.in-Some-2.is at c.in_ok-refusal-2.ensures.refused in
-    refused asked (queries_for c.args.netlist.now c.args.violation.now) text second behind
+    refused asked (queries_for c.args.netlist.now c.args.violation.now) text [] second behind
 
 pub returns-clause-answer : goal.returns-clause-answer
 returns-clause-answer c = λ asked text at.
@@ -42,12 +43,12 @@ returns-clause-answer c = λ asked text at.
     (record { variables = c.in_ok-base.ensures.variables; clauses = c.in_ok-base.ensures.clauses }) in
     let second = induction_query c.args.netlist.now c.args.violation.now c.args.header c.in_ok-joint.joint c.in_ok-joint.ensures.is c.in_ok-induction.induction
     (record { variables = c.in_ok-induction.ensures.variables; clauses = c.in_ok-induction.ensures.clauses }) in
-    let behind = c.in_ok-refusal.ensures.stands c.in_default.is asked (queries_for c.args.netlist.now c.args.violation.now) text first at in
-    c.end.ensures asked (queries_for c.args.netlist.now c.args.violation.now) text (c.in_ok-refusal-2.ensures.stands c.in_default-2.is asked (queries_for c.args.netlist.now c.args.violation.now) text second behind)
+    let behind = c.in_ok-refusal.ensures.stands c.in_default.is asked (queries_for c.args.netlist.now c.args.violation.now) text [] first at in
+    c.end.ensures asked (queries_for c.args.netlist.now c.args.violation.now) text (c.in_ok-refusal-2.ensures.stands c.in_default-2.is asked (queries_for c.args.netlist.now c.args.violation.now) text [] second behind)
 
 pub returns-in-Some-clause-answer : goal.returns-in-Some-clause-answer
 returns-in-Some-clause-answer c = λ asked text at.
     let first = base_query c.args.netlist.now c.args.violation.now c.args.header c.in_ok-joint.joint c.in_ok-joint.ensures.is c.in_ok-base.base
     (record { variables = c.in_ok-base.ensures.variables; clauses = c.in_ok-base.ensures.clauses }) in
     let refused = rw c.in-Some.is at c.in_ok-refusal.ensures.refused in
-    refused asked (queries_for c.args.netlist.now c.args.violation.now) text first at
+    refused asked (queries_for c.args.netlist.now c.args.violation.now) text [] first at

@@ -3,11 +3,11 @@ use Rattle.std.proofs.lemmas.Result.{on_ok_weaker}
 use Rattle.certificate.specs.Lines.{end_line, lines_text}
 use Rattle.certificate.specs.Printed.{entry_lines}
 use Rattle.certificate_text.proofs.Joining.{lines_added}
-use Rattle.certificate_text.proofs.printing.add_section.Goals as goal
+use Rattle.certificate_text.proofs.lines.add_section.Goals as goal
 
 pub returns : goal.returns
 returns c =
-    let log = entry_lines c.args.version c.args.log.now in
+    let log = entry_lines c.args.form c.args.log.now in
     let end = end_line c.args.section in
     let text = c.add_entries.new.text.items in
     on_ok_weaker c.add_line.result
