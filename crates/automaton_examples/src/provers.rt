@@ -1,7 +1,7 @@
 // What no clause says: that the calls succeed with ample memory.
 ghost use Rattle.std.specs.Prelude.{◌<◌, ◌≤◌, ◌-◌, ◌^◌};
 
-use netlist::{Latches, Netlist, Signals, Tables};
+use netlist::{Init, Latch, Latches, Netlist, Signals, Tables};
 use owed::assumed_size;
 use prover::{Finding, Options, Task, prove};
 use psl_base::{Items, NoMemory, Place, Text, boxed};
@@ -30,6 +30,31 @@ fn example(alloc: Global) -> Result<Netlist, NoMemory> {
     ))
 }
 
+// A latch z that is 0 at first and stays as it is, and nothing else.
+fn latch_example(alloc: Global) -> Result<Netlist, NoMemory> {
+    let mut names = Names::new(alloc);
+    names.push(Name {
+        text: Text::from_slice(alloc, b"z")?,
+        signal: 0,
+        left: 0,
+        right: 0,
+    })?;
+    let latch = Latch {
+        input: 0,
+        output: 0,
+        init: Init::Zero,
+    };
+    let latches = Latches::from_slice(alloc, &[latch])?;
+    Ok(Netlist::of(
+        1,
+        Signals::new(alloc),
+        latches,
+        Tables::new(alloc),
+        names,
+        Signals::new(alloc),
+    ))
+}
+
 // `assert !i;`, or that i does not rise or fall.
 fn assertion(alloc: Global, edge: Edge) -> Result<Directive, NoMemory> {
     let test = Bool::Test(Atom {
@@ -46,15 +71,34 @@ fn assertion(alloc: Global, edge: Edge) -> Result<Directive, NoMemory> {
     })
 }
 
-// What is found of an assertion up to a depth.
+// `assert always !z;`, that z is not at last 1.
+fn always_not(alloc: Global) -> Result<Directive, NoMemory> {
+    let test = Bool::Test(Atom {
+        signal: 0,
+        bit: 0,
+        edge: Edge::Value,
+    });
+    let always = boxed(alloc, Fl::Now(Bool::Const(true)))?;
+    let at_last = Fl::Until(always, boxed(alloc, Fl::Now(test))?);
+    Ok(Directive {
+        number: 1,
+        kind: Kind::Assert,
+        label: None,
+        place: Place { line: 1, column: 1 },
+        formula: Fl::Not(boxed(alloc, at_last)?),
+    })
+}
+
+// What is found of an assertion up to a depth, with inductive clauses sought or not.
 fn finding(
     alloc: Global,
     netlist: &Netlist,
     assertion: &Directive,
     depth: u32,
+    reach: bool,
 ) -> Result<Finding, Fail>
     requires some { 1 ≤ depth }
-    requires few { depth < 2 ^ 32 - 1 }
+    requires few { depth ≤ 1000 }
 {
     let unit = Items::new(alloc);
     let assumed = assumed_size(alloc, &unit)?;
@@ -72,6 +116,7 @@ fn finding(
             depth,
             visits: 1,
             steps: 1000,
+            reach,
         },
     };
     let found = prove(alloc, task)?;
@@ -81,11 +126,21 @@ fn finding(
 // What is found of the example up to a depth.
 fn found(alloc: Global, edge: Edge, depth: u32) -> Result<Finding, Fail>
     requires some { 1 ≤ depth }
-    requires few { depth < 2 ^ 32 - 1 }
+    requires few { depth ≤ 1000 }
 {
     let netlist = example(alloc)?;
     let assertion = assertion(alloc, edge)?;
-    finding(alloc, &netlist, &assertion, depth)
+    finding(alloc, &netlist, &assertion, depth, false)
+}
+
+// What is found of the latch up to a depth: whether it is never 1.
+fn found_of_latch(alloc: Global, depth: u32, reach: bool) -> Result<Finding, Fail>
+    requires some { 1 ≤ depth }
+    requires few { depth ≤ 1000 }
+{
+    let netlist = latch_example(alloc)?;
+    let assertion = always_not(alloc)?;
+    finding(alloc, &netlist, &assertion, depth, reach)
 }
 
 #[test]
@@ -112,5 +167,18 @@ fn one_valuation_does_not_tell(rt: HostRuntime) -> Result<(), Fail> {
         return Err("a depth of 1 was enough".into());
     };
     assert_eq!(rt; paths.len(), 2);
+    Ok(())
+}
+
+#[test]
+fn inductive_clauses_tell(rt: HostRuntime) -> Result<(), Fail> {
+    let Finding::Depth(paths) = found_of_latch(rt.alloc(), 3, false)? else {
+        return Err("a window of 3 was enough".into());
+    };
+    assert_eq!(rt; paths.len(), 2);
+    let Finding::ProvedReach(certificate) = found_of_latch(rt.alloc(), 3, true)? else {
+        return Err("no clauses were found".into());
+    };
+    assert_eq!(rt; certificate.visits, 0);
     Ok(())
 }

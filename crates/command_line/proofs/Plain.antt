@@ -1,10 +1,11 @@
 -- Words that `clap` reads as they stand.
-use Rattle.std.proofs.Common.{◌≡◌, ◌<◌, ◌≤◌, ◌^◌, ap, refl, sym, subst, ℕ, false, true, List, [], ◌∷◌, Option, None, Some, codes, arith}
+use Rattle.std.proofs.Common.{◌≡◌, ◌<◌, ◌≤◌, ◌^◌, ap, refl, sym, subst, ℕ, Bool, false, true, List, [], ◌∷◌, Option, None, Some, codes, arith}
 use Rattle.std.specs.Fmt.{digits}
 use Rattle.std.specs.Prelude.{decimal}
 use Rattle.std.specs.Str.Parse.{AllDigits}
 use Rattle.std.proofs.lemmas.Fmt.{decimal_is_IsNumeral}
 use Rattle.std.proofs.lemmas.Str.Parse.{digit_from_value}
+use Rattle.clap.specs.Walk.{Walk}
 use Rattle.clap.proofs.OnLiterals.{clap_on_literals}
 use Rattle.command_line.specs.Clap.{Takes, app, given, is_true}
 use Rattle.command_line.specs.Commands.{AreLimits, IsCommand, Values, most_seed}
@@ -13,12 +14,12 @@ use Rattle.command_line.specs.Evidences.{IsEvidence}
 use Rattle.command_line.specs.Kinds.{word_of}
 use Rattle.command_line.specs.Numbers.{IsGiven}
 use Rattle.command_line.specs.Ranges.{AreInRange}
-use Rattle.command_line.specs.Plain.{ArePlain, IsPlain, certificates_in, limits_of_depth, recordings_in, to_check, usual_limits, with_depth, with_options, with_points, with_recordings, with_unknown}
+use Rattle.command_line.specs.Plain.{ArePlain, IsPlain, certificates_in, limits_of_depth, limits_of_reach, reach_flag, recordings_in, to_check, usual_limits, with_depth, with_options, with_points, with_recordings, with_unknown}
 use Rattle.command_line.specs.declared.Limits.{Limits}
 use Rattle.command_line.specs.declared.Unknown.{Unknown}
 use Rattle.command_line.specs.declared.Unknown.TheVariants.{Zero, One, Refuse}
 use Rattle.command_line.specs.declared.kinds.Kind.TheVariants.{Wave, Gen, Show, Prove, Check, Replay}
-use Rattle.command_line.proofs.Runs.{any_then, behind, behind_any, behind_value, ends, run_given, run_taken, start, value_then, word_then}
+use Rattle.command_line.proofs.Runs.{Runs, any_then, behind, behind_any, behind_value, ends, run_given, run_taken, shape_of, start, value_then, word_then}
 
 -- digits do not begin with a hyphen
 plain_digits : (digits : List ℕ) → AllDigits 10 digits → IsPlain digits
@@ -178,11 +179,13 @@ plain_netlist most a b one two =
 
 -- the limits, where two of the options are not given
 usual : (values : Values) (limits : Limits) → IsGiven 1 1000 (values (codes "depth")) limits.depth → values (codes "visits") ≡ Some (codes "4")
-    → values (codes "steps") ≡ Some (codes "1000000") → AreLimits values (limits_of_depth limits.depth)
-usual values limits depth visits steps = record {
+    → values (codes "steps") ≡ Some (codes "1000000") → is_true (values (codes "reach")) ≡ limits.reach
+    → AreLimits values (record usual_limits { depth = limits.depth; reach = limits.reach })
+usual values limits depth visits steps reach = record {
   depth = depth;
   visits = given_text 0 16 4 _ (codes "4") visits usual_visits (omega arith) (omega arith);
   steps = given_text 1 10000000 1000000 _ (codes "1000000") steps usual_steps (omega arith) (omega arith);
+  reach = reach;
 }
 
 -- certificates alone
@@ -202,7 +205,7 @@ plain_prove most a b one two =
       (
         run_given Prove words end (codes "unit") run,
         run_given Prove words end (codes "netlist") run,
-        usual _ usual_limits depth (run_given Prove words end (codes "visits") run) (run_given Prove words end (codes "steps") run),
+        usual _ usual_limits depth (run_given Prove words end (codes "visits") run) (run_given Prove words end (codes "steps") run) (ap is_true (run_given Prove words end (codes "reach") run)),
         certified _ _ (run_given Prove words end (codes "cert") run) (run_given Prove words end (codes "vcd") run) (run_given Prove words end (codes "loops") run),
       ),
     )
@@ -225,22 +228,73 @@ plain_depth most a b number one two above below =
       (
         run_given Prove words end (codes "unit") run,
         run_given Prove words end (codes "netlist") run,
-        usual _ (limits_of_depth number) depth (run_given Prove words end (codes "visits") run) (run_given Prove words end (codes "steps") run),
+        usual _ (limits_of_depth number) depth (run_given Prove words end (codes "visits") run) (run_given Prove words end (codes "steps") run) (ap is_true (run_given Prove words end (codes "reach") run)),
         certified _ _ (run_given Prove words end (codes "cert") run) (run_given Prove words end (codes "vcd") run) (run_given Prove words end (codes "loops") run),
       ),
     )
 
-pub plain_options : (most : ℕ) (unit netlist prefix : List ℕ) (limits : Limits) → ArePlain unit netlist prefix → AreInRange limits
-    → IsCommand most (with_options unit netlist limits prefix) (prove unit netlist limits (certificates_in (Some prefix)))
+pub plain_reach : (most : ℕ) (unit netlist : List ℕ) → IsPlain unit → IsPlain netlist
+    → IsCommand most (codes "prove" ∷ unit ∷ netlist ∷ codes "--reach" ∷ []) (prove unit netlist limits_of_reach (certificates_in None))
 unfolding clap_on_literals app
-plain_options most a b prefix limits plain range =
+plain_reach most a b one two =
+    let on_flag = codes "--reach" ∷ [] in
+    let words = a ∷ b ∷ on_flag in
+    let first = behind Prove start a in
+    let second = behind Prove first b in
+    let end = behind_any Prove second (codes "--reach") in
+    let run = word_then Prove start.held 1 end a (b ∷ on_flag) one refl
+    (word_then Prove first.held 2 end b on_flag two refl
+    (any_then Prove second end (codes "--reach") [] refl (ends Prove end))) in
+    let depth = given_text 1 1000 20 _ (codes "20") (run_given Prove words end (codes "depth") run) usual_depth (omega arith) (omega arith) in (
+      record { named = refl; taken = run_taken Prove words end run refl },
+      (
+        run_given Prove words end (codes "unit") run,
+        run_given Prove words end (codes "netlist") run,
+        usual _ limits_of_reach depth (run_given Prove words end (codes "visits") run) (run_given Prove words end (codes "steps") run) (ap is_true (run_given Prove words end (codes "reach") run)),
+        certified _ _ (run_given Prove words end (codes "cert") run) (run_given Prove words end (codes "vcd") run) (run_given Prove words end (codes "loops") run),
+      ),
+    )
+
+-- all words behind `prove`, with some more at their end
+abbrev options_then : List ℕ → List ℕ → Limits → List ℕ → List (List ℕ) → List (List ℕ)
+options_then unit netlist limits prefix more =
+    codes "--cert" ∷ prefix ∷ codes "--steps" ∷ decimal limits.steps ∷ codes "--visits" ∷ decimal limits.visits ∷ unit
+    ∷ codes "--depth" ∷ decimal limits.depth ∷ netlist ∷ more
+
+abbrev behind_prefix : List ℕ → Walk
+behind_prefix prefix = behind_value Prove (behind_any Prove start (codes "--cert")) (codes "cert") prefix
+
+abbrev behind_steps : Limits → List ℕ → Walk
+behind_steps limits prefix =
+    behind_value Prove (behind_any Prove (behind_prefix prefix) (codes "--steps")) (codes "steps") (decimal limits.steps)
+
+abbrev behind_visits : Limits → List ℕ → Walk
+behind_visits limits prefix =
+    behind_value Prove (behind_any Prove (behind_steps limits prefix) (codes "--visits")) (codes "visits") (decimal limits.visits)
+
+abbrev behind_unit : List ℕ → Limits → List ℕ → Walk
+behind_unit unit limits prefix = behind Prove (behind_visits limits prefix) unit
+
+abbrev behind_depth : List ℕ → Limits → List ℕ → Walk
+behind_depth unit limits prefix =
+    behind_value Prove (behind_any Prove (behind_unit unit limits prefix) (codes "--depth")) (codes "depth") (decimal limits.depth)
+
+-- the state behind the name of the netlist
+abbrev behind_options : List ℕ → List ℕ → Limits → List ℕ → Walk
+behind_options unit netlist limits prefix = behind Prove (behind_depth unit limits prefix) netlist
+
+options_run : (unit netlist prefix : List ℕ) (limits : Limits) (more : List (List ℕ)) (end : Walk) → ArePlain unit netlist prefix → AreInRange limits
+    → Runs (shape_of Prove) (behind_options unit netlist limits prefix) more end
+    → Runs (shape_of Prove) start (options_then unit netlist limits prefix more) end
+unfolding clap_on_literals app
+options_run a b prefix limits more end plain range rest =
     let steps = decimal limits.steps in
     let visits = decimal limits.visits in
     let depth = decimal limits.depth in
     let wide : limits.steps < 2 ^ 64 = let below = range.steps in omega arith in
     let some : limits.visits < 2 ^ 64 = let below = range.visits in omega arith in
     let deep : limits.depth < 2 ^ 64 = let below = range.depth in omega arith in
-    let on_netlist = b ∷ [] in
+    let on_netlist = b ∷ more in
     let on_depth = depth ∷ on_netlist in
     let on_deep = codes "--depth" ∷ on_depth in
     let on_unit = a ∷ on_deep in
@@ -249,18 +303,16 @@ plain_options most a b prefix limits plain range =
     let on_steps = steps ∷ on_visit in
     let on_step = codes "--steps" ∷ on_steps in
     let on_prefix = prefix ∷ on_step in
-    let words = codes "--cert" ∷ on_prefix in
     let w1 = behind_any Prove start (codes "--cert") in
-    let w2 = behind_value Prove w1 (codes "cert") prefix in
+    let w2 = behind_prefix prefix in
     let w3 = behind_any Prove w2 (codes "--steps") in
-    let w4 = behind_value Prove w3 (codes "steps") steps in
+    let w4 = behind_steps limits prefix in
     let w5 = behind_any Prove w4 (codes "--visits") in
-    let w6 = behind_value Prove w5 (codes "visits") visits in
-    let w7 = behind Prove w6 a in
+    let w6 = behind_visits limits prefix in
+    let w7 = behind_unit a limits prefix in
     let w8 = behind_any Prove w7 (codes "--depth") in
-    let w9 = behind_value Prove w8 (codes "depth") depth in
-    let end = behind Prove w9 b in
-    let run = any_then Prove start end (codes "--cert") on_prefix refl
+    let w9 = behind_depth a limits prefix in
+    any_then Prove start end (codes "--cert") on_prefix refl
     (value_then Prove w1.held 1 end (codes "cert") prefix on_step plain.2
     (any_then Prove w2 end (codes "--steps") on_steps refl
     (value_then Prove w3.held 1 end (codes "steps") steps on_visit (plain_decimal limits.steps wide)
@@ -269,19 +321,64 @@ plain_options most a b prefix limits plain range =
     (word_then Prove w6.held 1 end a on_deep plain.0 refl
     (any_then Prove w7 end (codes "--depth") on_depth refl
     (value_then Prove w8.held 2 end (codes "depth") depth on_netlist (plain_decimal limits.depth deep)
-    (word_then Prove w9.held 2 end b [] plain.1 refl (ends Prove end)))))))))) in (
+    (word_then Prove w9.held 2 end b more plain.1 refl rest)))))))))
+
+-- limits in their ranges are those that their decimal forms say
+limits_given : (values : Values) (limits : Limits) → AreInRange limits → values (codes "depth") ≡ Some (decimal limits.depth)
+    → values (codes "visits") ≡ Some (decimal limits.visits) → values (codes "steps") ≡ Some (decimal limits.steps)
+    → is_true (values (codes "reach")) ≡ limits.reach → AreLimits values limits
+limits_given values limits range depth visits steps reach = record {
+  depth = given_number 1 1000 limits.depth _ depth range.some_depth range.depth;
+  visits = given_number 0 16 limits.visits _ visits (omega arith) range.visits;
+  steps = given_number 1 10000000 limits.steps _ steps range.some_steps range.steps;
+  reach = reach;
+}
+
+-- the flag has no range
+range_with : (limits : Limits) (reach : Bool) → AreInRange limits → AreInRange (record limits { reach = reach })
+range_with limits reach range = record {
+  some_depth = range.some_depth;
+  depth = range.depth;
+  visits = range.visits;
+  some_steps = range.some_steps;
+  steps = range.steps;
+}
+
+options_with : (most : ℕ) (unit netlist prefix : List ℕ) (limits : Limits) (reach : Bool) → ArePlain unit netlist prefix → AreInRange limits
+    → IsCommand most (with_options unit netlist (record limits { reach = reach }) prefix)
+    (prove unit netlist (record limits { reach = reach }) (certificates_in (Some prefix)))
+unfolding clap_on_literals app
+options_with most a b prefix limits true plain range =
+    let words = options_then a b limits prefix (reach_flag true) in
+    let before = behind_options a b limits prefix in
+    let end = behind_any Prove before (codes "--reach") in
+    let run = options_run a b prefix limits (reach_flag true) end plain range (any_then Prove before end (codes "--reach") [] refl (ends Prove end)) in (
       record { named = refl; taken = run_taken Prove words end run refl },
       (
         run_given Prove words end (codes "unit") run,
         run_given Prove words end (codes "netlist") run,
-        record {
-          depth = given_number 1 1000 limits.depth _ (run_given Prove words end (codes "depth") run) range.some_depth range.depth;
-          visits = given_number 0 16 limits.visits _ (run_given Prove words end (codes "visits") run) (omega arith) range.visits;
-          steps = given_number 1 10000000 limits.steps _ (run_given Prove words end (codes "steps") run) range.some_steps range.steps;
-        },
+        limits_given _ (record limits { reach = true }) (range_with limits true range) (run_given Prove words end (codes "depth") run) (run_given Prove words end (codes "visits") run)
+            (run_given Prove words end (codes "steps") run) (ap is_true (run_given Prove words end (codes "reach") run)),
         certified _ _ (run_given Prove words end (codes "cert") run) (run_given Prove words end (codes "vcd") run) (run_given Prove words end (codes "loops") run),
       ),
     )
+options_with most a b prefix limits false plain range =
+    let words = options_then a b limits prefix [] in
+    let end = behind_options a b limits prefix in
+    let run = options_run a b prefix limits [] end plain range (ends Prove end) in (
+      record { named = refl; taken = run_taken Prove words end run refl },
+      (
+        run_given Prove words end (codes "unit") run,
+        run_given Prove words end (codes "netlist") run,
+        limits_given _ (record limits { reach = false }) (range_with limits false range) (run_given Prove words end (codes "depth") run) (run_given Prove words end (codes "visits") run)
+            (run_given Prove words end (codes "steps") run) (ap is_true (run_given Prove words end (codes "reach") run)),
+        certified _ _ (run_given Prove words end (codes "cert") run) (run_given Prove words end (codes "vcd") run) (run_given Prove words end (codes "loops") run),
+      ),
+    )
+
+pub plain_options : (most : ℕ) (unit netlist prefix : List ℕ) (limits : Limits) → ArePlain unit netlist prefix → AreInRange limits
+    → IsCommand most (with_options unit netlist limits prefix) (prove unit netlist limits (certificates_in (Some prefix)))
+plain_options most a b prefix limits plain range = options_with most a b prefix limits limits.reach plain range
 
 pub plain_check : (most : ℕ) (unit netlist certificate : List ℕ) (number : ℕ) → ArePlain unit netlist certificate → 1 ≤ number
     → number < 2 ^ 32 → IsCommand most (to_check unit netlist number certificate) (check unit netlist number certificate)
@@ -343,7 +440,7 @@ plain_recordings most a b prefix number plain some most_loops =
       (
         run_given Prove words end (codes "unit") run,
         run_given Prove words end (codes "netlist") run,
-        usual _ usual_limits depth (run_given Prove words end (codes "visits") run) (run_given Prove words end (codes "steps") run),
+        usual _ usual_limits depth (run_given Prove words end (codes "visits") run) (run_given Prove words end (codes "steps") run) (ap is_true (run_given Prove words end (codes "reach") run)),
         record {
           cert = run_given Prove words end (codes "cert") run;
           vcd = run_given Prove words end (codes "vcd") run;

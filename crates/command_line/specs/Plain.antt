@@ -1,5 +1,5 @@
 -- Words that `clap` reads as they stand.
-use Rattle.std.specs.Prelude.{◌≢◌, ℕ, List, [], ◌∷◌, Option, None, Some, codes, decimal, slice_index}
+use Rattle.std.specs.Prelude.{◌≢◌, ℕ, Bool, true, false, List, [], ◌∷◌, Option, None, Some, codes, decimal, slice_index}
 use Rattle.command_line.specs.Evidences.{Wanted}
 use Rattle.command_line.specs.Kinds.{word_of}
 use Rattle.command_line.specs.declared.Limits.{Limits}
@@ -22,20 +22,29 @@ with_points unit recording unknown = codes "wave" ∷ unit ∷ recording ∷ cod
 
 -- the limits where no option is given
 abbrev pub usual_limits : Limits
-usual_limits = record { depth = 20; visits = 4; steps = 1000000 }
+usual_limits = record { depth = 20; visits = 4; steps = 1000000; reach = false }
 
 abbrev pub limits_of_depth : ℕ → Limits
 limits_of_depth number = record usual_limits { depth = number }
+
+-- the limits where `--reach` alone is given
+abbrev pub limits_of_reach : Limits
+limits_of_reach = record usual_limits { reach = true }
+
+-- the flag, where it is to be given
+abbrev pub reach_flag : Bool → List (List ℕ)
+reach_flag true = codes "--reach" ∷ []
+reach_flag false = []
 
 -- `prove UNIT NETLIST --depth N`
 abbrev pub with_depth : List ℕ → List ℕ → ℕ → List (List ℕ)
 with_depth unit netlist number = codes "prove" ∷ unit ∷ netlist ∷ codes "--depth" ∷ decimal number ∷ []
 
--- `prove --cert PREFIX --steps N --visits N UNIT --depth N NETLIST`
+-- `prove --cert PREFIX --steps N --visits N UNIT --depth N NETLIST`, and behind it `--reach` where the limits have it
 abbrev pub with_options : List ℕ → List ℕ → Limits → List ℕ → List (List ℕ)
 with_options unit netlist limits prefix =
     codes "prove" ∷ codes "--cert" ∷ prefix ∷ codes "--steps" ∷ decimal limits.steps ∷ codes "--visits"
-    ∷ decimal limits.visits ∷ unit ∷ codes "--depth" ∷ decimal limits.depth ∷ netlist ∷ []
+    ∷ decimal limits.visits ∷ unit ∷ codes "--depth" ∷ decimal limits.depth ∷ netlist ∷ reach_flag limits.reach
 
 -- certificates alone, where there is a prefix for them
 abbrev pub certificates_in : Option (List ℕ) → Wanted

@@ -180,5 +180,6 @@ fn limits_of(matches: &ArgMatches) -> Option<Limits>
         depth,
         visits,
         steps: u64::from(steps),
+        reach: is_set(matches, "reach"),
     })
 }

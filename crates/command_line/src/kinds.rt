@@ -75,6 +75,7 @@ pub fn args_of<'a>(alloc: Global, kind: Kind) -> Result<Vec<Arg<'a>>, AllocError
             optional(alloc, "cert"),
             optional(alloc, "vcd"),
             option(alloc, "loops", "1"),
+            flag(alloc, "reach"),
         ]?,
         Kind::Check => vec![in alloc;
             required(alloc, "unit"),

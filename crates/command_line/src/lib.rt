@@ -6,7 +6,7 @@ ghost use Rattle.std.specs.Prelude.{◌≡◌, ◌∷◌, ◌<◌, ◌≤◌, �
 ghost use Rattle.command_line.specs.Commands.{IsCommand, IsNoCommand, IsRefused, Meaning, meaning_of, most_seed};
 ghost use Rattle.command_line.specs.Commands.Meaning.{wave as a_wave, gen as a_gen, show as a_show, show_netlist as a_netlist, prove as a_proof, check as a_check, replay as a_replay};
 ghost use Rattle.command_line.specs.Ranges.{AreInRange, IsInRange};
-ghost use Rattle.command_line.specs.Plain.{ArePlain, IsPlain, certificates_in, limits_of_depth, recordings_in, to_check, usual_limits, with_depth, with_options, with_points, with_recordings, with_unknown};
+ghost use Rattle.command_line.specs.Plain.{ArePlain, IsPlain, certificates_in, limits_of_depth, limits_of_reach, recordings_in, to_check, usual_limits, with_depth, with_options, with_points, with_recordings, with_unknown};
 
 mod commands;
 mod kinds;
@@ -111,6 +111,9 @@ pub struct Limits {
 
     /// The most lemmas of one query, from 1 to 10,000,000.
     pub steps: u64,
+
+    /// Whether clauses that hold of all that can be reached are sought too: `--reach`.
+    pub reach: bool,
 }
 
 /// Why words give no command.
@@ -188,6 +191,7 @@ pub fn plain_words()
     ensures prove { (most : ℕ) (unit netlist : List ℕ) → IsPlain unit → IsPlain netlist → IsCommand most (codes "prove" ∷ unit ∷ netlist ∷ []) (a_proof unit netlist usual_limits (certificates_in None)) }
     ensures depth { (most : ℕ) (unit netlist : List ℕ) (depth : ℕ) → IsPlain unit → IsPlain netlist → 1 ≤ depth → depth ≤ 1000
         → IsCommand most (with_depth unit netlist depth) (a_proof unit netlist (limits_of_depth depth) (certificates_in None)) }
+    ensures reach { (most : ℕ) (unit netlist : List ℕ) → IsPlain unit → IsPlain netlist → IsCommand most (codes "prove" ∷ unit ∷ netlist ∷ codes "--reach" ∷ []) (a_proof unit netlist limits_of_reach (certificates_in None)) }
     ensures options { (most : ℕ) (unit netlist cert : List ℕ) (limits : Limits) → ArePlain unit netlist cert → AreInRange limits
         → IsCommand most (with_options unit netlist limits cert) (a_proof unit netlist limits (certificates_in (Some cert))) }
     ensures recordings { (most : ℕ) (unit netlist vcd : List ℕ) (loops : ℕ) → ArePlain unit netlist vcd → 1 ≤ loops → loops ≤ 16

@@ -1,20 +1,25 @@
 -- Of directives that are equal but for where the program keeps their parts, a certificate is not checked for one limit at
 -- most, and where it is checked, for none.
-use Rattle.std.proofs.Common.{◌≡◌, refl, sym, ◌∙◌, ap, subst, ℕ, ◌==◌, Bool, true, false, cond, List, [], ◌∷◌, Option, None, Some, Ok, Err, arith}
+use Rattle.std.proofs.Common.{◌≡◌, refl, sym, ◌∙◌, ap, subst, ℕ, ℤ, ◌==◌, Bool, true, false, cond, List, [], ◌∷◌, Option, None, Some, Ok, Err, arith}
 use Rattle.std.specs.Prelude.{◌≢◌}
 use Rattle.std.proofs.lemmas.Option.{same_Some}
 use Rattle.alternating_theory.specs.Obligations.{Automaton}
-use Rattle.cert_check.specs.Claims.{asked_of, directive_of as directive_at, is_some_assertion}
-use Rattle.cert_check.specs.Limits.{AreTooLarge, FitsLimits, HasCause, IsFault, IsFaultBehind}
+use Rattle.cert_check.specs.Claims.{asked_of, directive_of as directive_at, is_some_assertion, queries_by, queries_for, queries_of}
+use Rattle.cert_check.specs.Limits.{ClausesIn, FitsLimits, HasCause, IsFault, IsFaultBehind, IsLarge, IsLargeIn}
 use Rattle.cert_check.specs.declared.fault.CertFault.{CertFault}
 use Rattle.cert_check.specs.declared.fault.CertFault.TheVariants.{SereTooLarge, AutomatonTooLarge, UnrollTooLarge, FormulaTooLarge, NoMemory}
 use Rattle.certificate.proofs.HeaderLines.{header_once}
 use Rattle.certificate.specs.Headers.{HasHeader}
+use Rattle.certificate.specs.Sections.{Queries}
+use Rattle.certificate.specs.Texts.{HasClauses}
+use Rattle.certificate.specs.declared.header.Form.{Form}
+use Rattle.certificate.specs.declared.header.Form.TheVariants.{Windowed, Clausal}
 use Rattle.certificate.specs.declared.answer.CertAnswer.{CertAnswer}
 use Rattle.certificate.specs.declared.header.Asked.{Asked}
 use Rattle.certificate.specs.declared.header.Header.{Header}
 use Rattle.netlist.specs.Design.{Design}
 use Rattle.owed.specs.Owed.{is_assertion}
+use Rattle.owed.specs.Violations.{violation_of}
 use Rattle.psl_elaboration.specs.Answers.{Numbered, directive_of}
 use Rattle.psl_tree.specs.Trees.{Formula}
 use Rattle.psl_tree.specs.declared.directive.Directive.{Directive}
@@ -31,17 +36,17 @@ use Rattle.commands.specs.declared.subject.Subject.{Subject}
 
 -- one text has one limit that it passes
 
-module _ (design : Design) (unit : List Directive) (directive : Directive) (header : Header) where
-  fits-or-not : (fault : CertFault) → (fault ≢ NoMemory) → FitsLimits design unit directive header
-      → IsFaultBehind design unit directive header fault → ⊥
+module _ (design : Design) (unit : List Directive) (directive : Directive) (header : Header) (behind : List (List ℤ) → Type 0) where
+  fits-or-not : (fault : CertFault) → (fault ≢ NoMemory) → FitsLimits design unit directive header behind
+      → IsFaultBehind design unit directive header behind fault → ⊥
   fits-or-not SereTooLarge other fits is = fits.sized.sequences is
   fits-or-not AutomatonTooLarge other fits is = let le = fits.sized.obligations in let lt = is.1 in omega arith
   fits-or-not UnrollTooLarge other fits is = let le = fits.sized.unrolled in let lt = is.2 in omega arith
   fits-or-not FormulaTooLarge other fits is = fits.formulas is.1
   fits-or-not NoMemory other fits is = other refl
 
-  one-behind : (f g : CertFault) → (f ≢ NoMemory) → (g ≢ NoMemory) → IsFaultBehind design unit directive header f
-      → IsFaultBehind design unit directive header g → f ≡ g
+  one-behind : (f g : CertFault) → (f ≢ NoMemory) → (g ≢ NoMemory) → IsFaultBehind design unit directive header behind f
+      → IsFaultBehind design unit directive header behind g → f ≡ g
   one-behind SereTooLarge SereTooLarge n m h k = refl
   one-behind SereTooLarge AutomatonTooLarge n m h k = absurd (k.0 h)
   one-behind SereTooLarge UnrollTooLarge n m h k = absurd (k.0 h)
@@ -84,9 +89,9 @@ module _ (design : Design) (unit : List Directive) (number : ℕ) (text : List �
   one-cause f g n m h k =
       let headers : h.header ≡ k.header = header_once (asked_of unit number) text h.header k.header h.has k.has in
       let directives : h.directive ≡ k.directive = same_Some h.directive k.directive (sym h.is ∙ k.is) in
-      one-behind design unit k.directive k.header f g n m
-      (subst (λ (d : Directive). IsFaultBehind design unit d k.header f) directives
-      (subst (λ (x : Header). IsFaultBehind design unit h.directive x f) headers h.fault_is))
+      one-behind design unit k.directive k.header (ClausesIn design unit number text k.header) f g n m
+      (subst (λ (d : Directive). IsFaultBehind design unit d k.header (ClausesIn design unit number text k.header) f) directives
+      (subst (λ (x : Header). IsFaultBehind design unit h.directive x (ClausesIn design unit number text x) f) headers h.fault_is))
       k.fault_is
 
 -- the directives of one number in two such texts
@@ -130,20 +135,42 @@ other-found (Some c) None d s is = absurd s
 other-found (Some c) (Some e) d s is =
     (e, refl, subst (λ (x : Directive). directive_of x ≡ directive_of e) (same_Some c d is) s)
 
+-- the formulas of one number are the same
+
+pub same-queries : (design : Design) (u v : List Directive) → SameUnit u v → (o p : Option Directive) → SameFound o p → queries_by design u o ≡ queries_by design v p
+same-queries design u v s None None found = refl
+same-queries design u v s (Some d) (Some e) found = ap (λ (a : Automaton). queries_for design a) (same-violation u v d e s found)
+same-queries design u v s None (Some e) found = absurd found
+same-queries design u v s (Some d) None found = absurd found
+
+-- what is too large in one form of a certificate
+moved-large : (form : Form) (design : Design) (automaton : Automaton) (header : Header) (behind other : List (List ℤ) → Type 0)
+    → ((clauses : List (List ℤ)) → behind clauses → other clauses) → IsLargeIn form design automaton header behind → IsLargeIn form design automaton header other
+moved-large (Windowed version) design automaton header behind other same large = large
+moved-large Clausal design automaton header behind other same large = (large.0, same large.0 large.1, large.2)
+
 module _ (design : Design) (u v : List Directive) (s : SameUnit u v) where
-  moved-behind : (d e : Directive) (header : Header) (fault : CertFault) → directive_of d ≡ directive_of e
-      → IsFaultBehind design u d header fault → IsFaultBehind design v e header fault
-  moved-behind d e header SereTooLarge same h =
+  moved-clauses : (number : ℕ) (text : List ℕ) (header : Header) (clauses : List (List ℤ)) → ClausesIn design u number text header clauses
+      → ClausesIn design v number text header clauses
+  moved-clauses number text header clauses has =
+      subst (λ (q : Queries). HasClauses (asked_of v number) q text header clauses)
+      (same-queries design u v s (directive_at u number) (directive_at v number) (same-found u v number s))
+      (subst (λ (a : Asked). HasClauses a (queries_of design u number) text header clauses) (same-asked u v number s) has)
+
+  moved-behind : (d e : Directive) (header : Header) (behind other : List (List ℤ) → Type 0) (fault : CertFault) → directive_of d ≡ directive_of e
+      → ((clauses : List (List ℤ)) → behind clauses → other clauses) → IsFaultBehind design u d header behind fault → IsFaultBehind design v e header other fault
+  moved-behind d e header behind other SereTooLarge same move h =
       subst (λ (f : Formula). IsRefused design header.window f limits.SereTooLarge) (same-owed u v d e s same) h
-  moved-behind d e header AutomatonTooLarge same h =
+  moved-behind d e header behind other AutomatonTooLarge same move h =
       subst (λ (f : Formula). IsRefused design header.window f limits.AutomatonTooLarge) (same-owed u v d e s same) h
-  moved-behind d e header UnrollTooLarge same h =
+  moved-behind d e header behind other UnrollTooLarge same move h =
       subst (λ (f : Formula). IsRefused design header.window f limits.UnrollTooLarge) (same-owed u v d e s same) h
-  moved-behind d e header FormulaTooLarge same h = (
+  moved-behind d e header behind other FormulaTooLarge same move h = (
     subst (IsSized design header.window) (same-owed u v d e s same) h.0,
-    subst (λ (a : Automaton). AreTooLarge design a header) (same-violation u v d e s same) h.1,
+    moved-large header.form design (violation_of v e) header behind other move
+        (subst (λ (a : Automaton). IsLarge design a header behind) (same-violation u v d e s same) h.1),
   )
-  moved-behind d e header NoMemory same h = tt
+  moved-behind d e header behind other NoMemory same move h = tt
 
   pub moved-cause : (number : ℕ) (text : List ℕ) (fault : CertFault) → HasCause design u number text fault → HasCause design v number text fault
   moved-cause number text fault h =
@@ -153,7 +180,8 @@ module _ (design : Design) (u v : List Directive) (s : SameUnit u v) where
         directive = at.0;
         has = subst (λ (a : Asked). HasHeader a text h.header) (same-asked u v number s) h.has;
         is = at.1;
-        fault_is = moved-behind h.directive at.0 h.header fault at.2 h.fault_is;
+        fault_is = moved-behind h.directive at.0 h.header (ClausesIn design u number text h.header) (ClausesIn design v number text h.header) fault at.2
+            (moved-clauses number text h.header) h.fault_is;
       }
 
   same-cert-fault : (unit netlist : List ℕ) (number : ℕ) (fault : CertFault) → cert_fault unit netlist u number fault ≡ cert_fault unit netlist v number fault
@@ -178,7 +206,7 @@ module _ (unit netlist : List ℕ) (number : ℕ) (design : Design) (text : List
       → CertReading unit netlist number (of-design design u) text (Ok answer) → IsUnchecked unit netlist number (of-design design v) text fault → ⊥
   not-unchecked u v s answer fault h k =
       let cause = moved-cause design v u (sym s) number text k.limit (cause-of design v number text k.limit k.is_limit k.passed) in
-      fits-or-not design u cause.directive cause.header k.limit k.is_limit (h.fits cause.header cause.directive cause.has cause.is) cause.fault_is
+      fits-or-not design u cause.directive cause.header (ClausesIn design u number text cause.header) k.limit k.is_limit (h.fits cause.header cause.directive cause.has cause.is) cause.fault_is
 
   pub one-checked-of : (u v : List Directive) → SameUnit u v
       → Agree Any-two (CertReading unit netlist number (of-design design u) text) (CertReading unit netlist number (of-design design v) text)

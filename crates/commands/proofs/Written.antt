@@ -1,31 +1,25 @@
 -- A certificate that is written of a proof is passed, where the text and the netlist are as they were.
-use Rattle.std.proofs.Common.{◌≡◌, refl, sym, ap, subst, ℕ, zero, suc, ◌≤◌, List, [], ◌∷◌, length, Option, None, Some, Ok, Err, arith, inl, inr}
+use Rattle.std.proofs.Common.{◌≡◌, sym, ap, subst, ℕ, zero, suc, ◌≤◌, List, [], ◌∷◌, length, Option, None, Some, Ok, Err, arith, inl, inr}
 use Rattle.std.specs.Prelude.{Result, slice_get}
-use Rattle.alternating_theory.specs.Obligations.{Automaton}
-use Rattle.cert_check.specs.Claims.{asked_of, directive_of as directive_at, queries_by, queries_for, queries_of}
+use Rattle.cert_check.specs.Claims.{asked_of, directive_of as directive_at, queries_of}
 use Rattle.certificate.proofs.OneAnswer.{one_answer}
-use Rattle.certificate.specs.Printed.{cert_text}
 use Rattle.certificate.specs.Sections.{Queries}
 use Rattle.certificate.specs.Texts.{IsAnswer}
 use Rattle.certificate.specs.declared.answer.CertAnswer.{CertAnswer}
 use Rattle.certificate.specs.declared.answer.CertAnswer.TheVariants.{Passed}
-use Rattle.certificate.specs.declared.certificate.Certificate.{Certificate}
 use Rattle.certificate.specs.declared.header.Asked.{Asked}
-use Rattle.certificate.specs.declared.header.Version.TheVariants.{Two}
 use Rattle.command_line.specs.Evidences.{Wanted}
 use Rattle.command_line.specs.declared.Limits.{Limits}
 use Rattle.findings.specs.Assertions.{assertions}
-use Rattle.findings.specs.Entries.{AreEntries, IsEntry, IsPassedFor}
+use Rattle.findings.specs.Entries.{AreEntries, IsEntry, IsPassedText}
 use Rattle.findings.specs.declared.entry.FindingEntry.{FindingEntry}
 use Rattle.netlist.specs.Design.{Design}
-use Rattle.prover.specs.declared.finding.Finding.TheVariants.{Proved}
 use Rattle.prover.specs.declared.options.Options.{Options}
 use Rattle.psl_base.specs.Places.{file_limit}
 use Rattle.psl_base.specs.Shelf.{Contents}
 use Rattle.psl_tree.specs.declared.directive.Directive.{Directive}
 use Rattle.commands.proofs.OneAnswer.{SameSubject, one-subject}
-use Rattle.commands.proofs.SameChecks.{SameFound, moved-cause, cause-of, fault-of, same-asked, same-found}
-use Rattle.commands.proofs.SameOwed.{same-violation}
+use Rattle.commands.proofs.SameChecks.{cause-of, fault-of, moved-cause, same-asked, same-found, same-queries}
 use Rattle.commands.proofs.SameUnits.{SameUnit}
 use Rattle.commands.specs.Checks.{CertReading, CheckStage}
 use Rattle.commands.specs.Provings.{ProveStage, options_of, recordings_in}
@@ -70,14 +64,6 @@ entry-at design unit options wanted (a ∷ more) (e ∷ es) zero entry are is =
     let same : e ≡ entry = cc in (a, subst (IsEntry design unit options wanted a) same are.0)
 entry-at design unit options wanted (a ∷ more) (e ∷ es) (suc place) entry are is = entry-at design unit options wanted more es place entry are.1 is
 
--- the formulas of one number are the same
-
-same-queries : (design : Design) (u v : List Directive) → SameUnit u v → (o p : Option Directive) → SameFound o p → queries_by design u o ≡ queries_by design v p
-same-queries design u v s None None found = refl
-same-queries design u v s (Some d) (Some e) found = ap (λ (a : Automaton). queries_for design a) (same-violation u v d e s found)
-same-queries design u v s None (Some e) found = absurd found
-same-queries design u v s (Some d) None found = absurd found
-
 module _ (design : Design) (u v : List Directive) (s : SameUnit u v) (number : ℕ) (text : List ℕ) where
   same-answer : (answer : CertAnswer) → IsAnswer (asked_of u number) (queries_of design u number) text answer
       → IsAnswer (asked_of v number) (queries_of design v number) text answer
@@ -86,39 +72,41 @@ module _ (design : Design) (u v : List Directive) (s : SameUnit u v) (number : �
       (same-queries design u v s (directive_at u number) (directive_at v number) (same-found u v number s))
       (subst (λ (a : Asked). IsAnswer a (queries_of design u number) text answer) (same-asked u v number s) is)
 
-passed-of : (unit netlist : List ℕ) (design : Design) (u v : List Directive) (number : ℕ) (evidence : Certificate) (result : Result CertAnswer Fault) → SameUnit u v
-    → IsPassedFor design u number evidence → CertReading unit netlist number (record { netlist = design; directives = v }) (cert_text Two evidence) result
+passed-of : (unit netlist : List ℕ) (design : Design) (u v : List Directive) (number : ℕ) (text : List ℕ) (result : Result CertAnswer Fault) → SameUnit u v
+    → IsPassedText design u number text → CertReading unit netlist number (record { netlist = design; directives = v }) text result
     → result ≡ Ok Passed
-passed-of unit netlist design u v number evidence (Ok answer) s passed is =
-    ap Ok (one_answer (asked_of v number) (queries_of design v number) (cert_text Two evidence) answer Passed is.answers
-    (same-answer design u v s number (cert_text Two evidence) Passed (passed.passed Two)))
-passed-of unit netlist design u v number evidence (Err fault) s passed is =
-    let text = cert_text Two evidence in
+passed-of unit netlist design u v number text (Ok answer) s passed is =
+    ap Ok (one_answer (asked_of v number) (queries_of design v number) text answer Passed is.answers
+    (same-answer design u v s number text Passed passed.passed))
+passed-of unit netlist design u v number text (Err fault) s passed is =
     let cause = moved-cause design v u (sym s) number text is.limit (cause-of design v number text is.limit is.is_limit is.passed) in
-    absurd (is.is_limit (passed.checked Two is.limit (fault-of design u number text is.limit is.is_limit cause)))
+    absurd (is.is_limit (passed.checked is.limit (fault-of design u number text is.limit is.is_limit cause)))
 
-passed-by : (unit netlist : List ℕ) (i j : Subject) (number : ℕ) (evidence : Certificate) (result : Result CertAnswer Fault) → SameSubject i j
-    → IsPassedFor i.netlist i.directives number evidence → CertReading unit netlist number j (cert_text Two evidence) result → result ≡ Ok Passed
-passed-by unit netlist i j number evidence result same passed is =
-    passed-of unit netlist j.netlist i.directives j.directives number evidence result same.directives
-    (subst (λ (d : Design). IsPassedFor d i.directives number evidence) same.netlists passed) is
+passed-by : (unit netlist : List ℕ) (i j : Subject) (number : ℕ) (text : List ℕ) (result : Result CertAnswer Fault) → SameSubject i j
+    → IsPassedText i.netlist i.directives number text → CertReading unit netlist number j text result → result ≡ Ok Passed
+passed-by unit netlist i j number text result same passed is =
+    passed-of unit netlist j.netlist i.directives j.directives number text result same.directives
+    (subst (λ (d : Design). IsPassedText d i.directives number text) same.netlists passed) is
 
-of-content : (unit netlist certificate : List ℕ) (i j : Subject) (number : ℕ) (evidence : Certificate) (result : Result CertAnswer Fault) → SameSubject i j
-    → IsPassedFor i.netlist i.directives number evidence → length (cert_text Two evidence) ≤ file_limit
-    → OfContent (CertReading unit netlist number j) certificate (Some (cert_text Two evidence)) result → result ≡ Ok Passed
-of-content unit netlist certificate i j number evidence result same passed few (inl (many, _)) = absurd (omega arith)
-of-content unit netlist certificate i j number evidence result same passed few (inr (_, is)) = passed-by unit netlist i j number evidence result same passed is
+of-content : (unit netlist certificate : List ℕ) (i j : Subject) (number : ℕ) (text : List ℕ) (result : Result CertAnswer Fault) → SameSubject i j
+    → IsPassedText i.netlist i.directives number text → length text ≤ file_limit
+    → OfContent (CertReading unit netlist number j) certificate (Some text) result → result ≡ Ok Passed
+of-content unit netlist certificate i j number text result same passed few (inl (many, _)) = absurd (omega arith)
+of-content unit netlist certificate i j number text result same passed few (inr (_, is)) = passed-by unit netlist i j number text result same passed is
 
-module _ (unit netlist certificate : List ℕ) (limits : Limits) (wanted : Wanted) (files later : Contents) (found : Found) (place : ℕ) (entry : FindingEntry) (evidence : Certificate)
-    (here : slice_get found.findings place ≡ Some entry) (proved : entry.finding ≡ Proved evidence)
-    (units : later unit ≡ files unit) (netlists : later netlist ≡ files netlist) (written : later certificate ≡ Some (cert_text Two evidence))
-    (few : length (cert_text Two evidence) ≤ file_limit) where
-  checked : (subject : Subject) → SubjectStage unit netlist files (Ok subject) → IsPassedFor subject.netlist subject.directives entry.number evidence
+-- the text is that of a certificate by which some finding is proved, of a window or of clauses
+module _ (unit netlist certificate : List ℕ) (limits : Limits) (wanted : Wanted) (files later : Contents) (found : Found) (place : ℕ) (entry : FindingEntry) (text : List ℕ)
+    (here : slice_get found.findings place ≡ Some entry)
+    (proves : (design : Design) (directives : List Directive) (options : Options) (recordings : Option (List ℕ × ℕ)) (assertion : Directive)
+    → IsEntry design directives options recordings assertion entry → IsPassedText design directives entry.number text)
+    (units : later unit ≡ files unit) (netlists : later netlist ≡ files netlist) (written : later certificate ≡ Some text)
+    (few : length text ≤ file_limit) where
+  checked : (subject : Subject) → SubjectStage unit netlist files (Ok subject) → IsPassedText subject.netlist subject.directives entry.number text
       → (result : Result CertAnswer Fault) → CheckStage unit netlist entry.number certificate later result → result ≡ Ok Passed
   checked subject is passed result (inl (fault, refused, _)) =
       absurd (one-subject unit netlist files (Ok subject) (Err fault) is (subject-moved unit netlist files later units netlists (Err fault) refused))
   checked subject is passed result (inr (other, given, read)) =
-      of-content unit netlist certificate subject other entry.number evidence result
+      of-content unit netlist certificate subject other entry.number text result
       (one-subject unit netlist files (Ok subject) (Ok other) is (subject-moved unit netlist files later units netlists (Ok other) given)) passed few
       (subst (λ (o : Option (List ℕ)). OfContent (CertReading unit netlist entry.number other) certificate o result) written read)
 
@@ -127,4 +115,4 @@ module _ (unit netlist certificate : List ℕ) (limits : Limits) (wanted : Wante
   written-passes (inl (fault, _, e)) result check = absurd (let wrong : Ok found ≡ Err fault = e in cc)
   written-passes (inr (subject, is, about)) result check =
       let at = entry-at subject.netlist subject.directives (options_of limits) (recordings_in wanted) (assertions subject.directives) found.findings place entry about.1.findings here in
-      checked subject is (at.1.passed evidence proved) result check
+      checked subject is (proves subject.netlist subject.directives (options_of limits) (recordings_in wanted) at.0 at.1) result check

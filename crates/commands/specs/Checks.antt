@@ -2,7 +2,7 @@
 -- satisfies what is owed of the assertion of that number.
 use Rattle.std.specs.Prelude.{◌≡◌, ◌≢◌, ℕ, List, Some, Result, Ok, Err}
 use Rattle.cert_check.specs.Claims.{IsProved, asked_of, directive_of, queries_of}
-use Rattle.cert_check.specs.Limits.{FitsLimits, IsFault}
+use Rattle.cert_check.specs.Limits.{ClausesIn, FitsLimits, IsFault}
 use Rattle.cert_check.specs.declared.fault.CertFault.{CertFault}
 use Rattle.cert_check.specs.declared.fault.CertFault.TheVariants as limits
 use Rattle.certificate.specs.Headers.{HasHeader}
@@ -42,7 +42,8 @@ pub record IsChecked (subject : Subject) (number : ℕ) (content : List ℕ) (an
   pub answers : IsAnswer (asked_of subject.directives number) (queries_of subject.netlist subject.directives number) content answer
   -- behind a header that is not refused, the limits are kept
   pub fits : (header : Header) (directive : Directive) → HasHeader (asked_of subject.directives number) content header
-      → directive_of subject.directives number ≡ Some directive → FitsLimits subject.netlist subject.directives directive header
+      → directive_of subject.directives number ≡ Some directive
+      → FitsLimits subject.netlist subject.directives directive header (ClausesIn subject.netlist subject.directives number content header)
   -- where no line is refused, each run of the netlist satisfies what is owed of the assertion
   pub proved : answer ≡ Passed → IsProved subject.netlist subject.directives number
 

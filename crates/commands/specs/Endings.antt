@@ -4,8 +4,7 @@ use Rattle.std.specs.List.{list_all, list_any}
 use Rattle.certificate.specs.declared.answer.CertAnswer.{CertAnswer}
 use Rattle.certificate.specs.declared.answer.CertAnswer.TheVariants.{Passed, Refused}
 use Rattle.findings.specs.declared.entry.FindingEntry.{FindingEntry}
-use Rattle.prover.specs.declared.finding.Finding.{Finding}
-use Rattle.prover.specs.declared.finding.Finding.TheVariants as finding
+use Rattle.prover.specs.Findings.{is_proved, is_violated}
 use Rattle.psl_base.specs.Shelf.{Contents, ShelfState}
 use Rattle.psl_base.specs.Sink.{SinkState, AddsAll, AddsPart}
 use Rattle.psl_tree.specs.declared.directive.Kind.{Kind}
@@ -35,16 +34,6 @@ passes verdict = verdict.neutral || may_be_no verdict.kind
 -- 0 where each assert and assume is neutral yes, else 1
 abbrev pub verdicts_status : List Verdict → ℕ
 verdicts_status verdicts = if list_all passes verdicts then 0 else 1
-
--- a run was found that violates the assertion
-abbrev pub is_violated : Finding → Bool
-is_violated (finding.Violated run) = true
-is_violated _ = false
-
--- the assertion was proved
-abbrev pub is_proved : Finding → Bool
-is_proved (finding.Proved certificate) = true
-is_proved _ = false
 
 -- 1 where some assertion is violated, else 0 where each is proved, and else 6
 abbrev pub findings_status : List FindingEntry → ℕ

@@ -21,7 +21,7 @@ use Rattle.commands.specs.declared.subject.Subject.{Subject}
 
 -- how far the words ask for a proof
 abbrev pub options_of : Limits → Options
-options_of limits = record { depth = limits.depth; visits = limits.visits; steps = limits.steps }
+options_of limits = record { depth = limits.depth; visits = limits.visits; steps = limits.steps; reach = limits.reach }
 
 -- what is told of an assertion that is too large: at its place in the text, or of the netlist
 abbrev pub size_fault : List ℕ → List ℕ → SizeFault → Fault

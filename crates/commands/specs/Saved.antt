@@ -1,8 +1,7 @@
 -- The files that a run writes: the certificates of what it proved, and the recordings of runs that violate assertions.
 use Rattle.std.specs.Prelude.{◌≡◌, ◌⊎◌, ℕ, List, [], ◌∷◌, ◌++◌, map, Option, None, Some, Result, Ok, Err, codes, decimal}
 use Rattle.std.specs.List.{flat_map}
-use Rattle.certificate.specs.Printed.{cert_text}
-use Rattle.certificate.specs.declared.certificate.Certificate.{Certificate}
+use Rattle.certificate.specs.Printed.{cert_text, inductive_text}
 use Rattle.certificate.specs.declared.header.Version.TheVariants.{Two}
 use Rattle.command_line.specs.Commands.{Meaning}
 use Rattle.command_line.specs.Evidences.{Wanted}
@@ -27,11 +26,10 @@ use Rattle.commands.specs.declared.reason.Reason.TheVariants.{WriteFault}
 abbrev pub file_name : List ℕ → ℕ → List ℕ → List ℕ
 file_name prefix number ending = prefix ++ codes "." ++ decimal number ++ ending
 
--- the file of a certificate, with the lines of the second version, where there is a prefix
-abbrev pub certificate_files : Option (List ℕ) → ℕ → Certificate → List NewFile
-certificate_files None number certificate = []
-certificate_files (Some prefix) number certificate =
-    record { name = file_name prefix number (codes ".cert"); content = cert_text Two certificate } ∷ []
+-- the file of a certificate with this text, where there is a prefix
+abbrev pub certificate_files : Option (List ℕ) → ℕ → List ℕ → List NewFile
+certificate_files None number text = []
+certificate_files (Some prefix) number text = record { name = file_name prefix number (codes ".cert"); content = text } ∷ []
 
 -- the file of a recording, where there is a prefix
 abbrev pub recording_files : Option (List ℕ) → ℕ → List ℕ → List NewFile
@@ -43,10 +41,14 @@ recorded_files prefix number None = []
 recorded_files prefix number (Some TooLong) = []
 recorded_files prefix number (Some (Judged name samples verdict text)) = recording_files prefix number text
 
+-- the file of a finding: a certificate of a window with the lines of the second version, one of clauses with those of the
+-- third, or a recording
 abbrev pub files_of_finding : Wanted → ℕ → Finding → Option Recorded → List NewFile
-files_of_finding wanted number (findings.Proved certificate) recorded = certificate_files wanted.cert number certificate
+files_of_finding wanted number (findings.Proved certificate) recorded = certificate_files wanted.cert number (cert_text Two certificate)
+files_of_finding wanted number (findings.ProvedReach certificate) recorded = certificate_files wanted.cert number (inductive_text certificate)
 files_of_finding wanted number (findings.Violated run) recorded = recorded_files wanted.vcd number recorded
 files_of_finding wanted number (findings.Depth paths) recorded = []
+files_of_finding wanted number (findings.DepthReach paths ends) recorded = []
 files_of_finding wanted number (findings.Steps query log) recorded = []
 files_of_finding wanted number (findings.LogFull query log) recorded = []
 files_of_finding wanted number (findings.Large query) recorded = []

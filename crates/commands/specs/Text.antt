@@ -140,13 +140,19 @@ run_text columns run =
 abbrev pub steps_line : ℕ → List ℕ
 steps_line steps = codes "undecided steps " ++ decimal steps ++ line_feed
 
--- what a finding says, by the columns, the depth and the visits
+-- that neither a proof nor a run was found, up to a depth and so many visits
+abbrev pub depth_line : ℕ → ℕ → List ℕ
+depth_line depth visits = codes "undecided depth " ++ decimal depth ++ codes " visits " ++ decimal visits ++ line_feed
+
+-- what a finding says, by the columns, the depth and the visits: of a certificate of clauses, how many these are
 abbrev pub finding_text : List Name → ℕ → ℕ → Finding → List ℕ
 finding_text columns depth visits (findings.Proved certificate) =
     codes "proved visits " ++ decimal certificate.visits ++ codes " window " ++ decimal certificate.window ++ line_feed
+finding_text columns depth visits (findings.ProvedReach certificate) =
+    codes "proved visits " ++ decimal certificate.visits ++ codes " clauses " ++ decimal (length certificate.clauses) ++ line_feed
 finding_text columns depth visits (findings.Violated run) = run_text columns run
-finding_text columns depth visits (findings.Depth paths) =
-    codes "undecided depth " ++ decimal depth ++ codes " visits " ++ decimal visits ++ line_feed
+finding_text columns depth visits (findings.Depth paths) = depth_line depth visits
+finding_text columns depth visits (findings.DepthReach paths ends) = depth_line depth visits
 finding_text columns depth visits (findings.Steps query log) = steps_line (lemmas log)
 finding_text columns depth visits (findings.LogFull query log) = codes "undecided log" ++ line_feed
 finding_text columns depth visits (findings.Large query) = codes "undecided formula" ++ line_feed
@@ -176,6 +182,7 @@ reason_words certs.EndsInside = codes "C6 EndsInside"
 reason_words certs.TrailingBytes = codes "C7 TrailingBytes"
 reason_words certs.TooManyLive = codes "C8 TooManyLive"
 reason_words certs.BadDrop = codes "C9 BadDrop"
+reason_words certs.BadClause = codes "C10 BadClause"
 
 -- what is answered to a certificate
 abbrev pub cert_answer : CertAnswer → List ℕ

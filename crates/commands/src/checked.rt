@@ -47,5 +47,6 @@ fn reason_text(reason: CertReason) -> &'static [u8]
         CertReason::TrailingBytes => b"C7 TrailingBytes",
         CertReason::TooManyLive => b"C8 TooManyLive",
         CertReason::BadDrop => b"C9 BadDrop",
+        CertReason::BadClause => b"C10 BadClause",
     }
 }

@@ -4,10 +4,11 @@ ghost use Rattle.std.specs.Result.{ForOk, ForErr};
 ghost use Rattle.psl_base.specs.Faults.{Rose};
 ghost use Rattle.psl_base.specs.Shelf.{OnlyWrites};
 ghost use Rattle.psl_base.specs.Sink.{AddsAll, SinkState};
-ghost use Rattle.commands.specs.Endings.{status_of, answer_status, outcome_status, findings_status, replay_status, verdicts_status, is_proved, is_violated, passes, may_be_no, IsUnwritten, IsToTell, Prints, AddsSome, EndsWith, EndsFaulted};
+ghost use Rattle.commands.specs.Endings.{status_of, answer_status, outcome_status, findings_status, replay_status, verdicts_status, passes, may_be_no, IsUnwritten, IsToTell, Prints, AddsSome, EndsWith, EndsFaulted};
 ghost use Rattle.commands.specs.Faults.{of_none, fault_of};
 ghost use Rattle.commands.specs.Saved.{FailsPlanned, HasSaved, WritingFails};
 ghost use Rattle.commands.specs.Text.{text_of, line_of};
+ghost use Rattle.prover.specs.Findings.{is_proved, is_violated};
 ghost use Rattle.saving.specs.Saves.{SavesAll, SavesPart, file_of};
 
 use crate::faults::of_none;
@@ -17,7 +18,6 @@ use crate::report::fault_line;
 use crate::rows::row_of;
 use cert_check::CertAnswer;
 use findings::FindingEntry;
-use prover::Finding;
 use psl_base::{Bytes, Failed, Shelf, Sink, put_all};
 use psl_tree::Kind;
 use replay::Replay;
@@ -217,37 +217,11 @@ fn status_of_findings(entries: &[FindingEntry]) -> u8
 fn some_violated(entries: &[FindingEntry]) -> bool
     ensures { result ≡ list_any (λ entry. is_violated entry.finding) entries.now }
 {
-    entries.iter().any(|entry| is_violated(&entry.finding))
+    entries.iter().any(|entry| entry.finding.is_violated())
 }
 
 fn all_proved(entries: &[FindingEntry]) -> bool
     ensures { result ≡ list_all (λ entry. is_proved entry.finding) entries.now }
 {
-    entries.iter().all(|entry| is_proved(&entry.finding))
-}
-
-fn is_violated(finding: &Finding) -> bool
-    ensures { result ≡ is_violated finding.now }
-{
-    match finding {
-        Finding::Violated(_) => true,
-        Finding::Proved(_)
-        | Finding::Depth(_)
-        | Finding::Steps(_, _)
-        | Finding::LogFull(_, _)
-        | Finding::Large(_) => false,
-    }
-}
-
-fn is_proved(finding: &Finding) -> bool
-    ensures { result ≡ is_proved finding.now }
-{
-    match finding {
-        Finding::Proved(_) => true,
-        Finding::Violated(_)
-        | Finding::Depth(_)
-        | Finding::Steps(_, _)
-        | Finding::LogFull(_, _)
-        | Finding::Large(_) => false,
-    }
+    entries.iter().all(|entry| entry.finding.is_proved())
 }

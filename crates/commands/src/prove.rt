@@ -96,6 +96,7 @@ fn find(
         depth: request.limits.depth,
         visits: request.limits.visits,
         steps: request.limits.steps,
+        reach: request.limits.reach,
     };
     let recordings = recordings_of(request.evidence);
     let findings = prove_all(alloc, directives, netlist, options, recordings)?;

@@ -1,13 +1,15 @@
-ghost use Rattle.std.specs.Prelude.{◌≡◌, ◌++◌, map, string_bytes, IfOk, OnOk};
+ghost use Rattle.std.specs.Prelude.{◌≡◌, ◌++◌, map, string_bytes, Some, IfOk, OnOk};
 ghost use Rattle.std.specs.List.{flat_map};
 ghost use Rattle.std.specs.Option.{option_map};
+ghost use Rattle.certificate.specs.Printed.{cert_text, inductive_text};
+ghost use Rattle.certificate.specs.declared.header.Version.TheVariants.{Two};
 ghost use Rattle.command_line.specs.Evidences.{evidence_of};
 ghost use Rattle.commands.specs.Saved.{certificate_files, file_name, files_of_entry, files_of_outcome, recorded_files, recording_files};
 ghost use Rattle.saving.specs.Saves.{file_of};
 
 use crate::outcome::Outcome;
-use certificate::Certificate;
-use certificate_text::print_cert;
+use certificate::{Certificate, InductiveCert};
+use certificate_text::{print_cert, print_inductive};
 use command_line::Evidence;
 use findings::{FindingEntry, Recorded};
 use itoa::Buffer;
@@ -56,16 +58,21 @@ fn add_evidence(
         Finding::Proved(certificate) => {
             add_certificate(alloc, saves, evidence.cert, entry.number, certificate)
         }
+        Finding::ProvedReach(certificate) => {
+            add_inductive(alloc, saves, evidence.cert, entry.number, certificate)
+        }
         Finding::Violated(_) => {
             add_recorded(alloc, saves, evidence.vcd, entry.number, &entry.recorded)
         }
-        Finding::Depth(_) | Finding::Steps(_, _) | Finding::LogFull(_, _) | Finding::Large(_) => Ok(
-            (),
-        ),
+        Finding::Depth(_)
+        | Finding::DepthReach(_, _)
+        | Finding::Steps(_, _)
+        | Finding::LogFull(_, _)
+        | Finding::Large(_) => Ok(()),
     }
 }
 
-/// Adds the file of a certificate, where there is a prefix for it.
+/// Adds the file of a certificate of a window, where there is a prefix for it.
 fn add_certificate(
     alloc: Global,
     saves: &mut Saves,
@@ -73,13 +80,43 @@ fn add_certificate(
     number: u32,
     certificate: &Certificate,
 ) -> Result<(), NoMemory>
-    ensures { OnOk result (map file_of saves.new ≡ map file_of saves.old ++ certificate_files (option_map (λ s. s.now) prefix.entry) number certificate.now) }
+    ensures { OnOk result (map file_of saves.new ≡ map file_of saves.old ++ certificate_files (option_map (λ s. s.now) prefix.entry) number (cert_text Two certificate.now)) }
 {
     let Some(prefix) = prefix else {
         return Ok(());
     };
-    let name = file_name(alloc, prefix, number, ".cert")?;
     let content = print_cert(alloc, certificate)?;
+    push_certificate(alloc, saves, prefix, number, content)
+}
+
+/// Adds the file of a certificate of clauses, where there is a prefix for it.
+fn add_inductive(
+    alloc: Global,
+    saves: &mut Saves,
+    prefix: Option<&str>,
+    number: u32,
+    certificate: &InductiveCert,
+) -> Result<(), NoMemory>
+    ensures { OnOk result (map file_of saves.new ≡ map file_of saves.old ++ certificate_files (option_map (λ s. s.now) prefix.entry) number (inductive_text certificate.now)) }
+{
+    let Some(prefix) = prefix else {
+        return Ok(());
+    };
+    let content = print_inductive(alloc, certificate)?;
+    push_certificate(alloc, saves, prefix, number, content)
+}
+
+/// Adds the file of a certificate with this text.
+fn push_certificate(
+    alloc: Global,
+    saves: &mut Saves,
+    prefix: &str,
+    number: u32,
+    content: Bytes,
+) -> Result<(), NoMemory>
+    ensures { OnOk result (map file_of saves.new ≡ map file_of saves.old ++ certificate_files (Some prefix.now) number content) }
+{
+    let name = file_name(alloc, prefix, number, ".cert")?;
     saves.push(Save { name, content })
 }
 

@@ -1,7 +1,7 @@
 // What is printed of findings.
 ghost use Rattle.std.specs.Prelude.{◌≡◌, ◌++◌, ◌<◌, length, All, OnOk};
 ghost use Rattle.std.specs.List.{flat_map};
-ghost use Rattle.commands.specs.Text.{digit, entry_text, finding_text, judged_lines, lengths_line, recorded_lines, run_text, steps_line, valuation_line, valuation_lines, value_part};
+ghost use Rattle.commands.specs.Text.{depth_line, digit, entry_text, finding_text, judged_lines, lengths_line, recorded_lines, run_text, steps_line, valuation_line, valuation_lines, value_part};
 ghost use Rattle.findings.specs.Columns.{HasColumns, ShowColumns, ShowsColumns};
 ghost use Rattle.netlist.specs.Valuations.{bit};
 
@@ -59,18 +59,30 @@ impl<'a> Shown<'a> {
                 add_number(text, u64::from(certificate.window))?;
                 add_bytes(text, b"\n")
             }
-            Finding::Violated(run) => self.add_run(text, run),
-            Finding::Depth(_) => {
-                add_bytes(text, b"undecided depth ")?;
-                add_number(text, u64::from(self.depth))?;
-                add_bytes(text, b" visits ")?;
-                add_number(text, u64::from(self.visits))?;
+            Finding::ProvedReach(certificate) => {
+                add_bytes(text, b"proved visits ")?;
+                add_number(text, u64::from(certificate.visits))?;
+                add_bytes(text, b" clauses ")?;
+                add_number(text, certificate.clauses.len() as u64)?;
                 add_bytes(text, b"\n")
             }
+            Finding::Violated(run) => self.add_run(text, run),
+            Finding::Depth(_) | Finding::DepthReach(_, _) => self.add_depth(text),
             Finding::Steps(_, log) => add_steps(text, log.lemmas() as u64),
             Finding::LogFull(_, _) => add_bytes(text, b"undecided log\n"),
             Finding::Large(_) => add_bytes(text, b"undecided formula\n"),
         }
+    }
+
+    /// Adds that neither a proof nor a run was found.
+    fn add_depth(self, text: &mut Vec<u8>) -> Result<(), NoMemory>
+        ensures { OnOk result (text.new.items ≡ text.old.items ++ depth_line self.entry.depth self.entry.visits) }
+    {
+        add_bytes(text, b"undecided depth ")?;
+        add_number(text, u64::from(self.depth))?;
+        add_bytes(text, b" visits ")?;
+        add_number(text, u64::from(self.visits))?;
+        add_bytes(text, b"\n")
     }
 
     /// Adds how long the stem and the loop of a run are, and the lines of its valuations.

@@ -1,16 +1,16 @@
 -- The text of a certificate that the prover gives is passed, and passes no limit of the checker.
-use Rattle.std.proofs.Common.{◌≡◌, ◌⊎◌, ◌∙◌, refl, sym, ap, subst, ℕ, suc, ◌*◌, ◌<◌, ◌≤◌, List, [], ◌∷◌, ◌++◌, Option, Some, Result, Ok, Err, inl, inr, arith}
+use Rattle.std.proofs.Common.{◌≡◌, ◌⊎◌, ◌∙◌, refl, sym, ap, subst, ℕ, ℤ, suc, ◌*◌, ◌<◌, ◌≤◌, List, [], ◌∷◌, ◌++◌, Option, Some, Result, Ok, Err, inl, inr, arith}
 use Rattle.std.specs.Prelude.{IfOk, IfErr}
 use Rattle.std.proofs.lemmas.Nat.{mul-le}
 use Rattle.std.proofs.lemmas.Option.{same_Some}
 use Rattle.cdcl.specs.Evidence as solver
 use Rattle.cert_check.specs.Claims.{asked_of, directive_of, is_some_assertion, queries_by, queries_of}
-use Rattle.cert_check.specs.Limits.{HasCause, IsFault, IsFaultBehind}
+use Rattle.cert_check.specs.Limits.{ClausesIn, HasCause, IsFault, IsFaultBehind}
 use Rattle.cert_check.specs.declared.fault.CertFault.{CertFault}
 use Rattle.cert_check.specs.declared.fault.CertFault.TheVariants.{SereTooLarge, AutomatonTooLarge, UnrollTooLarge, FormulaTooLarge, NoMemory}
 use Rattle.certificate.proofs.HeaderLines.{header_once}
 use Rattle.certificate.proofs.OneAnswer.{one_answer}
-use Rattle.certificate.specs.Headers.{MayBe}
+use Rattle.certificate.specs.Headers.{HasHeader, MayBe}
 use Rattle.certificate.specs.Printed.{cert_text, header_of}
 use Rattle.certificate.specs.Sections.{NamesLive, Query}
 use Rattle.certificate.specs.Texts.{IsAnswer}
@@ -19,7 +19,6 @@ use Rattle.certificate.specs.declared.answer.CertAnswer.TheVariants.{Passed}
 use Rattle.certificate.specs.declared.certificate.Certificate.{Certificate}
 use Rattle.certificate.specs.declared.header.Field.TheVariants.{Assertion}
 use Rattle.certificate.specs.declared.header.Header.{Header}
-use Rattle.certificate.specs.declared.header.Section.TheVariants as sections
 use Rattle.certificate.specs.declared.header.Version.{Version}
 use Rattle.certificate_text.proofs.Passing.{text_header, text_passes}
 use Rattle.certificate_text.specs.Evidence.{EachDrop, IsEvidence, IsRefuted}
@@ -43,16 +42,16 @@ use Rattle.prover.specs.declared.task.Task.{Task}
 use Rattle.psl_tree.specs.declared.directive.Directive.{Directive}
 use Rattle.work_limits.specs.Sized.{IsSized, bulk_of}
 use Rattle.findings.specs.Assertions.{IsAssertionOf}
-use Rattle.findings.specs.Entries.{IsPassedFor}
+use Rattle.findings.specs.Entries.{IsPassedFor, IsPassedText}
 
 -- what a law of the solver says of drops
-drops-live : (query : Query) (before log : List LogEntry) → solver.DropsLive query.clauses before log → EachDrop (NamesLive query) before log
+pub drops-live : (query : Query) (before log : List LogEntry) → solver.DropsLive query.clauses before log → EachDrop (NamesLive query) before log
 drops-live query before [] drops = tt
 drops-live query before (Lemma literals hints ∷ log) drops = drops-live query (before ++ Lemma literals hints ∷ []) log drops
 drops-live query before (Forget number ∷ log) drops = (drops.0, drops-live query (before ++ Forget number ∷ []) log drops.1)
 
 -- a smaller window takes no more work
-less-work : (w d bulk : ℕ) → w ≤ d → suc w * suc w * bulk ≤ suc d * suc d * bulk
+pub less-work : (w d bulk : ℕ) → w ≤ d → suc w * suc w * bulk ≤ suc d * suc d * bulk
 less-work w d bulk le =
     let more : suc w ≤ suc d = omega (arith, le) in
     mul-le (suc w * suc w) bulk (suc d * suc d) bulk (mul-le (suc w) (suc w) (suc d) (suc d) more more) (omega arith)
@@ -81,74 +80,75 @@ module _ (design : Design) (unit : List Directive) (d : Directive) (options : Op
     visits = record { least = omega arith; most = omega (arith, proved.visits, visits) };
     window = record { least = proved.some; most = omega (arith, proved.within, depth) };
     base =
-        subst (λ (f : Option Directive). IsRefuted (queries_by design unit f sections.Base certificate.visits certificate.window) certificate.base) (sym assertion.is)
+        subst (λ (f : Option Directive). IsRefuted ((queries_by design unit f).base certificate.visits certificate.window) certificate.base) (sym assertion.is)
         (refuted (Base certificate.visits certificate.window) certificate.base proved.base);
     induction =
-        subst (λ (f : Option Directive). IsRefuted (queries_by design unit f sections.Induction certificate.visits certificate.window) certificate.induction) (sym assertion.is)
+        subst (λ (f : Option Directive). IsRefuted ((queries_by design unit f).induction certificate.visits certificate.window) certificate.induction) (sym assertion.is)
         (refuted (Induction certificate.visits certificate.window) certificate.induction proved.induction);
   }
 
   -- what it says of itself passes no limit
   within-limits : IsSized design options.depth (plain_owed unit d) → (version : Version) (certificate : Certificate) → IsProved design unit d options certificate
-      → (fault : CertFault) → IsFaultBehind design unit d (header_of version certificate) fault → fault ≡ NoMemory
-  within-limits sized version certificate proved SereTooLarge cause = absurd (sized.sequences cause)
-  within-limits sized version certificate proved AutomatonTooLarge cause =
+      → (behind : List (List ℤ) → Type 0) (fault : CertFault) → IsFaultBehind design unit d (header_of version certificate) behind fault → fault ≡ NoMemory
+  within-limits sized version certificate proved behind SereTooLarge cause = absurd (sized.sequences cause)
+  within-limits sized version certificate proved behind AutomatonTooLarge cause =
       absurd (let few = sized.obligations in let many = cause.1 in omega (arith, few, many))
-  within-limits sized version certificate proved UnrollTooLarge cause =
+  within-limits sized version certificate proved behind UnrollTooLarge cause =
       let bulk = bulk_of design (plain_owed unit d) in
       let few : suc options.depth * suc options.depth * bulk ≤ MOST_WORK = sized.unrolled in
       let many : MOST_WORK < suc certificate.window * suc certificate.window * bulk = cause.2 in
       absurd (omega (arith, few, many, less-work certificate.window options.depth bulk proved.within))
-  within-limits sized version certificate proved FormulaTooLarge cause = elim cause.1 as (λ _. FormulaTooLarge ≡ NoMemory) [
+  within-limits sized version certificate proved behind FormulaTooLarge cause = elim cause.1 as (λ _. FormulaTooLarge ≡ NoMemory) [
     | inl large ↦ absurd (proved.base.fits large)
     | inr large ↦ absurd (proved.induction.fits large)
   ]
-  within-limits sized version certificate proved NoMemory cause = refl
+  within-limits sized version certificate proved behind NoMemory cause = refl
 
   -- a limit that is passed is passed by its own header
-  by-header : (there : directive_of unit d.number ≡ Some d) → IsSized design options.depth (plain_owed unit d) → (version : Version) (certificate : Certificate)
-      → IsProved design unit d options certificate → IsEvidence (asked_of unit d.number) (queries_of design unit d.number) certificate → (fault : CertFault)
-      → HasCause design unit d.number (cert_text version certificate) fault → fault ≡ NoMemory
-  by-header there sized version certificate proved is fault cause =
-      let header : cause.header ≡ header_of version certificate =
-      header_once (asked_of unit d.number) (cert_text version certificate) cause.header (header_of version certificate) cause.has
-      (text_header (asked_of unit d.number) (queries_of design unit d.number) version certificate is) in
+  by-header : (there : directive_of unit d.number ≡ Some d) (text : List ℕ) (says : Header) → HasHeader (asked_of unit d.number) text says
+      → ((fault : CertFault) → IsFaultBehind design unit d says (ClausesIn design unit d.number text says) fault → fault ≡ NoMemory)
+      → (fault : CertFault) → HasCause design unit d.number text fault → fault ≡ NoMemory
+  by-header there text says has none fault cause =
+      let header : cause.header ≡ says = header_once (asked_of unit d.number) text cause.header says cause.has has in
       let directive : cause.directive ≡ d = same_Some cause.directive d (sym cause.is ∙ there) in
-      within-limits sized version certificate proved fault
-      (subst (λ (e : Directive). IsFaultBehind design unit e (header_of version certificate) fault) directive
-      (subst (λ (h : Header). IsFaultBehind design unit cause.directive h fault) header cause.fault_is))
+      none fault
+      (subst (λ (e : Directive). IsFaultBehind design unit e says (ClausesIn design unit d.number text says) fault) directive
+      (subst (λ (h : Header). IsFaultBehind design unit cause.directive h (ClausesIn design unit d.number text h) fault) header cause.fault_is))
 
-  no-fault : directive_of unit d.number ≡ Some d → IsSized design options.depth (plain_owed unit d) → (version : Version) (certificate : Certificate)
-      → IsProved design unit d options certificate → IsEvidence (asked_of unit d.number) (queries_of design unit d.number) certificate → (fault : CertFault)
-      → IsFault design unit d.number (cert_text version certificate) fault → fault ≡ NoMemory
-  no-fault there sized version certificate proved is SereTooLarge cause = by-header there sized version certificate proved is SereTooLarge cause
-  no-fault there sized version certificate proved is AutomatonTooLarge cause = by-header there sized version certificate proved is AutomatonTooLarge cause
-  no-fault there sized version certificate proved is UnrollTooLarge cause = by-header there sized version certificate proved is UnrollTooLarge cause
-  no-fault there sized version certificate proved is FormulaTooLarge cause = by-header there sized version certificate proved is FormulaTooLarge cause
-  no-fault there sized version certificate proved is NoMemory cause = refl
+  pub no-fault : directive_of unit d.number ≡ Some d → (text : List ℕ) (says : Header) → HasHeader (asked_of unit d.number) text says
+      → ((fault : CertFault) → IsFaultBehind design unit d says (ClausesIn design unit d.number text says) fault → fault ≡ NoMemory)
+      → (fault : CertFault) → IsFault design unit d.number text fault → fault ≡ NoMemory
+  no-fault there text says has none SereTooLarge cause = by-header there text says has none SereTooLarge cause
+  no-fault there text says has none AutomatonTooLarge cause = by-header there text says has none AutomatonTooLarge cause
+  no-fault there text says has none UnrollTooLarge cause = by-header there text says has none UnrollTooLarge cause
+  no-fault there text says has none FormulaTooLarge cause = by-header there text says has none FormulaTooLarge cause
+  no-fault there text says has none NoMemory cause = refl
 
 -- what is found of a task
 pub passed-for : (task : Task) → IsProvable task → IsAssertionOf task.unit.now task.assertion.now → task.options.depth ≤ 1000 → task.assertion.now.number ≤ 4294967295
     → (finding : Finding) → IsFinding task.netlist.now task.unit.now task.assertion.now task.options finding
     → (certificate : Certificate) → finding ≡ Proved certificate → IsPassedFor task.netlist.now task.unit.now task.assertion.now.number certificate
-passed-for task provable assertion depth few finding is certificate same =
+passed-for task provable assertion depth few finding is certificate same = λ version.
     let design = task.netlist.now in
     let unit = task.unit.now in
     let d = task.assertion.now in
+    let text = cert_text version certificate in
+    let says = header_of version certificate in
     let proved : IsProved design unit d task.options certificate = subst (IsFinding design unit d task.options) same is in
     let shows = evidence design unit d task.options assertion few provable.visits depth certificate proved in
     record {
-      passed = λ version. text_passes (asked_of unit d.number) (queries_of design unit d.number) version certificate shows;
-      checked = λ version fault cause. no-fault design unit d task.options assertion.is provable.sized version certificate proved shows fault cause;
+      passed = text_passes (asked_of unit d.number) (queries_of design unit d.number) version certificate shows;
+      checked = no-fault design unit d task.options assertion.is text says (text_header (asked_of unit d.number) (queries_of design unit d.number) version certificate shows)
+          (within-limits design unit d task.options provable.sized version certificate proved (ClausesIn design unit d.number text says));
     }
 
 -- so it is passed by whoever answers as the checker does
-pub result-passed : (design : Design) (unit : List Directive) (number : ℕ) (certificate : Certificate) (version : Version) → IsPassedFor design unit number certificate
+pub result-passed : (design : Design) (unit : List Directive) (number : ℕ) (text : List ℕ) → IsPassedText design unit number text
     → (result : Result CertAnswer CertFault)
-    → IfOk result (IsAnswer (asked_of unit number) (queries_of design unit number) (cert_text version certificate))
-    → IfErr result (IsFault design unit number (cert_text version certificate))
+    → IfOk result (IsAnswer (asked_of unit number) (queries_of design unit number) text)
+    → IfErr result (IsFault design unit number text)
     → (result ≡ Ok Passed) ⊎ (result ≡ Err NoMemory)
-result-passed design unit number certificate version is (Ok answer) answers fails =
-    inl (ap (λ (a : CertAnswer). Ok a) (one_answer (asked_of unit number) (queries_of design unit number) (cert_text version certificate) answer Passed answers (is.passed version)))
-result-passed design unit number certificate version is (Err fault) answers fails =
-    inr (ap (λ (f : CertFault). Err f) (is.checked version fault fails))
+result-passed design unit number text is (Ok answer) answers fails =
+    inl (ap (λ (a : CertAnswer). Ok a) (one_answer (asked_of unit number) (queries_of design unit number) text answer Passed answers is.passed))
+result-passed design unit number text is (Err fault) answers fails =
+    inr (ap (λ (f : CertFault). Err f) (is.checked fault fails))

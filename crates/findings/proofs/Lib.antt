@@ -1,7 +1,9 @@
 pub mod Certified
+pub mod Clausal
 pub mod Entries
 pub mod Faults
 pub mod FirstNames
+pub mod JointSizes
 pub mod Numbers
 pub mod Recordable
 pub mod Shown

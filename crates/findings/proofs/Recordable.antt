@@ -19,7 +19,7 @@ use Rattle.psl_tree.specs.declared.counts.TheConstants.{MOST_CONSTRUCTORS, MOST_
 use Rattle.psl_tree.specs.declared.directive.Directive.{Directive}
 use Rattle.vcd_reader.specs.Rules.{sample_limit}
 use Rattle.wave_judge.specs.Faults.{IsJudgeable}
-use Rattle.findings.specs.Recordings.{CanRecord, Recordable}
+use Rattle.findings.specs.Recordings.{CanRecord, IsRunRecordable, Recordable}
 use Rattle.findings.specs.Traceable.{AreTraceable, IsTraceable}
 
 -- a formula that is small enough under assumptions is so alone
@@ -67,16 +67,23 @@ can-record task loops run provable depth traceable shortest =
       judgeable = can-judge task provable;
     }
 
+run-recordable : (task : Task) (wanted : Option (List ℕ × ℕ)) (run : Run) → IsProvable task → task.options.depth ≤ 1000
+    → AreTraceable task.netlist.now (task.assertion.now ∷ []) wanted
+    → IsShortest task.netlist.now task.unit.now task.assertion.now task.options.depth run → IsRunRecordable task wanted run
+run-recordable task None run provable depth traceable shortest = tt
+run-recordable task (Some (prefix, loops)) run provable depth traceable shortest = can-record task loops run provable depth traceable shortest
+
 pub recordable : (task : Task) (wanted : Option (List ℕ × ℕ)) (finding : Finding) → IsProvable task → task.options.depth ≤ 1000
     → AreTraceable task.netlist.now (task.assertion.now ∷ []) wanted
     → IsFinding task.netlist.now task.unit.now task.assertion.now task.options finding → Recordable task wanted finding
-recordable task None finding provable depth traceable is = tt
-recordable task (Some (prefix, loops)) (findings.Violated run) provable depth traceable is = can-record task loops run provable depth traceable is
-recordable task (Some (prefix, loops)) (findings.Proved _) provable depth traceable is = tt
-recordable task (Some (prefix, loops)) (findings.Depth _) provable depth traceable is = tt
-recordable task (Some (prefix, loops)) (findings.Steps _ _) provable depth traceable is = tt
-recordable task (Some (prefix, loops)) (findings.LogFull _ _) provable depth traceable is = tt
-recordable task (Some (prefix, loops)) (findings.Large _) provable depth traceable is = tt
+recordable task wanted (findings.Violated run) provable depth traceable is = run-recordable task wanted run provable depth traceable is
+recordable task wanted (findings.Proved _) provable depth traceable is = tt
+recordable task wanted (findings.ProvedReach _) provable depth traceable is = tt
+recordable task wanted (findings.Depth _) provable depth traceable is = tt
+recordable task wanted (findings.DepthReach _ _) provable depth traceable is = tt
+recordable task wanted (findings.Steps _ _) provable depth traceable is = tt
+recordable task wanted (findings.LogFull _ _) provable depth traceable is = tt
+recordable task wanted (findings.Large _) provable depth traceable is = tt
 
 -- one directive of a text
 one-small : (unit items : List Directive) (place : ℕ) (d : Directive) → items ≡ unit → place < length items → d ≡ slice_index_or items place d

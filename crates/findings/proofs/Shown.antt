@@ -57,7 +57,9 @@ module _ (design : Design) (unit : List Directive) (options : Options) (wanted :
   finding-shows : (assertion : Directive) (finding : Finding) → IsFinding design unit assertion options finding → ShowsColumns columns finding
   finding-shows assertion (findings.Violated run) is = run-has run is.is.is
   finding-shows assertion (findings.Proved _) is = tt
+  finding-shows assertion (findings.ProvedReach _) is = tt
   finding-shows assertion (findings.Depth _) is = tt
+  finding-shows assertion (findings.DepthReach _ _) is = tt
   finding-shows assertion (findings.Steps _ _) is = tt
   finding-shows assertion (findings.LogFull _ _) is = tt
   finding-shows assertion (findings.Large _) is = tt

@@ -18,7 +18,13 @@ HasColumns columns valuation = All (λ column. column.signal < length valuation)
 -- each valuation of a run that is shown has one
 abbrev pub ShowsColumns : List Name → Finding → Type 0
 ShowsColumns columns (findings.Violated run) = All (HasColumns columns) run.stem × All (HasColumns columns) run.loop_part
-ShowsColumns columns _ = Unit {0}
+ShowsColumns columns (findings.Proved certificate) = Unit {0}
+ShowsColumns columns (findings.ProvedReach certificate) = Unit {0}
+ShowsColumns columns (findings.Depth paths) = Unit {0}
+ShowsColumns columns (findings.DepthReach paths ends) = Unit {0}
+ShowsColumns columns (findings.Steps query log) = Unit {0}
+ShowsColumns columns (findings.LogFull query log) = Unit {0}
+ShowsColumns columns (findings.Large query) = Unit {0}
 
 abbrev pub ShowColumns : List Name → List FindingEntry → Type 0
 ShowColumns columns entries = All (λ entry. ShowsColumns columns entry.finding) entries

@@ -4,29 +4,33 @@ use Rattle.cert_check.specs.Claims.{asked_of, queries_of}
 use Rattle.cert_check.specs.Limits.{IsFault}
 use Rattle.cert_check.specs.declared.fault.CertFault.{CertFault}
 use Rattle.cert_check.specs.declared.fault.CertFault.TheVariants.{NoMemory}
-use Rattle.certificate.specs.Printed.{cert_text}
+use Rattle.certificate.specs.Printed.{cert_text, inductive_text}
 use Rattle.certificate.specs.Texts.{IsAnswer}
 use Rattle.certificate.specs.declared.answer.CertAnswer.TheVariants.{Passed}
 use Rattle.certificate.specs.declared.certificate.Certificate.{Certificate}
+use Rattle.certificate.specs.declared.certificate.InductiveCert.{InductiveCert}
 use Rattle.certificate.specs.declared.header.Version.{Version}
 use Rattle.netlist.specs.Design.{Design}
 use Rattle.prover.specs.Findings.{IsFinding}
-use Rattle.prover.specs.declared.finding.Finding.TheVariants.{Proved}
+use Rattle.prover.specs.declared.finding.Finding.TheVariants.{Proved, ProvedReach}
 use Rattle.prover.specs.declared.options.Options.{Options}
 use Rattle.psl_tree.specs.declared.directive.Directive.{Directive}
 use Rattle.findings.specs.Assertions.{assertions}
 use Rattle.findings.specs.Recordings.{IsRecorded}
 use Rattle.findings.specs.declared.entry.FindingEntry.{FindingEntry}
 
--- The text of a certificate, in either version, is passed for the assertion of a number: no line of it is refused. Nor does
--- it pass a limit: it is checked, unless memory is refused.
-pub record IsPassedFor (design : Design) (unit : List Directive) (number : ℕ) (certificate : Certificate) : Type 0 where
-  pub passed : (version : Version)
-      → IsAnswer (asked_of unit number) (queries_of design unit number) (cert_text version certificate) Passed
-  pub checked : (version : Version) (fault : CertFault)
-      → IsFault design unit number (cert_text version certificate) fault → fault ≡ NoMemory
+-- A text is passed for the assertion of a number: no line of it is refused. Nor does it pass a limit: it is checked, unless
+-- memory is refused.
+pub record IsPassedText (design : Design) (unit : List Directive) (number : ℕ) (text : List ℕ) : Type 0 where
+  pub passed : IsAnswer (asked_of unit number) (queries_of design unit number) text Passed
+  pub checked : (fault : CertFault) → IsFault design unit number text fault → fault ≡ NoMemory
 
--- the finding of an assertion of the text, with its evidence; where it is proved, the certificate is passed
+-- so is that of a certificate, in either version
+abbrev pub IsPassedFor : Design → List Directive → ℕ → Certificate → Type 0
+IsPassedFor design unit number certificate = (version : Version) → IsPassedText design unit number (cert_text version certificate)
+
+-- the finding of an assertion of the text, with its evidence; where it is proved, the certificate is passed, be it of a
+-- window or of clauses
 pub record IsEntry (design : Design) (unit : List Directive) (options : Options) (wanted : Option (List ℕ × ℕ)) (assertion : Directive)
     (entry : FindingEntry) : Type 0 where
   pub number : entry.number ≡ assertion.number
@@ -35,6 +39,8 @@ pub record IsEntry (design : Design) (unit : List Directive) (options : Options)
   pub recorded : IsRecorded design assertion wanted entry.finding entry.recorded
   pub passed : (certificate : Certificate) → entry.finding ≡ Proved certificate
       → IsPassedFor design unit entry.number certificate
+  pub passed_reach : (certificate : InductiveCert) → entry.finding ≡ ProvedReach certificate
+      → IsPassedText design unit entry.number (inductive_text certificate)
 
 -- one for each of some assertions, in order
 abbrev pub AreEntries : Design → List Directive → Options → Option (List ℕ × ℕ) → List Directive → List FindingEntry → Type 0

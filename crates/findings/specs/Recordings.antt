@@ -35,11 +35,22 @@ IsRecordedRun design assertion (prefix, loops) run (Judged name samples verdict 
     × IsJudgedUpTo file_limit design run loops assertion (Some (record { text = text; samples = samples; verdict = verdict }))
 IsRecordedRun design assertion (prefix, loops) run TooLong = file_limit < length (trace_text design run loops)
 
+-- what is recorded of a run, where recordings are wanted
+abbrev pub IsRunRecorded : Design → Directive → Option (List ℕ × ℕ) → Run → Option Recorded → Type 0
+IsRunRecorded design assertion None run recorded = recorded ≡ None
+IsRunRecorded design assertion (Some wanted) run None = ⊥
+IsRunRecorded design assertion (Some wanted) run (Some recorded) = IsRecordedRun design assertion wanted run recorded
+
 -- what is recorded of a finding: something just where it is a run and recordings are wanted
 abbrev pub IsRecorded : Design → Directive → Option (List ℕ × ℕ) → Finding → Option Recorded → Type 0
-IsRecorded design assertion (Some wanted) (findings.Violated run) (Some recorded) = IsRecordedRun design assertion wanted run recorded
-IsRecorded design assertion (Some wanted) (findings.Violated run) None = ⊥
-IsRecorded design assertion _ finding recorded = recorded ≡ None
+IsRecorded design assertion wanted (findings.Violated run) recorded = IsRunRecorded design assertion wanted run recorded
+IsRecorded design assertion wanted (findings.Proved certificate) recorded = recorded ≡ None
+IsRecorded design assertion wanted (findings.ProvedReach certificate) recorded = recorded ≡ None
+IsRecorded design assertion wanted (findings.Depth paths) recorded = recorded ≡ None
+IsRecorded design assertion wanted (findings.DepthReach paths ends) recorded = recorded ≡ None
+IsRecorded design assertion wanted (findings.Steps query log) recorded = recorded ≡ None
+IsRecorded design assertion wanted (findings.LogFull query log) recorded = recorded ≡ None
+IsRecorded design assertion wanted (findings.Large query) recorded = recorded ≡ None
 
 -- a run of a finding, where it is to be recorded, and the assertion: the trace can be read, and the assertion be judged
 pub record CanRecord (task : Task) (loops : ℕ) (run : Run) : Type 0 where
@@ -48,6 +59,17 @@ pub record CanRecord (task : Task) (loops : ℕ) (run : Run) : Type 0 where
   pub small : formula_size (formula_of task.assertion.now.formula) ≤ MOST_CONSTRUCTORS
   pub judgeable : IsJudgeable task.assertion.now
 
+-- the same, where recordings are wanted
+abbrev pub IsRunRecordable : Task → Option (List ℕ × ℕ) → Run → Type 0
+IsRunRecordable task None run = Unit {0}
+IsRunRecordable task (Some (prefix, loops)) run = CanRecord task loops run
+
 abbrev pub Recordable : Task → Option (List ℕ × ℕ) → Finding → Type 0
-Recordable task (Some (prefix, loops)) (findings.Violated run) = CanRecord task loops run
-Recordable task _ _ = Unit {0}
+Recordable task wanted (findings.Violated run) = IsRunRecordable task wanted run
+Recordable task wanted (findings.Proved certificate) = Unit {0}
+Recordable task wanted (findings.ProvedReach certificate) = Unit {0}
+Recordable task wanted (findings.Depth paths) = Unit {0}
+Recordable task wanted (findings.DepthReach paths ends) = Unit {0}
+Recordable task wanted (findings.Steps query log) = Unit {0}
+Recordable task wanted (findings.LogFull query log) = Unit {0}
+Recordable task wanted (findings.Large query) = Unit {0}

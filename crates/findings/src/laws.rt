@@ -3,26 +3,33 @@ ghost use Rattle.std.specs.Prelude.{◌≡◌, ◌⊎◌, ℕ, List, Option, Res
 ghost use Rattle.cert_check.specs.Claims.{asked_of, queries_of};
 ghost use Rattle.cert_check.specs.Limits.{IsFault};
 ghost use Rattle.cert_check.specs.declared.fault.CertFault.{CertFault};
-ghost use Rattle.certificate.specs.Printed.{cert_text};
+ghost use Rattle.certificate.specs.Printed.{cert_text, inductive_text};
 ghost use Rattle.certificate.specs.Texts.{IsAnswer};
 ghost use Rattle.certificate.specs.declared.answer.CertAnswer.{CertAnswer};
 ghost use Rattle.certificate.specs.declared.certificate.Certificate.{Certificate};
+ghost use Rattle.certificate.specs.declared.certificate.InductiveCert.{InductiveCert};
 ghost use Rattle.certificate.specs.declared.header.Version.{Version};
 ghost use Rattle.findings.specs.Entries.{IsEntry};
 ghost use Rattle.findings.specs.declared.entry.FindingEntry.{FindingEntry};
 ghost use Rattle.netlist.specs.Design.{Design};
-ghost use Rattle.prover.specs.declared.finding.Finding.TheVariants.{Proved};
+ghost use Rattle.prover.specs.declared.finding.Finding.TheVariants.{Proved, ProvedReach};
 ghost use Rattle.prover.specs.declared.options.Options.{Options};
 ghost use Rattle.psl_tree.specs.declared.directive.Directive.{Directive};
 
-/// A law of the definitions: where an assertion is proved and `check_cert` is asked about the text of its certificate, in
-/// either version, for the same text, number and netlist, it answers that it is passed, unless memory is refused. What is
-/// said of its result is what `check_cert` says of it.
+/// A law of the definitions: where an assertion is proved and `check_cert` is asked about the text of its certificate, for
+/// the same text, number and netlist, it answers that it is passed, unless memory is refused. A certificate of a window has
+/// a text in either version, and one of clauses has one text. What is said of its result is what `check_cert` says of it.
 pub fn passed_law()
     ensures passed { (design : Design) (unit : List Directive) (options : Options) (wanted : Option (List ℕ × ℕ)) (assertion : Directive)
         (entry : FindingEntry) (certificate : Certificate) (version : Version) (result : Result CertAnswer CertFault)
         → IsEntry design unit options wanted assertion entry → entry.finding ≡ Proved certificate
         → IfOk result (IsAnswer (asked_of unit entry.number) (queries_of design unit entry.number) (cert_text version certificate))
         → IfErr result (IsFault design unit entry.number (cert_text version certificate))
+        → (result ≡ Ok CertAnswer.Passed) ⊎ (result ≡ Err CertFault.NoMemory) }
+    ensures passed_reach { (design : Design) (unit : List Directive) (options : Options) (wanted : Option (List ℕ × ℕ)) (assertion : Directive)
+        (entry : FindingEntry) (certificate : InductiveCert) (result : Result CertAnswer CertFault)
+        → IsEntry design unit options wanted assertion entry → entry.finding ≡ ProvedReach certificate
+        → IfOk result (IsAnswer (asked_of unit entry.number) (queries_of design unit entry.number) (inductive_text certificate))
+        → IfErr result (IsFault design unit entry.number (inductive_text certificate))
         → (result ≡ Ok CertAnswer.Passed) ⊎ (result ≡ Err CertFault.NoMemory) }
 {}

@@ -51,7 +51,9 @@ pub(crate) fn recorded_of(
             Ok(Some(recorded))
         }
         Finding::Proved(_)
+        | Finding::ProvedReach(_)
         | Finding::Depth(_)
+        | Finding::DepthReach(_, _)
         | Finding::Steps(_, _)
         | Finding::LogFull(_, _)
         | Finding::Large(_) => Ok(None),

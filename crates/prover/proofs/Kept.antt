@@ -75,7 +75,7 @@ kept-has task visits window member is =
     member.initial member.path is.keeps
 
 -- a place within a list has a member
-some-member : {A : Type 0} (xs : List A) (place : ℕ) → place < length xs → (x : A) × (slice_get xs place ≡ Some x)
+pub some-member : {A : Type 0} (xs : List A) (place : ℕ) → place < length xs → (x : A) × (slice_get xs place ≡ Some x)
 some-member [] place within = absurd (omega (arith, within))
 some-member (x ∷ xs) place within = (get_or (x ∷ xs) place x, slice_get-get_or (x ∷ xs) place x within)
 

@@ -1,6 +1,7 @@
 pub mod Evidence
 pub mod Kept
 pub mod Opened
+pub mod Reached
 pub mod Seen
 pub mod Small
 pub mod Turned

@@ -1,5 +1,5 @@
 -- What each finding says, and by which evidence.
-use Rattle.std.specs.Prelude.{◌≤◌, ℕ, suc, List}
+use Rattle.std.specs.Prelude.{◌≡◌, ◌≤◌, ℕ, suc, Bool as Truth, true, false, List}
 use Rattle.cdcl.specs.Answers.{IsSpent, IsFull}
 use Rattle.clauses.specs.declared.cnf.Cnf.{Cnf}
 use Rattle.circuit_theory.specs.Sizes.{IsTooLarge}
@@ -7,7 +7,9 @@ use Rattle.netlist.specs.Design.{Design}
 use Rattle.netlist.specs.declared.run.Run.{Run}
 use Rattle.psl_tree.specs.declared.directive.Directive.{Directive}
 use Rattle.search_theory.specs.Found.{run_size}
-use Rattle.prover.specs.Proving.{IsProved}
+use Rattle.reach.specs.declared.answer.Reached.{Reached}
+use Rattle.prover.specs.Ends.{AreEnds}
+use Rattle.prover.specs.Proving.{IsProved, IsProvedReach}
 use Rattle.prover.specs.Queries.{ComesUp, IsFormulaOf, clauses_of, variables_of}
 use Rattle.prover.specs.Violating.{NoneBelow, Violates}
 use Rattle.prover.specs.Windows.{AreOpenPaths}
@@ -30,12 +32,24 @@ pub record IsUndecided (design : Design) (unit : List Directive) (assertion : Di
   pub none_within : NoneBelow design unit assertion (suc options.depth)
   pub each_open : AreOpenPaths design unit assertion (suc options.visits) options.depth paths
 
+-- the same, and for each number of visits the search for inductive clauses ends without any
+pub record IsUndecidedReach (design : Design) (unit : List Directive) (assertion : Directive)
+    (options : Options) (paths : List OpenPath) (ends : List Reached) : Type 0 where
+  pub asked : options.reach ≡ true
+  pub undecided : IsUndecided design unit assertion options paths
+  pub each_end : AreEnds design unit assertion options (suc options.visits) ends
+
 -- a finding with its evidence
 abbrev pub IsFinding : Design → List Directive → Directive → Options → Finding → Type 0
 IsFinding design unit assertion options (findings.Proved certificate) =
     IsProved design unit assertion options certificate
+IsFinding design unit assertion options (findings.ProvedReach certificate) =
+    IsProvedReach design unit assertion options certificate
 IsFinding design unit assertion options (findings.Violated run) = IsShortest design unit assertion options.depth run
-IsFinding design unit assertion options (findings.Depth paths) = IsUndecided design unit assertion options paths
+IsFinding design unit assertion options (findings.Depth paths) =
+    (options.reach ≡ false) × IsUndecided design unit assertion options paths
+IsFinding design unit assertion options (findings.DepthReach paths ends) =
+    IsUndecidedReach design unit assertion options paths ends
 IsFinding design unit assertion options (findings.Steps query log) =
     ComesUp design unit assertion options query
     × (formula : Cnf) × IsFormulaOf design unit assertion query formula × IsSpent formula options.steps log
@@ -45,3 +59,34 @@ IsFinding design unit assertion options (findings.LogFull query log) =
 IsFinding design unit assertion options (findings.Large query) =
     ComesUp design unit assertion options query
     × IsTooLarge (variables_of design unit assertion query) (clauses_of design unit assertion query)
+
+-- which findings say that each run satisfies what is owed, which that some run does not, and which say neither
+abbrev pub is_proved : Finding → Truth
+is_proved (findings.Proved certificate) = true
+is_proved (findings.ProvedReach certificate) = true
+is_proved (findings.Violated run) = false
+is_proved (findings.Depth paths) = false
+is_proved (findings.DepthReach paths ends) = false
+is_proved (findings.Steps query log) = false
+is_proved (findings.LogFull query log) = false
+is_proved (findings.Large query) = false
+
+abbrev pub is_violated : Finding → Truth
+is_violated (findings.Proved certificate) = false
+is_violated (findings.ProvedReach certificate) = false
+is_violated (findings.Violated run) = true
+is_violated (findings.Depth paths) = false
+is_violated (findings.DepthReach paths ends) = false
+is_violated (findings.Steps query log) = false
+is_violated (findings.LogFull query log) = false
+is_violated (findings.Large query) = false
+
+abbrev pub is_undecided : Finding → Truth
+is_undecided (findings.Proved certificate) = false
+is_undecided (findings.ProvedReach certificate) = false
+is_undecided (findings.Violated run) = false
+is_undecided (findings.Depth paths) = true
+is_undecided (findings.DepthReach paths ends) = true
+is_undecided (findings.Steps query log) = true
+is_undecided (findings.LogFull query log) = true
+is_undecided (findings.Large query) = true

@@ -1,9 +1,11 @@
 pub mod Claims
+pub mod Ends
 pub mod Findings
 pub mod Glances
 pub mod Kept
 pub mod Proving
 pub mod Queries
+pub mod Reaching
 pub mod Stops
 pub mod Tasks
 pub mod Views

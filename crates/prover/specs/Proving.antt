@@ -1,7 +1,8 @@
 -- What proves an assertion.
-use Rattle.std.specs.Prelude.{◌≡◌, ◌+◌, ◌≤◌, ℕ, List, None}
+use Rattle.std.specs.Prelude.{◌≡◌, ◌+◌, ◌<◌, ◌≤◌, ℕ, true, List, None}
 use Rattle.cdcl.specs.Evidence.{IsTidy}
 use Rattle.certificate.specs.declared.certificate.Certificate.{Certificate}
+use Rattle.certificate.specs.declared.certificate.InductiveCert.{InductiveCert}
 use Rattle.circuit_theory.specs.Sizes.{IsTooLarge}
 use Rattle.clauses.specs.Literals.{clause_words}
 use Rattle.clauses.specs.Logs.{LogEntry, Refutes, lemmas, log_words}
@@ -13,6 +14,9 @@ use Rattle.owed.specs.Owed.{owed}
 use Rattle.psl_tree.specs.Satisfaction.{Sat}
 use Rattle.psl_tree.specs.Trace.{trace_of}
 use Rattle.psl_tree.specs.declared.directive.Directive.{Directive}
+use Rattle.reach.specs.Answers.{AreInductive}
+use Rattle.reach.specs.declared.answer.Reached.{Reached}
+use Rattle.prover.specs.Ends.{joint_of, IsEnd}
 use Rattle.prover.specs.Queries.{clauses_of, variables_of}
 use Rattle.prover.specs.declared.finding.Query.{Query}
 use Rattle.prover.specs.declared.finding.Query.TheVariants.{Base, Induction}
@@ -38,4 +42,19 @@ pub record IsProved (design : Design) (unit : List Directive) (assertion : Direc
   pub base : IsRefuted design unit assertion options.steps (Base certificate.visits certificate.window) certificate.base
   pub induction : IsRefuted design unit assertion options.steps
       (Induction certificate.visits certificate.window) certificate.induction
+  pub satisfied : (run : Run) → IsRun design run → Sat (trace_of (word design run)) (owed unit assertion) None
+
+-- The clauses of the certificate are about the state bits and inductive, for its visits, which are within the options: its
+-- logs refute that some initial state misses one, that some step leads out of them, and that some bad state meets them.
+-- For fewer visits the search for such clauses ends without any. Each run of the netlist satisfies what is owed of the
+-- assertion.
+pub record IsProvedReach (design : Design) (unit : List Directive) (assertion : Directive) (options : Options)
+    (certificate : InductiveCert) : Type 0 where
+  pub asked : options.reach ≡ true
+  pub number : certificate.assertion ≡ assertion.number
+  pub visits : certificate.visits ≤ options.visits
+  pub inductive : AreInductive (joint_of design unit assertion certificate.visits) options.steps certificate.clauses
+      certificate.initial certificate.step certificate.bad
+  pub fewer : (visits : ℕ) → visits < certificate.visits
+      → (end : Reached) × IsEnd design unit assertion options visits end
   pub satisfied : (run : Run) → IsRun design run → Sat (trace_of (word design run)) (owed unit assertion) None

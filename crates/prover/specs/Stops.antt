@@ -5,13 +5,15 @@ use Rattle.cdcl.specs.Answers.{IsModelOf, IsRefutation}
 use Rattle.clauses.specs.declared.cnf.Cnf.{Cnf}
 use Rattle.clauses.specs.declared.flat.CnfFault.{CnfFault}
 use Rattle.clauses.specs.declared.flat.CnfFault.TheVariants as faults
-use Rattle.prover.specs.Findings.{IsFinding}
+use Rattle.prover.specs.Findings.{IsFinding, IsUndecided}
 use Rattle.prover.specs.Queries.{ComesUp, IsFormulaOf, IsLookedAt, IsSought}
 use Rattle.prover.specs.Violating.{NoneBelow, Violates}
+use Rattle.prover.specs.Windows.{StaysOpen}
 use Rattle.prover.specs.declared.answering.Solved.{Solved}
 use Rattle.prover.specs.declared.answering.Solved.TheVariants.{Model, Refuted}
 use Rattle.prover.specs.declared.finding.Finding.{Finding}
 use Rattle.prover.specs.declared.finding.Finding.TheVariants.{Large}
+use Rattle.prover.specs.declared.finding.OpenPath.{OpenPath}
 use Rattle.prover.specs.declared.finding.Query.{Query}
 use Rattle.prover.specs.declared.stop.Stop.{Stop}
 use Rattle.prover.specs.declared.stop.Stop.TheVariants as stops
@@ -39,6 +41,12 @@ ViolatesFor task run = Violates task.netlist.now task.unit.now task.assertion.no
 
 abbrev pub NoneBelowFor : Task → ℕ → Type 0
 NoneBelowFor task size = NoneBelow task.netlist.now task.unit.now task.assertion.now size
+
+abbrev pub StaysOpenFor : Task → ℕ → ℕ → Type 0
+StaysOpenFor task count window = StaysOpen task.netlist.now task.unit.now task.assertion.now count window
+
+abbrev pub IsUndecidedFor : Task → List OpenPath → Type 0
+IsUndecidedFor task paths = IsUndecided task.netlist.now task.unit.now task.assertion.now task.options paths
 
 -- what is found is found with its evidence
 abbrev pub IsStopOf : Task → Stop → Type 0

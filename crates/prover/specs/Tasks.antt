@@ -1,5 +1,5 @@
 -- What can be proved: within which limits.
-use Rattle.std.specs.Prelude.{◌≤◌, All}
+use Rattle.std.specs.Prelude.{◌≡◌, ◌≤◌, true, All}
 use Rattle.psl_tree.specs.Atoms.{AtomsOfFormula}
 use Rattle.psl_tree.specs.Names.{AtomInRange}
 use Rattle.psl_tree.specs.Trees.{formula_of}
@@ -8,7 +8,7 @@ use Rattle.work_limits.specs.Sized.{IsSized}
 use Rattle.prover.specs.declared.task.Task.{Task}
 
 -- what is owed is within the limits, all that the text names are signals of the netlist, and the options are in their
--- ranges
+-- ranges, that of the depth where inductive clauses are sought, too
 pub record IsProvable (task : Task) : Type 0 where
   pub sized : IsSized task.netlist.now task.options.depth (plain_owed task.unit.now task.assertion.now)
   pub unit : All (λ directive. AtomsOfFormula (AtomInRange task.netlist.now.names) (formula_of directive.formula))
@@ -16,3 +16,4 @@ pub record IsProvable (task : Task) : Type 0 where
   pub assertion : AtomsOfFormula (AtomInRange task.netlist.now.names) (formula_of task.assertion.now.formula)
   pub depth : 1 ≤ task.options.depth
   pub visits : task.options.visits ≤ 16
+  pub few : task.options.reach ≡ true → task.options.depth ≤ 1000

@@ -1,8 +1,12 @@
-use certificate::Certificate;
+ghost use Rattle.std.specs.Prelude.{◌≡◌};
+ghost use Rattle.prover.specs.Findings as spec;
+
+use certificate::{Certificate, InductiveCert};
 use clauses::Log;
 use joint_theory::JointPath;
 use netlist::Run;
 use psl_base::Items;
+use reach::Reached;
 
 /// A formula that the solver is asked about.
 #[derive(Clone, Copy, Debug)]
@@ -30,20 +34,51 @@ pub struct OpenPath {
 /// Open paths in order.
 pub type OpenPaths = Items<OpenPath>;
 
+/// How the searches for inductive clauses end, for each number of visits from 0 on.
+pub type ReachEnds = Items<Reached>;
+
 /// What is found out about an assertion.
 #[derive(Debug, Drop)]
 pub enum Finding {
     /// Each run satisfies what is owed, and this is the evidence.
     Proved(Certificate),
+    /// Each run satisfies what is owed, and these inductive clauses are the evidence.
+    ProvedReach(InductiveCert),
     /// A run violates what is owed, and no shorter one does.
     Violated(Run),
     /// No run of at most as many valuations as the depth violates what is owed. For each number of visits, from 0 on, a
     /// joint path is open at the window of that depth.
     Depth(OpenPaths),
+    /// The same, where inductive clauses are sought too. For each number of visits, from 0 on, the search for them ends
+    /// without any.
+    DepthReach(OpenPaths, ReachEnds),
     /// The steps were spent on a query; the log has as many lemmas.
     Steps(Query, Log),
     /// The log of a query is full.
     LogFull(Query, Log),
     /// The formula of a query is too large.
     Large(Query),
+}
+
+impl Finding {
+    /// Whether it says that each run satisfies what is owed.
+    pub fn is_proved(&self) -> bool
+        ensures { result ≡ spec.is_proved self.now }
+    {
+        matches!(self, Finding::Proved(_) | Finding::ProvedReach(_))
+    }
+
+    /// Whether it says that some run does not.
+    pub fn is_violated(&self) -> bool
+        ensures { result ≡ spec.is_violated self.now }
+    {
+        matches!(self, Finding::Violated(_))
+    }
+
+    /// Whether it says neither.
+    pub fn is_undecided(&self) -> bool
+        ensures { result ≡ spec.is_undecided self.now }
+    {
+        !self.is_proved() && !self.is_violated()
+    }
 }

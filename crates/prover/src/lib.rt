@@ -10,11 +10,12 @@ mod glance;
 mod keeping;
 mod options;
 mod proving;
+mod reaching;
 mod searching;
 mod stop;
 mod task;
 
-pub use finding::{Finding, OpenPath, OpenPaths, Query};
+pub use finding::{Finding, OpenPath, OpenPaths, Query, ReachEnds};
 pub use options::Options;
 pub use proving::prove;
 pub use task::Task;

@@ -1,13 +1,14 @@
 ghost use Rattle.std.specs.Prelude.{IfOk, IfErr};
 ghost use Rattle.prover.specs.Claims.{IsReady};
 ghost use Rattle.prover.specs.Findings.{IsFinding};
-ghost use Rattle.prover.specs.Stops.{IsFindingFor, IsStopOf};
+ghost use Rattle.prover.specs.Reaching.{searches_of, AreEndsFor};
+ghost use Rattle.prover.specs.Stops.{IsFindingFor, IsStopOf, IsUndecidedFor};
 ghost use Rattle.prover.specs.Tasks.{IsProvable};
-ghost use Rattle.prover.specs.declared.finding.Finding.TheVariants.{Depth};
 
 use crate::claim::claim_of;
 use crate::context::Prover;
-use crate::finding::{Finding, OpenPaths};
+use crate::finding::{Finding, OpenPaths, ReachEnds};
+use crate::reaching::{Reaching, budget_at};
 use crate::searching::Searched;
 use crate::stop::Stop;
 use crate::task::Task;
@@ -16,8 +17,10 @@ use std::alloc::Global;
 
 /// Seeks a proof that each run of the netlist satisfies what is owed, and a run that does not. For each number from 1
 /// to the depth it looks for a run of so many valuations that does not, and for longer ones ahead of it; then, for each
-/// number of visits, for a joint path that is open at that window. The first number of visits for which none is proves the assertion (Sheeran, Singh
-/// and Stalmarck, Checking safety properties using induction and a SAT-solver).
+/// number of visits, for a joint path that is open at that window. The first number of visits for which none is proves
+/// the assertion (Sheeran, Singh and Stalmarck, Checking safety properties using induction and a SAT-solver). Where the
+/// options ask for it, inductive clauses are sought behind these; the first number of visits for which there are some
+/// proves it too (Bradley, SAT-based model checking without unrolling).
 ///
 /// # Errors
 ///
@@ -32,19 +35,18 @@ pub fn prove(alloc: Global, task: Task) -> Result<Finding, NoMemory>
         task,
         claim: &claim,
     };
-    match prover.open_paths(alloc) {
-        Ok(paths) => Ok(Finding::Depth(paths)),
+    match prover.left_open(alloc) {
+        Ok(finding) => Ok(finding),
         Err(Stop::Found(finding)) => Ok(finding),
         Err(Stop::NoMemory) => Err(NoMemory),
     }
 }
 
 impl Prover<'_> {
-    // The open paths at the window of the depth, one for each number of visits. It stops where something else is
-    // found out.
-    fn open_paths(self, alloc: Global) -> Result<OpenPaths, Stop>
+    // What is found behind the last window. It stops where something is found out before.
+    fn left_open(self, alloc: Global) -> Result<Finding, Stop>
         requires { IsReady self }
-        ensures paths { IfOk result (λ paths. IsFindingFor self.entry.task (Depth paths)) }
+        ensures finding { IfOk result (IsFindingFor self.entry.task) }
         ensures stop { IfErr result (IsStopOf self.entry.task) }
     {
         let begun = Searched {
@@ -53,12 +55,29 @@ impl Prover<'_> {
         };
         let mut searched = self.search(alloc, 1, begun)?;
         let mut paths = self.first_paths(alloc)?;
+        let joints = self.joints(alloc)?;
+        let mut reaching = self.reach_on(alloc, budget_at(1), Reaching::new(alloc, &joints))?;
         for window in 2..=self.task.options.depth {
             if searched.none_within < window {
                 searched = self.search(alloc, window, searched)?;
             }
             paths = self.keep(alloc, window, paths)?;
+            reaching = self.reach_on(alloc, budget_at(window), reaching)?;
         }
-        Ok(paths)
+        let Reaching { ends, .. } = self.reach_on(alloc, None, reaching)?;
+        Ok(self.undecided(paths, ends))
+    }
+
+    // Nothing but open paths, and the ends of the searches where inductive clauses are sought.
+    fn undecided(self, paths: OpenPaths, ends: ReachEnds) -> Finding
+        requires paths { IsUndecidedFor self.task paths }
+        requires ends { AreEndsFor self.task (searches_of self.task.options) ends }
+        ensures { IsFindingFor self.entry.task result }
+    {
+        if self.task.options.reach {
+            Finding::DepthReach(paths, ends)
+        } else {
+            Finding::Depth(paths)
+        }
     }
 }

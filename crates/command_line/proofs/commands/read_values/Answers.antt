@@ -1,5 +1,14 @@
+use Rattle.std.proofs.Common.{subst}
 use Rattle.std.proofs.lemmas.Result.{IfErr-weaker, IfOk-weaker}
+use Rattle.clap.specs.Words.{first_value, found_of}
+use Rattle.command_line.specs.Chains.{HasRequired}
+use Rattle.command_line.specs.Kinds.{rules_of}
+use Rattle.command_line.specs.declared.kinds.Kind.{Kind}
 use Rattle.command_line.proofs.commands.read_values.Goals as goal
+
+pub prove-requires : goal.prove-requires
+prove-requires c =
+    subst (λ (kind : Kind). HasRequired (rules_of kind) (first_value (found_of c.args.matches.now))) c.in-Prove.is c.requires
 
 pub returns-in-Wave-clause-command : goal.returns-in-Wave-clause-command
 returns-in-Wave-clause-command c =

@@ -1,6 +1,8 @@
 use Rattle.std.proofs.Common.{◌≤◌, arith}
 use Rattle.certificate.specs.declared.certificate.Certificate.{Certificate}
+use Rattle.certificate.specs.declared.certificate.InductiveCert.{InductiveCert}
 use Rattle.findings.proofs.Certified.{passed-for}
+use Rattle.findings.proofs.Clausal.{passed-reach}
 use Rattle.findings.proofs.Recordable.{recordable}
 use Rattle.findings.proofs.proving.entry_of.Goals as goal
 use Rattle.findings.specs.Recordings.{wanted_of}
@@ -19,4 +21,6 @@ returns c =
       recorded = c.in_ok-recorded.ensures;
       passed = λ (certificate : Certificate) same. rw c.number_of.ensures.is
           (passed-for c.args.task c.requires.provable c.requires.assertion c.requires.depth few c.in_ok-finding.finding c.in_ok-finding.ensures certificate same);
+      passed_reach = λ (certificate : InductiveCert) same. rw c.number_of.ensures.is
+          (passed-reach c.args.task c.requires.provable c.requires.assertion few c.in_ok-finding.finding c.in_ok-finding.ensures certificate same);
     }

@@ -1,7 +1,8 @@
 use Rattle.std.proofs.Common.{suc, ◌-◌, ◌≤◌}
-use Rattle.prover.proofs.context.Prover.open_paths.Given as goal
+use Rattle.prover.proofs.context.Prover.left_open.Given as goal
 use Rattle.prover.specs.Glances.{IsSearchedTo}
 use Rattle.prover.specs.Kept.{AreKeptFor}
+use Rattle.prover.specs.Reaching.{IsReaching}
 
 abbrev pub invariant-loop-window : goal.invariant-loop-window
 invariant-loop-window l = record {
@@ -9,4 +10,5 @@ invariant-loop-window l = record {
   end : l.window ≤ suc l.fn.self.task.options.depth;
   searched : IsSearchedTo l.fn.self.task (l.window - 1) l.searched;
   paths : AreKeptFor l.fn.self.task (suc l.fn.self.task.options.visits) (l.window - 1) l.paths;
+  reaching : IsReaching l.fn.self.task l.reaching;
 }

@@ -1,0 +1,167 @@
+// The searches for inductive clauses, behind the queries of each window.
+ghost use Rattle.std.specs.Prelude.{◌≡◌, ◌≤◌, suc, [], None, true, length, IfOk, IfErr, IfSome};
+ghost use Rattle.joint.specs.Joined.{Joined};
+ghost use Rattle.prover.specs.Claims.{IsReady};
+ghost use Rattle.prover.specs.Reaching.{joint_for, searches_of, AreJointsFor, HaveEnded, IsBegun, IsEndFor, IsReaching};
+ghost use Rattle.prover.specs.Stops.{IsLookedAtFor, IsStopOf, StaysOpenFor};
+ghost use Rattle.reach.specs.Answers.{IsReached};
+
+use crate::context::Prover;
+use crate::finding::{Finding, Query, ReachEnds};
+use crate::stop::Stop;
+use certificate::InductiveCert;
+use joint::{Joint, joint};
+use psl_base::{Items, NoMemory};
+use reach::{Reached, Search};
+use std::alloc::Global;
+
+// Behind the queries of a window a search may come back to so many states times the window, for each frame.
+const STATES_OF_WINDOW: u64 = 100;
+
+/// The joint states for each number of visits, from 0 on.
+pub(crate) type Joints<'a> = Items<Joint<'a>>;
+
+/// How far the searches have come. There is one for each number of visits, with as many frames as the depth, and it is
+/// gone on with from window to window: to begin anew at each would repeat itself. A smaller number of visits has smaller
+/// joint states and so is the more promising one. Hence the searches for larger numbers wait while one goes on, and begin
+/// once it has ended: most of those that end have found a path, and none of them comes to inductive clauses at a larger
+/// depth either, since such a path stays open.
+#[derive(Debug, Drop)]
+pub(crate) struct Reaching<'j, 'a> {
+    pub joints: &'j Joints<'a>,
+    /// How those for the first numbers of visits have ended.
+    pub ends: ReachEnds,
+    /// The one for the next number of visits, where it has begun.
+    pub search: Option<Search<'j>>,
+}
+
+impl<'j, 'a> Reaching<'j, 'a> {
+    /// No search has begun.
+    pub fn new(alloc: Global, joints: &'j Joints<'a>) -> Reaching<'j, 'a>
+        ensures joints { result.joints.now ≡ joints.now }
+        ensures ends { result.ends ≡ [] }
+        ensures search { result.search ≡ None }
+    {
+        Reaching {
+            joints,
+            ends: ReachEnds::new(alloc),
+            search: None,
+        }
+    }
+}
+
+/// How many states the searches may come back to behind the queries of a window, for each frame.
+pub(crate) fn budget_at(window: u32) -> Option<u64> {
+    Some(STATES_OF_WINDOW * u64::from(window))
+}
+
+impl<'a> Prover<'a> {
+    /// The joint states for each number of visits that inductive clauses are sought for. They are made once, for the
+    /// searches to borrow. It stops where those for some number are too large, as at the query for them.
+    pub fn joints(self, alloc: Global) -> Result<Joints<'a>, Stop>
+        requires ready { IsReady self }
+        requires looked_at { IsLookedAtFor self.task 0 1 }
+        requires open { StaysOpenFor self.task (suc self.task.options.visits) 1 }
+        ensures joints { IfOk result (AreJointsFor self.entry.task (searches_of self.entry.task.options)) }
+        ensures stop { IfErr result (IsStopOf self.entry.task) }
+    {
+        let mut joints = Joints::new(alloc);
+        for visits in 0..self.task.options.searches() {
+            match joint(alloc, self.task.netlist, &self.claim.violation, visits) {
+                Ok(joint) => joints.push(joint)?,
+                Err(fault) => return Err(Stop::without(Query::Base(visits, 1), fault)),
+            }
+        }
+        Ok(joints)
+    }
+}
+
+impl Prover<'_> {
+    /// Goes on with the searches, one after the other, until one spends the budget; with none, until each has ended. It
+    /// stops where one finds inductive clauses: then the assertion is proved.
+    pub fn reach_on<'j, 'a>(
+        self,
+        alloc: Global,
+        budget: Option<u64>,
+        known: Reaching<'j, 'a>,
+    ) -> Result<Reaching<'j, 'a>, Stop>
+        requires ready { IsReady self }
+        requires known { IsReaching self.task known }
+        ensures reaching { IfOk result (IsReaching self.entry.task) }
+        ensures all { IfOk result (λ reaching. budget ≡ None
+            → length reaching.ends ≡ searches_of self.entry.task.options) }
+        ensures stop { IfErr result (IsStopOf self.entry.task) }
+    {
+        let Reaching {
+            joints,
+            mut ends,
+            search: mut begun,
+        } = known;
+        for visits in ends.len()..joints.len() {
+            let mut search = self.search_of(alloc, joints.at(visits), begun)?;
+            begun = None;
+            match search.go_on(alloc, self.task.options.depth, budget)? {
+                Some(reached) => ends.push(self.end_of(visits as u32, reached)?)?,
+                None => {
+                    return Ok(Reaching {
+                        joints,
+                        ends,
+                        search: Some(search),
+                    });
+                }
+            }
+        }
+        Ok(Reaching {
+            joints,
+            ends,
+            search: None,
+        })
+    }
+
+    // The search over joint states as it has begun, or a new one.
+    fn search_of<'j>(
+        self,
+        alloc: Global,
+        joint: &'j Joint<'j>,
+        begun: Option<Search<'j>>,
+    ) -> Result<Search<'j>, NoMemory>
+        requires few { self.task.options.depth ≤ 1000 }
+        requires begun { IfSome begun (IsBegun self.task joint.now) }
+        ensures { IfOk result (IsBegun self.entry.task joint.now) }
+    {
+        match begun {
+            Some(search) => Ok(search),
+            None => Search::new(
+                alloc,
+                joint,
+                self.task.options.depth,
+                self.task.options.steps,
+            ),
+        }
+    }
+
+    // How the search for a number of visits ends, where it does without inductive clauses.
+    fn end_of(self, visits: u32, reached: Reached) -> Result<Reached, Stop>
+        requires asked { self.task.options.reach ≡ true }
+        requires few { visits ≤ self.task.options.visits }
+        requires fewer { HaveEnded self.task visits }
+        requires reached { IsReached (joint_for self.task visits) self.task.options.depth self.task.options.steps
+            reached }
+        ensures end { IfOk result (IsEndFor self.entry.task visits) }
+        ensures stop { IfErr result (IsStopOf self.entry.task) }
+    {
+        match reached {
+            Reached::Inductive(clauses, initial, step, bad) => {
+                Err(Stop::Found(Finding::ProvedReach(InductiveCert {
+                    assertion: self.task.assertion.number,
+                    visits,
+                    clauses,
+                    initial,
+                    step,
+                    bad,
+                })))
+            }
+            end => Ok(end),
+        }
+    }
+}
