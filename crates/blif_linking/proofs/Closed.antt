@@ -4,12 +4,12 @@ use Rattle.std.specs.Prelude.{option_and_then}
 use Rattle.std.proofs.lemmas.List.{length-map, map-append}
 use Rattle.std.specs.List.{position_from}
 use Rattle.psl_base.specs.Tokens.{PlacedToken}
-use Rattle.flattening.specs.declared.model.Item.TheVariants.{Place}
-use Rattle.flattening.specs.declared.model.Placement.{Placement}
-use Rattle.flattening.specs.Hierarchy.{items_of}
-use Rattle.flattening.specs.Members.{Among}
-use Rattle.flattening.proofs.Members.{from_append}
-use Rattle.model_hierarchy.specs.First.{IsClosed}
+use Rattle.blif_flattening.specs.declared.model.Item.TheVariants.{Place}
+use Rattle.blif_flattening.specs.declared.model.Placement.{Placement}
+use Rattle.blif_flattening.specs.Hierarchy.{items_of}
+use Rattle.blif_flattening.specs.Members.{Among}
+use Rattle.blif_flattening.proofs.Members.{from_append}
+use Rattle.blif_hierarchy.specs.First.{IsClosed}
 use Rattle.blif_model.specs.Files.{Part, Placing, is_named, model_named}
 use Rattle.blif_model.specs.Models.{Model, Statement}
 use Rattle.blif_model.specs.Names.{number_at}

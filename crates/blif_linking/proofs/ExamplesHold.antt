@@ -1,8 +1,8 @@
 -- The worked examples hold, by computing.
 use Rattle.std.proofs.Common.{refl}
-use Rattle.flattening.specs.Hierarchy.{flat_lines}
-use Rattle.flattening.specs.Listing.{instances}
-use Rattle.flat_netlist.specs.Flat.{flat_design}
+use Rattle.blif_flattening.specs.Hierarchy.{flat_lines}
+use Rattle.blif_flattening.specs.Listing.{instances}
+use Rattle.blif_flat.specs.Flat.{flat_design}
 use Rattle.blif_linking.specs.Examples.{TurningIsLinked, TurningIsNamed, TurningIsFlat, ActualsAreNames, NoSuchModel, NoModelNamed, NoEquals, NoFormal, FormalTwice, InputMissing, DrivenByBoth, InputsDriveNothing, ActualUndriven, OutputUndriven}
 
 pub turning_is_linked : TurningIsLinked

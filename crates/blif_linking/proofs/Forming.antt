@@ -7,15 +7,15 @@ use Rattle.std.proofs.lemmas.Slice.Eq.{bytes_eq-Decides}
 use Rattle.std.specs.List.{flat_map, list_any}
 use Rattle.std.specs.Str.{bytes_eq}
 use Rattle.psl_base.specs.Tokens.{PlacedToken}
-use Rattle.flattening.specs.declared.model.Connection.{Connection}
-use Rattle.flattening.specs.declared.model.Item.TheVariants.{Place}
-use Rattle.flattening.specs.declared.model.Placement.{Placement}
-use Rattle.flattening.specs.Hierarchy.{items_of}
-use Rattle.flattening.specs.Instances.{names_of as count_of}
-use Rattle.flattening.specs.Members.{Among, Apart}
-use Rattle.flattening.proofs.Members.{from_append, from_map}
-use Rattle.model_hierarchy.specs.Drivers.{IsInForm}
-use Rattle.model_hierarchy.specs.Sums.{AreInForm}
+use Rattle.blif_flattening.specs.declared.model.Connection.{Connection}
+use Rattle.blif_flattening.specs.declared.model.Item.TheVariants.{Place}
+use Rattle.blif_flattening.specs.declared.model.Placement.{Placement}
+use Rattle.blif_flattening.specs.Hierarchy.{items_of}
+use Rattle.blif_flattening.specs.Instances.{names_of as count_of}
+use Rattle.blif_flattening.specs.Members.{Among, Apart}
+use Rattle.blif_flattening.proofs.Members.{from_append, from_map}
+use Rattle.blif_hierarchy.specs.Drivers.{IsInForm}
+use Rattle.blif_hierarchy.specs.Sums.{AreInForm}
 use Rattle.blif_model.specs.Files.{Part, Placing, model_named}
 use Rattle.blif_model.specs.Models.{Mention, Model, Statement, IsInputs, IsOutputs, IsLatch, IsTable, driven, used, with_name}
 use Rattle.blif_model.specs.Names.{number_at, place_of}

@@ -3,10 +3,10 @@ use Rattle.std.proofs.Common.{◌≡◌, ℕ, zero, suc, add-one, ◌+◌, ◌-�
 use Rattle.std.specs.Prelude.{option_and_then, slice_get}
 use Rattle.std.proofs.lemmas.List.{append_assoc, drop-map, get_or-map, map-append, take-map}
 use Rattle.psl_base.specs.Tokens.{PlacedToken}
-use Rattle.flattening.specs.declared.model.Connection.{Connection}
-use Rattle.flattening.specs.declared.model.Item.{Item}
-use Rattle.flattening.specs.declared.model.Item.TheVariants.{Own, Place}
-use Rattle.flattening.specs.declared.model.Model.{Model as NumberedModel}
+use Rattle.blif_flattening.specs.declared.model.Connection.{Connection}
+use Rattle.blif_flattening.specs.declared.model.Item.{Item}
+use Rattle.blif_flattening.specs.declared.model.Item.TheVariants.{Own, Place}
+use Rattle.blif_flattening.specs.declared.model.Model.{Model as NumberedModel}
 use Rattle.blif_model.specs.declared.file.FileText.{FileText}
 use Rattle.blif_model.specs.declared.line.ModelLine.{ModelLine}
 use Rattle.blif_model.specs.FileKnown.{OwnLines, numbered_part, part_in}

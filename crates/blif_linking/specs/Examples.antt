@@ -1,13 +1,13 @@
 -- Worked examples of texts whose models fit together, or do not.
 use Rattle.std.specs.Prelude.{◌≡◌, ℕ, true, List, [], ◌∷◌, ◌++◌, codes, decimal, Option, None, Some, Result, Ok, Err}
 use Rattle.psl_base.specs.Tokens.{PlacedToken}
-use Rattle.flattening.specs.declared.model.Item.TheVariants as items
+use Rattle.blif_flattening.specs.declared.model.Item.TheVariants as items
 use Rattle.netlist.specs.declared.latch.Init.TheVariants as inits
 use Rattle.netlist.specs.declared.rows.Mark.TheVariants as marks
 use Rattle.blif_model.specs.declared.fault.BlifFault.{BlifFault}
 use Rattle.blif_model.specs.declared.line.LineKind.TheVariants as kinds
 use Rattle.blif_model.specs.Files.{models_of}
-use Rattle.flat_netlist.specs.Flat.{flat_design}
+use Rattle.blif_flat.specs.Flat.{flat_design}
 use Rattle.blif_linking.specs.Linked.{linked, linked_texts}
 use Rattle.blif_linking.specs.Names.{Parts, first_bad, first_driven, first_undriven, first_unknown}
 

@@ -3,14 +3,14 @@
 use Rattle.std.specs.Prelude.{◌≡◌, ℕ, List, [], ◌∷◌, length, map, Option, None, Some, Ok}
 use Rattle.std.specs.List.{flat_map}
 use Rattle.psl_base.specs.Tokens.{PlacedToken}
-use Rattle.flattening.specs.declared.model.Connection.{Connection}
-use Rattle.flattening.specs.declared.model.Item.{Item}
-use Rattle.flattening.specs.declared.model.Item.TheVariants.{Own, Place}
-use Rattle.flattening.specs.declared.model.Model.{Model as NumberedModel}
-use Rattle.model_hierarchy.specs.Depth.{IsTooDeep}
-use Rattle.model_hierarchy.specs.First.{Finds}
-use Rattle.model_hierarchy.specs.Order.{IsRecursive}
-use Rattle.model_hierarchy.specs.Sums.{FindsPast}
+use Rattle.blif_flattening.specs.declared.model.Connection.{Connection}
+use Rattle.blif_flattening.specs.declared.model.Item.{Item}
+use Rattle.blif_flattening.specs.declared.model.Item.TheVariants.{Own, Place}
+use Rattle.blif_flattening.specs.declared.model.Model.{Model as NumberedModel}
+use Rattle.blif_hierarchy.specs.Depth.{IsTooDeep}
+use Rattle.blif_hierarchy.specs.First.{Finds}
+use Rattle.blif_hierarchy.specs.Order.{IsRecursive}
+use Rattle.blif_hierarchy.specs.Sums.{FindsPast}
 use Rattle.blif_model.specs.declared.line.ModelLine.{ModelLine}
 use Rattle.blif_model.specs.Files.{Part, models_of}
 use Rattle.blif_model.specs.Models.{Model}

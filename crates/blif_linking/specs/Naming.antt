@@ -1,6 +1,6 @@
 -- The names of a model in the order of their first mention, by what the models offer.
 use Rattle.std.specs.Prelude.{ℕ, ◌-◌, List, [], ◌∷◌, map, take, drop, Option}
-use Rattle.flattening.specs.declared.model.Item.{Item}
+use Rattle.blif_flattening.specs.declared.model.Item.{Item}
 use Rattle.blif_model.specs.declared.line.ModelLine.{ModelLine}
 use Rattle.blif_model.specs.FileKnown.{OwnLines}
 use Rattle.blif_model.specs.Files.{Part, Placing}

@@ -1,10 +1,10 @@
 -- The models of a text by numbers, by what they offer and by their names.
 use Rattle.std.specs.Prelude.{ℕ, ◌-◌, ◌<◌, ◌^◌, List, [], ◌∷◌, ◌++◌, length, map, take, drop, slice_index, slice_index_or, option_and_then, Option, None, Some, IfSome}
 use Rattle.psl_base.specs.Tokens.{PlacedToken}
-use Rattle.flattening.specs.declared.model.Connection.{Connection}
-use Rattle.flattening.specs.declared.model.Item.{Item}
-use Rattle.flattening.specs.declared.model.Item.TheVariants.{Own, Place}
-use Rattle.flattening.specs.declared.model.Model.{Model as NumberedModel}
+use Rattle.blif_flattening.specs.declared.model.Connection.{Connection}
+use Rattle.blif_flattening.specs.declared.model.Item.{Item}
+use Rattle.blif_flattening.specs.declared.model.Item.TheVariants.{Own, Place}
+use Rattle.blif_flattening.specs.declared.model.Model.{Model as NumberedModel}
 use Rattle.blif_model.specs.declared.line.ModelLine.{ModelLine}
 use Rattle.blif_model.specs.FileKnown.{OwnLines}
 use Rattle.blif_model.specs.Files.{Part, Placing}

@@ -1,7 +1,7 @@
 -- What a model offers to those who place it, by the numbers of its names.
 use Rattle.std.specs.Prelude.{ℕ, Bool, true, false, cond, List, [], ◌∷◌, map, Option, None, Some}
-use Rattle.flattening.specs.declared.model.Item.{Item}
-use Rattle.flattening.specs.declared.model.Item.TheVariants.{Own, Place}
+use Rattle.blif_flattening.specs.declared.model.Item.{Item}
+use Rattle.blif_flattening.specs.declared.model.Item.TheVariants.{Own, Place}
 use Rattle.blif_model.specs.declared.file.FileModel.{FileModel}
 use Rattle.blif_model.specs.declared.line.LineKind.{LineKind}
 use Rattle.blif_model.specs.declared.line.LineKind.TheVariants as kinds

@@ -4,8 +4,8 @@ use Rattle.std.specs.List.{list_any}
 use Rattle.std.specs.Option.{option_or}
 use Rattle.psl_base.specs.Tokens.{PlacedToken}
 use Rattle.psl_base.specs.declared.place.Place.{Place}
-use Rattle.flattening.specs.declared.model.Item.{Item}
-use Rattle.flattening.specs.declared.model.Item.TheVariants.{Own, Place as Placed}
+use Rattle.blif_flattening.specs.declared.model.Item.{Item}
+use Rattle.blif_flattening.specs.declared.model.Item.TheVariants.{Own, Place as Placed}
 use Rattle.blif_model.specs.declared.line.ModelLine.{ModelLine}
 use Rattle.blif_model.specs.FileKnown.{OwnLines}
 use Rattle.blif_model.specs.Files.{Part, Placing}

@@ -8,8 +8,8 @@ ghost use Rattle.blif_linking.specs.Sets.{gathered};
 
 use crate::names::{insert, insert_all, is_one_of};
 use crate::role::Role;
+use blif_flattening::Item;
 use blif_model::{FileModel, LineKind, ModelLine, NameTable, NoMemory, Span, text_of};
-use flattening::Item;
 use std::alloc::Global;
 
 /// The names by which a model may be connected. Each set has a name just once.

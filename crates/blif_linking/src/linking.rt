@@ -1,8 +1,8 @@
 // The models of a text linked.
 ghost use Rattle.std.specs.Prelude.{◌≡◌, ◌≤◌, None, List, length, map, All, IfOk};
 ghost use Rattle.psl_base.specs.Places.{file_limit};
-ghost use Rattle.model_hierarchy.specs.First.{IsClosed};
-ghost use Rattle.model_hierarchy.specs.Sums.{AreInForm};
+ghost use Rattle.blif_hierarchy.specs.First.{IsClosed};
+ghost use Rattle.blif_hierarchy.specs.Sums.{AreInForm};
 ghost use Rattle.blif_model.specs.FileKnown.{FileSays, IsModelWithin};
 ghost use Rattle.blif_model.specs.Files.{Part};
 ghost use Rattle.blif_model.specs.Models.{Model as PartModel};
@@ -14,8 +14,8 @@ ghost use Rattle.blif_linking.specs.Offers.{interface_in};
 use crate::interface::Interface;
 use crate::naming::names_of;
 use crate::numbering::link_models;
+use blif_flattening::Model;
 use blif_model::{FileText, ModelLine, NameTable, NoMemory};
-use flattening::Model;
 use psl_base::Items;
 use std::alloc::Global;
 

@@ -16,8 +16,8 @@ use crate::library::Library;
 use crate::names::{insert, insert_all};
 use crate::order::{first_items, rest_items};
 use crate::undriven::mentioned_at;
+use blif_flattening::Item;
 use blif_model::{FileModel, FileText, ModelLine, NameTable, NoMemory};
-use flattening::Item;
 use psl_base::Items;
 use std::alloc::Global;
 

@@ -17,11 +17,11 @@ use crate::interface::Interface;
 use crate::library::Library;
 use crate::links::link_of;
 use crate::role::Role;
+use blif_flattening::{Connection, Item, Model, Placement};
 use blif_model::{
     FileModel, FileModels, FileText, ModelLine, ModelText, NameTable, NoMemory, OwnText,
     PlacementLine, Span, text_of,
 };
-use flattening::{Connection, Item, Model, Placement};
 use psl_base::{Items, Numbers};
 use std::alloc::Global;
 use std::vec::IntoIter;

@@ -1,8 +1,8 @@
 // The lines of a model up to where something is placed.
 ghost use Rattle.std.specs.Prelude.{◌≡◌, take, drop};
 
+use blif_flattening::Item;
 use blif_model::ModelLine;
-use flattening::Item;
 
 // The first of some lines, all where there are fewer.
 pub(crate) fn first_items<'a>(items: &'a [Item<ModelLine>], count: usize) -> &'a [Item<ModelLine>]

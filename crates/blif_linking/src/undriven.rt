@@ -18,8 +18,8 @@ use crate::interface::Interface;
 use crate::library::Library;
 use crate::names::is_one_of;
 use crate::order::{first_items, rest_items};
+use blif_flattening::Item;
 use blif_model::{FileModel, FileText, ModelLine, NameTable, NoMemory, OwnText, Span};
-use flattening::Item;
 use std::alloc::Global;
 
 /// The first use of a name that neither a line of its model drives nor a connection: the word that mentions it, or the

@@ -3,8 +3,8 @@ use Rattle.std.proofs.Common.{◌≡◌, ◌⊎◌, ℕ, Bool, true, false, List
 use Rattle.std.proofs.lemmas.List.{append-nil, map-append}
 use Rattle.std.specs.Option.{option_map, option_or}
 use Rattle.psl_base.specs.Tokens.{PlacedToken}
-use Rattle.flattening.specs.declared.model.Item.{Item}
-use Rattle.flattening.specs.declared.model.Item.TheVariants.{Own}
+use Rattle.blif_flattening.specs.declared.model.Item.{Item}
+use Rattle.blif_flattening.specs.declared.model.Item.TheVariants.{Own}
 use Rattle.blif_model.specs.declared.command.Command.{Command}
 use Rattle.blif_model.specs.declared.command.Command.TheVariants as commands
 use Rattle.blif_model.specs.declared.fault.BlifFault.{BlifFault}

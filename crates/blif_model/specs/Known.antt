@@ -4,8 +4,8 @@ use Rattle.std.specs.Prelude.{ℕ, nat_le, Bool, true, false, cond, List, []}
 use Rattle.std.specs.Prelude.{◌∷◌, ◌++◌, map, length, Option, None, Some, Result, Err}
 use Rattle.std.specs.Option.{option_map, option_or}
 use Rattle.netlist.specs.declared.rows.Mark.{Mark}
-use Rattle.flattening.specs.declared.model.Item.{Item}
-use Rattle.flattening.specs.declared.model.Item.TheVariants.{Own}
+use Rattle.blif_flattening.specs.declared.model.Item.{Item}
+use Rattle.blif_flattening.specs.declared.model.Item.TheVariants.{Own}
 use Rattle.psl_base.specs.Tokens.{PlacedToken}
 use Rattle.blif_model.specs.declared.command.Command.{Command}
 use Rattle.blif_model.specs.declared.command.Command.TheVariants as commands

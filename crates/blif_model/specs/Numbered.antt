@@ -2,8 +2,8 @@
 -- mention.
 use Rattle.std.specs.Prelude.{ℕ, List, [], ◌∷◌, ◌++◌, map, length}
 use Rattle.psl_base.specs.Tokens.{PlacedToken}
-use Rattle.flattening.specs.declared.model.Item.{Item}
-use Rattle.flattening.specs.declared.model.Item.TheVariants.{Own}
+use Rattle.blif_flattening.specs.declared.model.Item.{Item}
+use Rattle.blif_flattening.specs.declared.model.Item.TheVariants.{Own}
 use Rattle.blif_model.specs.declared.line.LineKind.{LineKind}
 use Rattle.blif_model.specs.declared.line.LineKind.TheVariants as kinds
 use Rattle.blif_model.specs.declared.line.ModelLine.{ModelLine}

@@ -1,6 +1,6 @@
 ghost use Rattle.std.specs.Prelude.{◌≡◌};
 
-use flattening::Line;
+use blif_flattening::Line;
 use netlist::{Init, Rows};
 use psl_base::Numbers;
 

@@ -24,7 +24,7 @@ use crate::signals::Signals;
 use crate::table::OpenTable;
 use crate::tail::{clocking_fault, mention_all, mention_one, mention_table};
 use crate::text::ModelText;
-use flattening::{Item, Model as FlatModel};
+use blif_flattening::{Item, Model as FlatModel};
 use netlist::Mark;
 use psl_base::{Items, NoMemory};
 use std::alloc::Global;

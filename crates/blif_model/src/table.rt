@@ -11,7 +11,7 @@ use crate::line::{LineKind, ModelLine, TableRows};
 use crate::pieces::Span;
 use crate::shapes::{are_marks, is_bit, text_of};
 use crate::tail::{is_one, output_fault};
-use flattening::Item;
+use blif_flattening::Item;
 use netlist::{Mark, Rows};
 use psl_base::{NoMemory, Numbers};
 use std::alloc::Global;

@@ -1,6 +1,6 @@
 use crate::line::ModelLine;
 use crate::names::NameTable;
-use flattening::Model;
+use blif_flattening::Model;
 
 /// What a text says: its names in the order of their first mention, and its model, in which names are their places
 /// there.

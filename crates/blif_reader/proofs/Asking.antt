@@ -4,8 +4,8 @@ use Rattle.std.specs.Option.{option_map}
 use Rattle.std.proofs.lemmas.Bool.{cases_lt}
 use Rattle.psl_base.specs.declared.place.Place.{Place}
 use Rattle.netlist_order.proofs.Cycles.{Decided}
-use Rattle.model_hierarchy.specs.declared.place.PlacementAt.{PlacementAt}
-use Rattle.model_hierarchy.specs.First.{Before, Finds, IsFirst}
+use Rattle.blif_hierarchy.specs.declared.place.PlacementAt.{PlacementAt}
+use Rattle.blif_hierarchy.specs.First.{Before, Finds, IsFirst}
 use Rattle.blif_model.specs.declared.fault.BlifFault.{BlifFault}
 use Rattle.blif_reader.specs.Faults.{Asks, IsSought}
 

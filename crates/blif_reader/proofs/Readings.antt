@@ -6,19 +6,19 @@ use Rattle.psl_base.specs.Tokens.{PlacedToken}
 use Rattle.netlist.specs.Design.{Design}
 use Rattle.netlist_order.specs.TableGraph.{table_graph, IsAcyclic}
 use Rattle.netlist_order.proofs.Cycles.{cycle-some, cycle-one}
-use Rattle.flattening.specs.Hierarchy.{flat_lines}
-use Rattle.model_hierarchy.specs.Depth.{IsTooDeep}
-use Rattle.model_hierarchy.specs.First.{Finds}
-use Rattle.model_hierarchy.specs.Order.{IsRecursive}
-use Rattle.model_hierarchy.specs.Sums.{FindsPast}
-use Rattle.flat_netlist.specs.Flat.{Models, flat_design, flat_outputs}
+use Rattle.blif_flattening.specs.Hierarchy.{flat_lines}
+use Rattle.blif_hierarchy.specs.Depth.{IsTooDeep}
+use Rattle.blif_hierarchy.specs.First.{Finds}
+use Rattle.blif_hierarchy.specs.Order.{IsRecursive}
+use Rattle.blif_hierarchy.specs.Sums.{FindsPast}
+use Rattle.blif_flat.specs.Flat.{Models, flat_design, flat_outputs}
 use Rattle.blif_model.specs.declared.fault.BlifFault.{BlifFault}
 use Rattle.blif_model.specs.declared.fault.BlifFault.TheVariants.{UnknownModel, BadConnection, ModelRecursion, TooDeep, DrivenBySubckt, Undriven, TooLarge, CombinationalCycle}
 use Rattle.blif_model.specs.Files.{models_of}
 use Rattle.blif_model.specs.Rules.{signal_limit}
 use Rattle.blif_linking.specs.Linked.{IsHierarchy, linked, linked_texts}
 use Rattle.blif_linking.specs.Names.{Parts, first_bad, first_driven, first_undriven, first_unknown}
-use Rattle.hierarchy_laws.proofs.Hierarchies.{one-hierarchy}
+use Rattle.blif_laws.proofs.Hierarchies.{one-hierarchy}
 use Rattle.blif_reader.specs.Faults.{FromBad, FromDeep, FromDriven, FromLarge, FromRecursion, FromUndriven, IsCycleFault, IsModelsFault, in_top, place_in, title_place, titles_in}
 use Rattle.blif_reader.specs.Meaning.{IsNetlist, IsReading, IsWholeFault}
 use Rattle.blif_reader.proofs.Asking.{FaultOr, IsOne, one-asked, one-found, one-sought, rest-asked, rest-sought, some-asked, some-sought, then-asked, then-sought}

@@ -2,17 +2,17 @@
 use Rattle.std.proofs.Common.{◌≡◌, ℕ, zero, suc, ◌<◌, ◌≤◌, ◌⊎◌, inl, inr, List, [], ◌∷◌, length, slice_get, Option, None, Some, refl, sym, ap, ◌∙◌, subst, ⊎_elim, arith}
 use Rattle.std.proofs.lemmas.Bool.{cases_lt, cases_eq}
 use Rattle.std.proofs.lemmas.Option.{none-some}
-use Rattle.table_order.specs.Graph.{Depends}
+use Rattle.netlist_order.specs.Graph.{Depends}
 use Rattle.netlist_order.proofs.Cycles.{Decided, depends-decided}
-use Rattle.flattening.specs.declared.model.Model.{Model}
-use Rattle.flattening.specs.declared.model.Placement.{Placement}
-use Rattle.flattening.specs.declared.model.TheConstants.{DEEPEST}
-use Rattle.flattening.specs.Hierarchy.{items_of, placement_of, placements_in}
-use Rattle.model_hierarchy.specs.declared.place.PlacementAt.{PlacementAt}
-use Rattle.model_hierarchy.specs.Depth.{depth_of, IsTooDeep}
-use Rattle.model_hierarchy.specs.First.{Finds}
-use Rattle.model_hierarchy.specs.Order.{model_graph, IsRecursive}
-use Rattle.model_hierarchy.specs.Sums.{FindsPast, instances_with, IsPast, placements_of, signals_with}
+use Rattle.blif_flattening.specs.declared.model.Model.{Model}
+use Rattle.blif_flattening.specs.declared.model.Placement.{Placement}
+use Rattle.blif_flattening.specs.declared.model.TheConstants.{DEEPEST}
+use Rattle.blif_flattening.specs.Hierarchy.{items_of, placement_of, placements_in}
+use Rattle.blif_hierarchy.specs.declared.place.PlacementAt.{PlacementAt}
+use Rattle.blif_hierarchy.specs.Depth.{depth_of, IsTooDeep}
+use Rattle.blif_hierarchy.specs.First.{Finds}
+use Rattle.blif_hierarchy.specs.Order.{model_graph, IsRecursive}
+use Rattle.blif_hierarchy.specs.Sums.{FindsPast, instances_with, IsPast, placements_of, signals_with}
 use Rattle.blif_reader.proofs.Asking.{some-found}
 
 get-below : {X : Type 0} (xs : List X) (i : ℕ) (x : X) → slice_get xs i ≡ Some x → i < length xs

@@ -7,22 +7,22 @@ use Rattle.std.proofs.lemmas.List.Elements.{All-nil, All-cons, All-head, All-tai
 use Rattle.psl_base.specs.Places.{file_limit, place_at}
 use Rattle.psl_base.specs.Tokens.{PlacedToken}
 use Rattle.psl_base.specs.declared.place.Place.{Place}
-use Rattle.table_order.specs.Graph.{IsFirstOnCycle}
+use Rattle.netlist_order.specs.Graph.{IsFirstOnCycle}
 use Rattle.netlist.specs.declared.table.Table.{Table}
 use Rattle.netlist.specs.Design.{Design, free_of}
 use Rattle.netlist.specs.Sound.{AreApart, IsSound}
 use Rattle.netlist_order.specs.TableGraph.{table_graph}
-use Rattle.flattening.specs.Hierarchy.{flat_lines}
-use Rattle.flattening.specs.Numbers.{signals}
-use Rattle.model_hierarchy.specs.declared.place.PlacementAt.{PlacementAt}
-use Rattle.model_hierarchy.specs.Depth.{IsTooDeep}
-use Rattle.model_hierarchy.specs.First.{Finds, IsClosed}
-use Rattle.model_hierarchy.specs.Order.{IsRecursive}
-use Rattle.model_hierarchy.specs.Sums.{AreInForm, FindsPast}
-use Rattle.flat_netlist.specs.Flat.{Models, flat_design, flat_outputs, AreSound}
-use Rattle.flat_netlist.specs.Inputs.{design_in}
-use Rattle.flat_netlist.specs.Lines.{mentions_of}
-use Rattle.flat_netlist.specs.declared.flat.FlatNetlist.{FlatNetlist}
+use Rattle.blif_flattening.specs.Hierarchy.{flat_lines}
+use Rattle.blif_flattening.specs.Numbers.{signals}
+use Rattle.blif_hierarchy.specs.declared.place.PlacementAt.{PlacementAt}
+use Rattle.blif_hierarchy.specs.Depth.{IsTooDeep}
+use Rattle.blif_hierarchy.specs.First.{Finds, IsClosed}
+use Rattle.blif_hierarchy.specs.Order.{IsRecursive}
+use Rattle.blif_hierarchy.specs.Sums.{AreInForm, FindsPast}
+use Rattle.blif_flat.specs.Flat.{Models, flat_design, flat_outputs, AreSound}
+use Rattle.blif_flat.specs.Inputs.{design_in}
+use Rattle.blif_flat.specs.Lines.{mentions_of}
+use Rattle.blif_flat.specs.declared.flat.FlatNetlist.{FlatNetlist}
 use Rattle.blif_model.specs.declared.fault.BlifFault.TheVariants.{UnknownModel, BadConnection, ModelRecursion, TooDeep, DrivenBySubckt, Undriven, TooLarge, CombinationalCycle}
 use Rattle.blif_model.specs.declared.file.FileModel.{FileModel}
 use Rattle.blif_model.specs.declared.file.FileText.{FileText}
@@ -37,9 +37,9 @@ use Rattle.blif_model.proofs.Held.{models-few}
 use Rattle.blif_linking.specs.Linked.{IsHierarchy, linked, linked_model}
 use Rattle.blif_linking.specs.Names.{Parts, first_bad, first_driven, first_undriven, first_unknown}
 use Rattle.blif_linking.specs.declared.linking.LinkedModels.{LinkedModels}
-use Rattle.hierarchy_laws.specs.Plain.{IsPlain}
-use Rattle.hierarchy_laws.proofs.Bounds.{few-signals}
-use Rattle.hierarchy_laws.proofs.Hierarchies.{are-sound, flat-sound, names-are-plain, placements-closed, placements-formed, signals-few, tables-few}
+use Rattle.blif_laws.specs.Plain.{IsPlain}
+use Rattle.blif_laws.proofs.Bounds.{few-signals}
+use Rattle.blif_laws.proofs.Hierarchies.{are-sound, flat-sound, names-are-plain, placements-closed, placements-formed, signals-few, tables-few}
 use Rattle.blif_reader.specs.declared.kept.Kept.{Kept}
 use Rattle.blif_reader.specs.Faults.{FromBad, FromDeep, FromDriven, FromLarge, FromRecursion, FromUndriven, IsCycleFault, in_top, place_in, title_at, title_place, titles_in, titles_of}
 use Rattle.blif_reader.specs.Kept.{IsFlat, IsLinked, line_titles, model_titles, span_place, title_span}

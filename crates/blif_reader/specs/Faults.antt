@@ -5,15 +5,15 @@ use Rattle.std.specs.Option.{option_map}
 use Rattle.psl_base.specs.Places.{place_at}
 use Rattle.psl_base.specs.Tokens.{PlacedToken}
 use Rattle.psl_base.specs.declared.place.Place.{Place}
-use Rattle.table_order.specs.Graph.{IsFirstOnCycle}
+use Rattle.netlist_order.specs.Graph.{IsFirstOnCycle}
 use Rattle.netlist_order.specs.TableGraph.{table_graph}
-use Rattle.flattening.specs.Hierarchy.{flat_lines}
-use Rattle.model_hierarchy.specs.declared.place.PlacementAt.{PlacementAt}
-use Rattle.model_hierarchy.specs.Depth.{IsTooDeep}
-use Rattle.model_hierarchy.specs.First.{Finds}
-use Rattle.model_hierarchy.specs.Order.{IsRecursive}
-use Rattle.model_hierarchy.specs.Sums.{FindsPast}
-use Rattle.flat_netlist.specs.Flat.{flat_design, flat_outputs}
+use Rattle.blif_flattening.specs.Hierarchy.{flat_lines}
+use Rattle.blif_hierarchy.specs.declared.place.PlacementAt.{PlacementAt}
+use Rattle.blif_hierarchy.specs.Depth.{IsTooDeep}
+use Rattle.blif_hierarchy.specs.First.{Finds}
+use Rattle.blif_hierarchy.specs.Order.{IsRecursive}
+use Rattle.blif_hierarchy.specs.Sums.{FindsPast}
+use Rattle.blif_flat.specs.Flat.{flat_design, flat_outputs}
 use Rattle.blif_model.specs.declared.fault.BlifFault.{BlifFault}
 use Rattle.blif_model.specs.declared.fault.BlifFault.TheVariants.{UnknownModel, BadConnection, ModelRecursion, TooDeep, DrivenBySubckt, Undriven, TooLarge, CombinationalCycle}
 use Rattle.blif_model.specs.Files.{Part, Placing}

@@ -2,10 +2,10 @@
 use Rattle.std.specs.Prelude.{◌≡◌, ℕ, List, [], ◌∷◌, map, Option, None, Ok}
 use Rattle.std.specs.Option.{option_map}
 use Rattle.psl_base.specs.declared.place.Place.{Place}
-use Rattle.flattening.specs.Hierarchy.{flat_lines}
-use Rattle.flat_netlist.specs.Flat.{flat_design, flat_outputs, Models}
-use Rattle.flat_netlist.specs.Inputs.{design_in}
-use Rattle.flat_netlist.specs.declared.flat.FlatNetlist.{FlatNetlist}
+use Rattle.blif_flattening.specs.Hierarchy.{flat_lines}
+use Rattle.blif_flat.specs.Flat.{flat_design, flat_outputs, Models}
+use Rattle.blif_flat.specs.Inputs.{design_in}
+use Rattle.blif_flat.specs.declared.flat.FlatNetlist.{FlatNetlist}
 use Rattle.blif_model.specs.declared.file.FileModel.{FileModel}
 use Rattle.blif_model.specs.declared.file.PlacementLine.{PlacementLine}
 use Rattle.blif_model.specs.declared.pieces.Span.{Span}

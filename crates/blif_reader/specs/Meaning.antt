@@ -4,7 +4,7 @@ use Rattle.netlist.specs.Design.{Design}
 use Rattle.netlist_order.specs.TableGraph.{table_graph, IsAcyclic}
 use Rattle.blif_model.specs.declared.fault.BlifFault.{BlifFault}
 use Rattle.blif_model.specs.Files.{models_of}
-use Rattle.flat_netlist.specs.Flat.{Models, flat_design}
+use Rattle.blif_flat.specs.Flat.{Models, flat_design}
 use Rattle.blif_linking.specs.Linked.{IsHierarchy}
 use Rattle.blif_linking.specs.Names.{Parts}
 use Rattle.blif_reader.specs.Faults.{IsModelsFault}

@@ -2,16 +2,16 @@
 ghost use Rattle.std.specs.Prelude.{◌≡◌, ◌≤◌, Ok, length, All, IfOk, IfErr};
 ghost use Rattle.psl_base.specs.Places.{file_limit};
 ghost use Rattle.netlist.specs.Sound.{IsOrder, IsSound};
-ghost use Rattle.flat_netlist.specs.Inputs.{design_in};
-ghost use Rattle.hierarchy_laws.specs.Plain.{IsPlain};
+ghost use Rattle.blif_flat.specs.Inputs.{design_in};
+ghost use Rattle.blif_laws.specs.Plain.{IsPlain};
 ghost use Rattle.blif_model.specs.Rules.{signal_limit};
 ghost use Rattle.blif_reader.specs.Kept.{IsFlat};
 ghost use Rattle.blif_reader.specs.Meaning.{IsReading};
 ghost use Rattle.blif_reader.specs.Told.{IsReadFault};
 
 use crate::places::{number_at, place_at};
+use blif_flat::{FlatNetlist, FlatParts};
 use blif_model::BlifFault;
-use flat_netlist::{FlatNetlist, FlatParts};
 use netlist::{Netlist, Signals};
 use netlist_order::order_tables;
 use std::alloc::Global;

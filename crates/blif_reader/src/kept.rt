@@ -10,9 +10,9 @@ ghost use Rattle.blif_reader.specs.Faults.{title_place};
 ghost use Rattle.blif_reader.specs.Kept.{IsKept, line_titles, model_titles, title_span};
 
 use crate::places::{number_at, place_at};
+use blif_hierarchy::PlacementAt;
 use blif_linking::{Interface, first_driven, first_undriven};
 use blif_model::{FileModel, FileText, PlacementLine, Span};
-use model_hierarchy::PlacementAt;
 use psl_base::{Items, NoMemory, Numbers, Place};
 use std::alloc::Global;
 

@@ -1,7 +1,7 @@
 // From the models of a text to their flat netlist.
 ghost use Rattle.std.specs.Prelude.{◌≡◌, ◌≤◌, Ok, length, All, IfOk, IfErr};
 ghost use Rattle.psl_base.specs.Places.{file_limit};
-ghost use Rattle.hierarchy_laws.specs.Plain.{IsPlain};
+ghost use Rattle.blif_laws.specs.Plain.{IsPlain};
 ghost use Rattle.blif_model.specs.FileKnown.{FileSays, IsModelWithin};
 ghost use Rattle.blif_model.specs.Rules.{signal_limit};
 ghost use Rattle.blif_reader.specs.Kept.{IsLinked};
@@ -11,10 +11,10 @@ ghost use Rattle.blif_reader.specs.Told.{IsReadFault};
 use crate::flat::netlist_of;
 use crate::kept::Kept;
 use crate::places::place_at;
+use blif_flat::flat_netlist;
+use blif_hierarchy::{PlacementAt, first_recursive, first_too_deep, first_too_large};
 use blif_linking::{LinkedModels, first_bad, first_unknown, interfaces_of, link};
 use blif_model::{BlifFault, FileText};
-use flat_netlist::flat_netlist;
-use model_hierarchy::{PlacementAt, first_recursive, first_too_deep, first_too_large};
 use netlist::Netlist;
 use std::alloc::Global;
 

@@ -2,7 +2,7 @@ ghost use Rattle.std.specs.Prelude.{◌<◌, ◌≤◌, length, None, Ok, All, I
 ghost use Rattle.psl_base.specs.Places.{file_limit};
 ghost use Rattle.psl_base.specs.Shelf.{OnlyReads, IsLonger, Tells, HasTaken, ReadingFails, SelectsNoOther};
 ghost use Rattle.blif_model.specs.Rules.{signal_limit};
-ghost use Rattle.hierarchy_laws.specs.Plain.{IsPlain};
+ghost use Rattle.blif_laws.specs.Plain.{IsPlain};
 ghost use Rattle.blif_reader.specs.Meaning.{IsReading};
 ghost use Rattle.blif_reader.specs.Told.{Says, IsFirstFault, IsReadFault};
 

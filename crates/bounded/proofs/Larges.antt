@@ -3,14 +3,14 @@ use Rattle.std.proofs.Common.{◌≡◌, inl, inr, ℕ, suc, ◌+◌, ◌*◌, �
 use Rattle.std.proofs.lemmas.Nat.{div-mul-add}
 use Rattle.clauses.specs.declared.flat.TheConstants.{MOST_VARIABLES, MOST_WORDS}
 use Rattle.clauses.specs.Literals.{clause_words}
-use Rattle.circuit_theory.specs.Sizes.{IsTooLarge}
-use Rattle.circuit_theory.proofs.Sizes.{words-append}
+use Rattle.gates_theory.specs.Sizes.{IsTooLarge}
+use Rattle.gates_theory.proofs.Sizes.{words-append}
 use Rattle.netlist.specs.Design.{Design}
 use Rattle.netlist.specs.Sound as netlists
 use Rattle.alternating_theory.specs.Obligations.{Automaton}
 use Rattle.run_terms.specs.Automata.{IsSound, TestsSignals}
-use Rattle.search_theory.specs.Searches.{search_clauses, search_size, search_variables, search_width}
-use Rattle.search_theory.proofs.Ranges.{enough}
+use Rattle.bounded_theory.specs.Searches.{search_clauses, search_size, search_variables, search_width}
+use Rattle.bounded_theory.proofs.Ranges.{enough}
 
 -- a part of a formula
 pub front-large : (variables : ℕ) (front middle back : List (List ℤ)) → IsTooLarge variables front → IsTooLarge variables ((front ++ middle) ++ back)

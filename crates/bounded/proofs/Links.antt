@@ -3,13 +3,13 @@ use Rattle.std.proofs.Common.{◌≡◌, ℕ, suc, ◌+◌, ◌-◌, ◌*◌, �
 use Rattle.clauses.specs.declared.cnf.Cnf.{Cnf}
 use Rattle.clauses.specs.declared.flat.CnfFault.{CnfFault}
 use Rattle.clauses.specs.Literals.{clause_words}
-use Rattle.circuit_theory.specs.Distinct.{following}
-use Rattle.circuit_theory.specs.Unrolled.{equality, links, up_to}
-use Rattle.circuit_theory.proofs.Sizes.{words-append}
+use Rattle.gates_theory.specs.Distinct.{following}
+use Rattle.gates_theory.specs.Unrolled.{equality, links, up_to}
+use Rattle.gates_theory.proofs.Sizes.{words-append}
 use Rattle.gates.proofs.Words.{words-up}
 use Rattle.run_formulas.specs.Adding.{Adds}
 use Rattle.run_terms.specs.Positions.{position_width}
-use Rattle.search_theory.specs.Searches.{closing_clauses, debt_width, search_width, under}
+use Rattle.bounded_theory.specs.Searches.{closing_clauses, debt_width, search_width, under}
 
 following-first : (low count k : ℕ) → k < count → following (low + k) (count - k) ≡ pos (suc (low + k)) ∷ following (low + (k + 1)) (count - (k + 1))
 following-first low count k below =

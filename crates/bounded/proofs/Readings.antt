@@ -2,11 +2,11 @@
 use Rattle.std.proofs.Common.{◌≡◌, ℕ, zero, suc, ◌+◌, ◌*◌, ◌<◌, ◌≤◌, Bool, true, false, List, length, take, drop, get_or, refl, ap, ◌∙◌, arith, length-drop, length-take, get_or-drop, get_or-take}
 use Rattle.std.proofs.lemmas.List.FromFn.{fill_by_all}
 use Rattle.clauses.specs.Models.{is_true}
-use Rattle.circuit_theory.specs.Unrolled.{moved}
+use Rattle.gates_theory.specs.Unrolled.{moved}
 use Rattle.run_terms.specs.Formulas.{values_of}
 use Rattle.run_terms.specs.Positions.{current, position_width, valuation_of}
-use Rattle.search_theory.specs.Found.{first_passing}
-use Rattle.search_theory.specs.Searches.{begins}
+use Rattle.bounded_theory.specs.Found.{first_passing}
+use Rattle.bounded_theory.specs.Searches.{begins}
 
 -- the first place that passes a test, where none before it does
 pub first-here : (bound place : ℕ) (test : ℕ → Bool) → place < bound → ((k : ℕ) → k < place → test k ≡ false) → test place ≡ true → first_passing bound test ≡ place

@@ -4,12 +4,12 @@ use Rattle.std.specs.Prelude.{IsTrue}
 use Rattle.std.proofs.lemmas.Bool.{and_from}
 use Rattle.std.proofs.lemmas.List.Folds.{list_all-append}
 use Rattle.clauses.specs.Literals.{clause_within, is_within}
-use Rattle.circuit_theory.proofs.Literals.{within_from}
+use Rattle.gates_theory.proofs.Literals.{within_from}
 use Rattle.netlist.specs.Design.{Design}
 use Rattle.netlist.specs.Sound.{IsSound}
 use Rattle.run_terms.specs.Moves.{first_literals}
 use Rattle.run_terms.proofs.Netlists.{first-literals_within}
-use Rattle.search_theory.specs.Searches.{owed, search_width}
+use Rattle.bounded_theory.specs.Searches.{owed, search_width}
 
 pub start-within : (d : Design) (m width start : ℕ) → IsSound d → width ≡ search_width d.signals m → start < m
     → IsTrue (clause_within width (first_literals d.signals 0 d.latches ++ owed d.signals 0 start ∷ []))

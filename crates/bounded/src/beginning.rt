@@ -3,12 +3,12 @@ ghost use Rattle.std.specs.Prelude.{◌≡◌, ◌≤◌, ◌++◌, [], ◌∷�
 ghost use Rattle.clauses.specs.Literals.{clause_within};
 ghost use Rattle.run_formulas.specs.Adding.{Adds};
 ghost use Rattle.run_terms.specs.Moves.{first_literals as first_of};
-ghost use Rattle.search_theory.specs.Searches.{first_clauses, owed};
+ghost use Rattle.bounded_theory.specs.Searches.{first_clauses, owed};
 
 use crate::layout::Layout;
 use alternating::Alternating;
-use circuit_theory::Literals;
 use clauses::{Cnf, CnfFault};
+use gates_theory::Literals;
 use netlist::{Netlist, soundness_law};
 use psl_base::NoMemory;
 use run_formulas::add_units;

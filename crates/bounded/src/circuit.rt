@@ -2,17 +2,17 @@
 ghost use Rattle.std.specs.Prelude.{◌≡◌, ◌+◌, ◌<◌, ◌≤◌, length, None, IfErr, IfOk};
 ghost use Rattle.clauses.specs.declared.flat.CnfFault.{CnfFault};
 ghost use Rattle.clauses.specs.declared.flat.TheConstants.{MOST_VARIABLES};
-ghost use Rattle.circuit_theory.specs.Distinct.{following as following_of};
-ghost use Rattle.circuit_theory.specs.Relations.{circuit_of};
+ghost use Rattle.gates_theory.specs.Distinct.{following as following_of};
+ghost use Rattle.gates_theory.specs.Relations.{circuit_of};
 ghost use Rattle.run_gates.specs.Building.{BuildsAll};
 ghost use Rattle.run_terms.specs.Automata.{TestsSignals};
-ghost use Rattle.search_theory.specs.Searches.{search, search_size};
+ghost use Rattle.bounded_theory.specs.Searches.{search, search_size};
 
 use crate::layout::Layout;
 use crate::obligations::add_obligations;
 use alternating::Alternating;
-use circuit_theory::{Circuit, Gates, Literals};
 use clauses::CnfFault;
+use gates_theory::{Circuit, Gates, Literals};
 use netlist::{Netlist, soundness_law};
 use psl_base::NoMemory;
 use run_formulas::following;

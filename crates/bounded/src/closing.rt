@@ -1,8 +1,8 @@
 // The clauses that close the loop of a search.
 ghost use Rattle.std.specs.Prelude.{◌≡◌, ◌+◌, ◌*◌, ◌<◌, ◌≤◌, ◌^◌, suc, pos, ◌++◌};
-ghost use Rattle.circuit_theory.specs.Unrolled.{up_to};
+ghost use Rattle.gates_theory.specs.Unrolled.{up_to};
 ghost use Rattle.run_formulas.specs.Adding.{Adds};
-ghost use Rattle.search_theory.specs.Searches.{closing_clauses, last_clauses, loop_clauses, under};
+ghost use Rattle.bounded_theory.specs.Searches.{closing_clauses, last_clauses, loop_clauses, under};
 
 use crate::layout::Layout;
 use crate::linking::{Part, add_linked};

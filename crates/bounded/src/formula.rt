@@ -2,13 +2,13 @@
 ghost use Rattle.std.specs.Prelude.{◌≡◌, ◌↔◌, ◌*◌, ◌≤◌, suc, length, IfErr, IfOk};
 ghost use Rattle.clauses.specs.declared.flat.CnfFault.{CnfFault};
 ghost use Rattle.clauses.specs.Literals.{clause_words};
-ghost use Rattle.circuit_theory.specs.Sizes.{IsTooLarge};
+ghost use Rattle.gates_theory.specs.Sizes.{IsTooLarge};
 ghost use Rattle.psl_tree.specs.declared.counts.TheConstants.{MOST_OBLIGATIONS};
 ghost use Rattle.run_terms.specs.Automata.{TestsSignals};
 ghost use Rattle.run_terms.specs.Formulas.{HasModel};
 ghost use Rattle.run_terms.specs.Sizes.{formula_bulk as search_bulk};
-ghost use Rattle.search_theory.specs.Found.{SomeFound};
-ghost use Rattle.search_theory.specs.Searches.{search_clauses, search_variables};
+ghost use Rattle.bounded_theory.specs.Found.{SomeFound};
+ghost use Rattle.bounded_theory.specs.Searches.{search_clauses, search_variables};
 
 use crate::beginning::add_first;
 use crate::circuit::search_circuit;

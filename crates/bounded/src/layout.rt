@@ -4,8 +4,8 @@ ghost use Rattle.clauses.specs.declared.flat.CnfFault.{CnfFault};
 ghost use Rattle.clauses.specs.declared.flat.TheConstants.{MOST_VARIABLES};
 ghost use Rattle.clauses.specs.Literals.{is_literal};
 ghost use Rattle.run_terms.specs.Positions.{position_width};
-ghost use Rattle.search_theory.specs.Searches as spec;
-ghost use Rattle.search_theory.specs.Searches.{number_width as width_of_numbers, search_width as width_of_positions};
+ghost use Rattle.bounded_theory.specs.Searches as spec;
+ghost use Rattle.bounded_theory.specs.Searches.{number_width as width_of_numbers, search_width as width_of_positions};
 
 use clauses::{CnfFault, MOST_VARIABLES};
 

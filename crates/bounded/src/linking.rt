@@ -2,10 +2,10 @@
 ghost use Rattle.std.specs.Prelude.{◌≡◌, ◌+◌, ◌<◌, ◌≤◌, pos, neg_ℤ, [], ◌∷◌, IsTrue};
 ghost use Rattle.clauses.specs.declared.flat.TheConstants.{MOST_VARIABLES};
 ghost use Rattle.clauses.specs.Literals.{is_within};
-ghost use Rattle.circuit_theory.specs.Distinct.{following};
-ghost use Rattle.circuit_theory.specs.Unrolled.{equality, links};
+ghost use Rattle.gates_theory.specs.Distinct.{following};
+ghost use Rattle.gates_theory.specs.Unrolled.{equality, links};
 ghost use Rattle.run_formulas.specs.Adding.{Adds};
-ghost use Rattle.search_theory.specs.Searches.{under};
+ghost use Rattle.bounded_theory.specs.Searches.{under};
 
 use clauses::{Cnf, CnfFault};
 use run_formulas::add_clause;

@@ -3,7 +3,7 @@ ghost use Rattle.std.specs.Prelude.{◌≡◌, ◌<◌, ◌≤◌, length};
 ghost use Rattle.alternating_theory.specs.Atoms.{AtomsOfObligations, AtomsOfPositive};
 ghost use Rattle.alternating_theory.specs.Obligations.{obligation_at};
 ghost use Rattle.run_gates.specs.Building.{Builds, BuildsAll};
-ghost use Rattle.search_theory.specs.Searches.{obligation_term, obligation_terms};
+ghost use Rattle.bounded_theory.specs.Searches.{obligation_term, obligation_terms};
 
 use crate::layout::Layout;
 use crate::serving::Serving;

@@ -4,9 +4,9 @@ ghost use Rattle.clauses.specs.Models.{IsModel};
 ghost use Rattle.run_terms.specs.Automata.{IsSound, TestsSignals};
 ghost use Rattle.run_terms.specs.Formulas.{values_of};
 ghost use Rattle.run_terms.specs.Positions.{position_width, valuation_of};
-ghost use Rattle.search_theory.specs.Found as spec;
-ghost use Rattle.search_theory.specs.Found.{run_of, IsFound};
-ghost use Rattle.search_theory.specs.Searches.{search_clauses, search_variables};
+ghost use Rattle.bounded_theory.specs.Found as spec;
+ghost use Rattle.bounded_theory.specs.Found.{run_of, IsFound};
+ghost use Rattle.bounded_theory.specs.Searches.{search_clauses, search_variables};
 
 use crate::layout::search_width;
 use alternating::Alternating;

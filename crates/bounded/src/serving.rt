@@ -1,7 +1,7 @@
 // What serves an obligation at the next place.
 ghost use Rattle.std.specs.Prelude.{◌≡◌, ◌<◌, ◌≤◌, ◌+◌, length, IsTrue};
 ghost use Rattle.run_gates.specs.Building.{Builds};
-ghost use Rattle.search_theory.specs.Searches as spec;
+ghost use Rattle.bounded_theory.specs.Searches as spec;
 
 use crate::layout::Layout;
 use alternating::Alternating;
@@ -20,7 +20,7 @@ pub struct Serving<'a> {
 
 impl Owing for Serving<'_> {
     ghost use Rattle.std.specs.Prelude.{length};
-    ghost use Rattle.search_theory.specs.Searches.{served_term};
+    ghost use Rattle.bounded_theory.specs.Searches.{served_term};
 
     ghost count = { λ serving. length serving.violation.now.obligations };
 

@@ -10,8 +10,8 @@ use Rattle.clauses.specs.declared.cnf.Cnf.{Cnf}
 use Rattle.clauses.specs.Literals.{clause_within, clauses_within, clause_words}
 use Rattle.clauses.specs.Live.{Numbered, all_live}
 use Rattle.clause_store.specs.Stored.{place_words, stored_words}
-use Rattle.trail.specs.Literals.{signed}
-use Rattle.propagation.specs.State.{State}
+use Rattle.cdcl_trail.specs.Literals.{signed}
+use Rattle.cdcl_propagation.specs.State.{State}
 use Rattle.cdcl.specs.Solving.{signed_clauses}
 use Rattle.cdcl.specs.Loading.{nothing_yet, IsLoading, IsFalseAt, IsFalseOn, CanAdd, IsAdded}
 

@@ -10,12 +10,12 @@ use Rattle.clauses.specs.Live.{Numbered, clause_of}
 use Rattle.clauses.specs.Passing.{Passes}
 use Rattle.clauses.specs.Logs.{LogEntry, is_empty_lemma, clauses_after, EachLemma, LemmaPasses}
 use Rattle.clauses.specs.Logs.LogEntry.{Lemma, Forget}
-use Rattle.trail.specs.Literals.{opposite, signed}
-use Rattle.trail.specs.Renaming.{Renames}
-use Rattle.trail.proofs.Renaming.{passes-map, adds-map, signed-opposite, signed-apart}
-use Rattle.conflict_theory.specs.Trails.{Steps}
-use Rattle.conflict_theory.specs.Lemmas.{IsLearned}
-use Rattle.conflict_theory.proofs.Members.{contains-map, from_map, pairs-map, all_members}
+use Rattle.cdcl_trail.specs.Literals.{opposite, signed}
+use Rattle.cdcl_trail.specs.Renaming.{Renames}
+use Rattle.cdcl_trail.proofs.Renaming.{passes-map, adds-map, signed-opposite, signed-apart}
+use Rattle.cdcl_conflict_theory.specs.Trails.{Steps}
+use Rattle.cdcl_conflict_theory.specs.Lemmas.{IsLearned}
+use Rattle.cdcl_conflict_theory.proofs.Members.{contains-map, from_map, pairs-map, all_members}
 use Rattle.cdcl.specs.Evidence.{IsGoodLemma}
 use Rattle.cdcl.specs.Solving.{signed_clauses, IsLogged}
 

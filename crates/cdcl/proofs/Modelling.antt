@@ -12,10 +12,10 @@ use Rattle.clauses.specs.Models.{Assignment, is_true, meets}
 use Rattle.clauses.specs.Passing.{IsOpen}
 use Rattle.clauses.specs.Logs.{LogEntry, after_all, clauses_after}
 use Rattle.clauses.specs.Logs.LogEntry.{Lemma, Forget}
-use Rattle.trail.specs.Literals.{opposite, signed}
-use Rattle.trail.specs.Path.{Path, IsPath}
-use Rattle.propagation.specs.State.{State, IsSettled}
-use Rattle.conflict_theory.proofs.Members.{contains-map}
+use Rattle.cdcl_trail.specs.Literals.{opposite, signed}
+use Rattle.cdcl_trail.specs.Path.{Path, IsPath}
+use Rattle.cdcl_propagation.specs.State.{State, IsSettled}
+use Rattle.cdcl_conflict_theory.proofs.Members.{contains-map}
 use Rattle.cdcl.specs.Answers.{values_of, IsModelOf}
 use Rattle.cdcl.specs.Solving.{signed_clauses}
 use Rattle.cdcl.specs.Turns.{IsComplete, IsSolved, AreValues}

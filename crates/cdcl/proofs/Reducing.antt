@@ -11,8 +11,8 @@ use Rattle.clauses.specs.Logs.{LogEntry, is_number, log_words, lemmas, clauses_a
 use Rattle.clauses.specs.Logs.LogEntry.{Lemma, Forget}
 use Rattle.clauses.proofs.Lives.{after_all-push, each_lemma-push_drop}
 use Rattle.clause_store.specs.Stored.{place_words, live_clauses}
-use Rattle.trail.specs.Literals.{signed}
-use Rattle.propagation.specs.State.{State, IsSettled}
+use Rattle.cdcl_trail.specs.Literals.{signed}
+use Rattle.cdcl_propagation.specs.State.{State, IsSettled}
 use Rattle.cdcl.specs.Evidence.{IsGoodLemma, DropsLive, IsLiveLemma, IsHalfLive, live_lemmas}
 use Rattle.cdcl.specs.Solving.{signed_clauses, IsLogged, IsReady}
 use Rattle.cdcl.specs.Reducing.{IsNoReason, CanDrop, IsReduced}

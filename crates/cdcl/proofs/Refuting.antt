@@ -11,15 +11,15 @@ use Rattle.clauses.specs.Live.{Numbered, clause_of, all_live}
 use Rattle.clauses.specs.Passing.{Passes}
 use Rattle.clauses.specs.Logs.{is_lemma, is_empty_lemma, LemmaPasses}
 use Rattle.clauses.specs.Logs.LogEntry.{Lemma}
-use Rattle.trail.specs.Literals.{opposite, signed}
-use Rattle.trail.proofs.Renaming.{passes-map, signed-opposite, signed-apart}
-use Rattle.propagation.specs.State.{State, IsSettled}
-use Rattle.propagation.proofs.Joining.{live-more}
-use Rattle.conflict_theory.specs.Trails.{Steps, IsTrail, HasReason, IsFalseBelow, size_of, reason_at, literal_at}
-use Rattle.conflict_theory.specs.Closing.{IsCovered, IsNamed, IsStep, IsClosed}
-use Rattle.conflict_theory.specs.Lemmas.{IsRefuted}
-use Rattle.conflict_theory.proofs.Learning.{refuted}
-use Rattle.conflict_theory.proofs.Members.{all_members}
+use Rattle.cdcl_trail.specs.Literals.{opposite, signed}
+use Rattle.cdcl_trail.proofs.Renaming.{passes-map, signed-opposite, signed-apart}
+use Rattle.cdcl_propagation.specs.State.{State, IsSettled}
+use Rattle.cdcl_propagation.proofs.Joining.{live-more}
+use Rattle.cdcl_conflict_theory.specs.Trails.{Steps, IsTrail, HasReason, IsFalseBelow, size_of, reason_at, literal_at}
+use Rattle.cdcl_conflict_theory.specs.Closing.{IsCovered, IsNamed, IsStep, IsClosed}
+use Rattle.cdcl_conflict_theory.specs.Lemmas.{IsRefuted}
+use Rattle.cdcl_conflict_theory.proofs.Learning.{refuted}
+use Rattle.cdcl_conflict_theory.proofs.Members.{all_members}
 use Rattle.cdcl.specs.Evidence.{IsHalfLive}
 use Rattle.cdcl.specs.Answers.{IsRefutation}
 use Rattle.cdcl.specs.Solving.{signed_clauses}

@@ -3,14 +3,14 @@ use Rattle.std.proofs.Common.{◌≡◌, ◌≢◌, ℕ, ◌-◌, ◌<◌, ◌�
 use Rattle.std.specs.List.{All, AllPairs, Contains}
 use Rattle.std.proofs.lemmas.List.{get_or-take, length-take, take-take}
 use Rattle.std.proofs.lemmas.List.Elements.{All-cons, All-weaker, All-head}
-use Rattle.trail.specs.Literals.{opposite}
-use Rattle.trail.specs.Path.{Path, IsPath, start_of, undone, literals_to}
-use Rattle.propagation.specs.State.{State, IsSettled, CanLearn, CanWatch}
-use Rattle.conflict_theory.specs.Closing.{negation_at}
-use Rattle.conflict_theory.specs.Lemmas.{IsAsserting}
-use Rattle.conflict_theory.proofs.Literals.{opposite-injective, one_place}
-use Rattle.conflict_theory.proofs.Members.{pairs-head, contains-tail, contains-head}
-use Rattle.conflict_theory.proofs.Returning.{not_false_before, unit_after}
+use Rattle.cdcl_trail.specs.Literals.{opposite}
+use Rattle.cdcl_trail.specs.Path.{Path, IsPath, start_of, undone, literals_to}
+use Rattle.cdcl_propagation.specs.State.{State, IsSettled, CanLearn, CanWatch}
+use Rattle.cdcl_conflict_theory.specs.Closing.{negation_at}
+use Rattle.cdcl_conflict_theory.specs.Lemmas.{IsAsserting}
+use Rattle.cdcl_conflict_theory.proofs.Literals.{opposite-injective, one_place}
+use Rattle.cdcl_conflict_theory.proofs.Members.{pairs-head, contains-tail, contains-head}
+use Rattle.cdcl_conflict_theory.proofs.Returning.{not_false_before, unit_after}
 use Rattle.cdcl.specs.Turns.{steps_at, begin_of, CanAttach, IsLower, IsLevelOf}
 use Rattle.cdcl.proofs.Trails.{trail_of, begin_inside, begin_rising}
 

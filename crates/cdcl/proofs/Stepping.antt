@@ -14,11 +14,11 @@ use Rattle.clauses.specs.Logs.{LogEntry, is_entry, is_number, is_lemma, is_empty
 use Rattle.clauses.specs.Logs.LogEntry.{Lemma, Forget}
 use Rattle.clauses.proofs.Lives.{after_all-push, each_lemma-push}
 use Rattle.clause_store.specs.Stored.{place_words, stored_words}
-use Rattle.trail.specs.Literals.{opposite, signed}
-use Rattle.propagation.specs.State.{State, IsSettled}
-use Rattle.conflict_theory.specs.Trails.{Steps}
-use Rattle.conflict_theory.specs.Lemmas.{IsLearned, IsRefuted}
-use Rattle.conflict_theory.proofs.Members.{all_members}
+use Rattle.cdcl_trail.specs.Literals.{opposite, signed}
+use Rattle.cdcl_propagation.specs.State.{State, IsSettled}
+use Rattle.cdcl_conflict_theory.specs.Trails.{Steps}
+use Rattle.cdcl_conflict_theory.specs.Lemmas.{IsLearned, IsRefuted}
+use Rattle.cdcl_conflict_theory.proofs.Members.{all_members}
 use Rattle.cdcl.specs.Evidence.{IsGoodLemma, DropsLive, IsHalfLive, IsTidy, live_lemmas}
 use Rattle.clauses.specs.declared.cnf.Cnf.{Cnf}
 use Rattle.cdcl.specs.declared.solver.Solver.{Solver}

@@ -5,12 +5,12 @@ use Rattle.std.proofs.lemmas.Bool.{cases_lt, cases_order}
 use Rattle.std.proofs.lemmas.List.{get_or_default, get_or_past}
 use Rattle.std.proofs.lemmas.List.Elements.{All-weaker}
 use Rattle.clauses.specs.Live.{Numbered, clause_of}
-use Rattle.trail.specs.Literals.{opposite, variable}
-use Rattle.trail.specs.Path.{Path, IsPath, start_of}
-use Rattle.propagation.specs.State.{State, IsSettled, HasReason as HasReasonIn, IsConflict as IsConflictIn}
-use Rattle.conflict_theory.specs.Trails.{IsTrail, IsConflict, HasReason, HasEnded, KnowsPlaces, IsFalseBelow}
-use Rattle.conflict_theory.proofs.Literals.{opposite-opposite}
-use Rattle.conflict_theory.proofs.Lower.{front_at}
+use Rattle.cdcl_trail.specs.Literals.{opposite, variable}
+use Rattle.cdcl_trail.specs.Path.{Path, IsPath, start_of}
+use Rattle.cdcl_propagation.specs.State.{State, IsSettled, HasReason as HasReasonIn, IsConflict as IsConflictIn}
+use Rattle.cdcl_conflict_theory.specs.Trails.{IsTrail, IsConflict, HasReason, HasEnded, KnowsPlaces, IsFalseBelow}
+use Rattle.cdcl_conflict_theory.proofs.Literals.{opposite-opposite}
+use Rattle.cdcl_conflict_theory.proofs.Lower.{front_at}
 use Rattle.cdcl.specs.Turns.{steps_at, begin_of}
 
 -- where there is a level, it begins within the trail

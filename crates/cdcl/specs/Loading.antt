@@ -7,8 +7,8 @@ use Rattle.clauses.specs.declared.cnf.Cnf.{Cnf}
 use Rattle.clauses.specs.Live.{all_live}
 use Rattle.clauses.specs.Literals.{clause_words}
 use Rattle.clause_store.specs.Stored.{stored_words}
-use Rattle.trail.specs.Literals.{opposite, signed}
-use Rattle.propagation.specs.State.{State}
+use Rattle.cdcl_trail.specs.Literals.{opposite, signed}
+use Rattle.cdcl_propagation.specs.State.{State}
 use Rattle.cdcl.specs.Solving.{signed_clauses}
 
 -- no clause, and no literal is true

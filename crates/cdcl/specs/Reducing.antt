@@ -3,7 +3,7 @@ use Rattle.std.specs.Prelude.{◌≡◌, ◌≢◌, ℕ, ◌+◌, ◌*◌, ◌<�
 use Rattle.std.specs.List.{All}
 use Rattle.clauses.specs.Live.{clause_of}
 use Rattle.clauses.specs.Logs.{lemmas, log_words}
-use Rattle.trail.specs.Path.{Path}
+use Rattle.cdcl_trail.specs.Path.{Path}
 use Rattle.cdcl.specs.declared.solver.Solver.{Solver}
 use Rattle.cdcl.specs.Evidence.{live_lemmas}
 use Rattle.cdcl.specs.Solving.{IsReady}

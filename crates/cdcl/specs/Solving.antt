@@ -5,7 +5,7 @@ use Rattle.clauses.specs.Live.{Numbered}
 use Rattle.clauses.specs.Literals.{clause_words}
 use Rattle.clauses.specs.Logs.{LogEntry, lemmas, log_words, clauses_after, EachLemma}
 use Rattle.clause_store.specs.Stored.{stored_words}
-use Rattle.trail.specs.Literals.{signed}
+use Rattle.cdcl_trail.specs.Literals.{signed}
 use Rattle.cdcl.specs.declared.solver.Solver.{Solver}
 use Rattle.cdcl.specs.Evidence.{IsGoodLemma, DropsLive, IsHalfLive}
 

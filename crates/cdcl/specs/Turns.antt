@@ -4,11 +4,11 @@ use Rattle.std.specs.Prelude.{◌≤◌, ◌↔◌, Bool, true, false, List, len
 use Rattle.std.specs.List.{All, Contains}
 use Rattle.clause_store.specs.declared.region.TheConstants.{MOST_WORDS}
 use Rattle.clause_store.specs.Stored.{stored_words}
-use Rattle.trail.specs.Literals.{opposite}
-use Rattle.trail.specs.Path.{Path, start_of}
-use Rattle.propagation.specs.State.{State, IsSettled}
-use Rattle.conflict_theory.specs.Trails.{Steps}
-use Rattle.conflict_theory.specs.Lemmas.{IsAsserting}
+use Rattle.cdcl_trail.specs.Literals.{opposite}
+use Rattle.cdcl_trail.specs.Path.{Path, start_of}
+use Rattle.cdcl_propagation.specs.State.{State, IsSettled}
+use Rattle.cdcl_conflict_theory.specs.Trails.{Steps}
+use Rattle.cdcl_conflict_theory.specs.Lemmas.{IsAsserting}
 
 -- the place where the level above so many begins, or the end of the trail where there is no such level
 abbrev pub begin_of : Path → ℕ → ℕ

@@ -1,11 +1,11 @@
 // Going back to a lower level with a lemma.
 ghost use Rattle.std.specs.Prelude.{◌≡◌, ◌++◌, ◌∷◌, [], ◌<◌, List, ℕ, length, Some, OnOk};
-ghost use Rattle.trail.specs.Path.{undone, start_of};
+ghost use Rattle.cdcl_trail.specs.Path.{undone, start_of};
 ghost use Rattle.cdcl.specs.Turns.{CanAttach, IsLower, IsLevelOf};
 
 use crate::decide::Decider;
-use conflict_analysis::level_of;
-use propagation::Propagator;
+use cdcl_conflict::level_of;
+use cdcl_propagation::Propagator;
 use psl_base::NoMemory;
 
 /// Goes back to the level where a lemma asserts its first literal, adds the lemma, and makes that literal true. At a

@@ -5,7 +5,7 @@ ghost use Rattle.std.specs.List.{Contains};
 ghost use Rattle.clauses.specs.declared.flat.TheConstants.{MOST_VARIABLES};
 ghost use Rattle.cdcl.specs.Turns.{IsFree, IsComplete};
 
-use trail::Trail;
+use cdcl_trail::Trail;
 
 /// Whether a variable has a value.
 pub(crate) fn has_value(trail: &Trail, variable: u32) -> bool

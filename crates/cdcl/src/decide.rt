@@ -5,9 +5,9 @@ ghost use Rattle.cdcl.specs.Turns.{IsFree, IsComplete};
 
 use crate::choose::{free_variable, has_value};
 use crate::order::Order;
+use cdcl_trail::Trail;
 use psl_base::NoMemory;
 use std::alloc::Global;
-use trail::Trail;
 
 /// Which variable is decided next, and with which value.
 #[derive(Drop)]

@@ -3,7 +3,7 @@ ghost use Rattle.std.specs.Bool.{OnFalse};
 ghost use Rattle.std.specs.List.{All};
 ghost use Rattle.cdcl.specs.Reducing.{IsNoReason};
 
-use trail::Trail;
+use cdcl_trail::Trail;
 
 /// Whether a literal of the trail is true because of a clause, which is given with its number.
 pub(crate) fn is_reason(trail: &Trail, clause: &[u32], number: u32) -> bool

@@ -3,11 +3,11 @@ use crate::decide::Decider;
 use crate::restart::Restarts;
 use crate::spread::Spread;
 use crate::usage::{Candidate, Usage};
-use conflict_analysis::Lemma;
-use propagation::Propagator;
+use cdcl_conflict::Lemma;
+use cdcl_propagation::Propagator;
+use cdcl_trail::Trail;
 use psl_base::NoMemory;
 use std::alloc::Global;
-use trail::Trail;
 
 /// How many lemmas there are when the first are dropped.
 const FIRST_DROP: usize = 32;

@@ -5,16 +5,16 @@ ghost use Rattle.clauses.specs.declared.flat.TheConstants.{MOST_VARIABLES};
 ghost use Rattle.clauses.specs.declared.log.TheConstants.{MOST_LOG_WORDS};
 ghost use Rattle.clauses.specs.Logs.LogEntry.{Lemma as LemmaEntry};
 ghost use Rattle.clauses.specs.Logs.{log_words};
-ghost use Rattle.trail.specs.Literals.{signed as signed_of};
-ghost use Rattle.propagation.specs.State.{IsConflict};
-ghost use Rattle.conflict_theory.specs.Lemmas.{IsLearned, IsRefuted};
+ghost use Rattle.cdcl_trail.specs.Literals.{signed as signed_of};
+ghost use Rattle.cdcl_propagation.specs.State.{IsConflict};
+ghost use Rattle.cdcl_conflict_theory.specs.Lemmas.{IsLearned, IsRefuted};
 ghost use Rattle.cdcl.specs.Turns.{steps_at};
 
+use cdcl_conflict::{Analyzer, Lemma, TrailView};
+use cdcl_propagation::Propagator;
+use cdcl_trail::signed;
 use clauses::{Entry, Log};
-use conflict_analysis::{Analyzer, Lemma, TrailView};
-use propagation::Propagator;
 use psl_base::NoMemory;
-use trail::signed;
 
 /// The place where a level begins, or the end of the trail where there is no such level.
 fn begin_of(limits: &[u32], level: usize, end: usize) -> usize

@@ -3,14 +3,14 @@ ghost use Rattle.std.specs.Prelude.{◌≡◌, ◌≢◌, ◌*◌, ◌<◌, ◌�
 ghost use Rattle.std.specs.List.{All, Contains};
 ghost use Rattle.clauses.specs.declared.flat.TheConstants.{MOST_VARIABLES};
 ghost use Rattle.clauses.specs.Literals.{clause_within};
-ghost use Rattle.trail.specs.Literals.{signed as signed_of};
+ghost use Rattle.cdcl_trail.specs.Literals.{signed as signed_of};
 ghost use Rattle.cdcl.specs.Loading.{nothing_yet, IsLoaded, CanAdd, AddsUnlessFalse};
 
+use cdcl_propagation::Propagator;
+use cdcl_trail::{number_of, opposite};
 use clauses::Cnf;
-use propagation::Propagator;
 use psl_base::NoMemory;
 use std::alloc::Global;
-use trail::{number_of, opposite};
 
 /// Adds the clauses of a formula, up to the first that is false by clauses of one literal before it. It gives the place
 /// of that one, counted from 0.

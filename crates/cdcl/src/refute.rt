@@ -3,8 +3,8 @@ ghost use Rattle.std.specs.Prelude.{Some, IfOk};
 ghost use Rattle.cdcl.specs.Loading.{IsLoaded};
 ghost use Rattle.cdcl.specs.Answers.{IsRefutation};
 
+use cdcl_propagation::Propagator;
 use clauses::{Cnf, Entry, Log};
-use propagation::Propagator;
 use psl_base::NoMemory;
 use std::alloc::Global;
 

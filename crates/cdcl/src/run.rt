@@ -7,8 +7,8 @@ use crate::answer::{Answer, FULL_LOG_WORDS};
 use crate::load::load;
 use crate::refute::refute;
 use crate::solver::Solver;
+use cdcl_propagation::Propagator;
 use clauses::{Cnf, Log};
-use propagation::Propagator;
 use psl_base::NoMemory;
 use std::alloc::Global;
 

@@ -1,8 +1,8 @@
 // How many levels a lemma spans.
-use conflict_analysis::level_of;
+use cdcl_conflict::level_of;
+use cdcl_trail::Trail;
 use psl_base::NoMemory;
 use std::alloc::Global;
-use trail::Trail;
 
 /// Counts the levels of literals.
 #[derive(Drop)]

@@ -1,5 +1,5 @@
 // Which lemmas are of use.
-use propagation::Propagator;
+use cdcl_propagation::Propagator;
 use psl_base::NoMemory;
 use std::alloc::Global;
 

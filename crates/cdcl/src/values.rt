@@ -3,9 +3,9 @@ ghost use Rattle.std.specs.Prelude.{◌≡◌, ◌*◌, ◌≤◌, IfOk};
 ghost use Rattle.clauses.specs.declared.flat.TheConstants.{MOST_VARIABLES};
 ghost use Rattle.cdcl.specs.Turns.{AreValues};
 
+use cdcl_trail::Trail;
 use psl_base::{Bits, Items, NoMemory};
 use std::alloc::Global;
-use trail::Trail;
 
 /// The value of each variable: whether its literal is true.
 pub(crate) fn values(alloc: Global, trail: &Trail, variables: u32) -> Result<Bits, NoMemory>

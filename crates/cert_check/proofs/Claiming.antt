@@ -4,23 +4,23 @@ use Rattle.std.specs.Prelude.{◌==◌}
 use Rattle.std.specs.List.{All, find}
 use Rattle.std.proofs.lemmas.List.Elements.{All-head, All-tail}
 use Rattle.alternating_theory.specs.Obligations.{Automaton}
-use Rattle.certificate.specs.declared.answer.CertAnswer.{CertAnswer}
-use Rattle.certificate.specs.declared.header.Asked.{Asked}
-use Rattle.certificate.specs.declared.header.Header.{Header}
-use Rattle.certificate.specs.declared.header.Form.{Form}
-use Rattle.certificate.specs.declared.header.Form.TheVariants.{Windowed, Clausal}
-use Rattle.certificate.specs.Headers.{HasHeader}
-use Rattle.certificate.proofs.HeaderLines.{header_once}
-use Rattle.certificate.specs.Phases.{behind_form, behind_header}
-use Rattle.certificate.specs.Sections.{Queries}
-use Rattle.certificate.specs.Texts.{HasClauses, IsAnswer}
+use Rattle.cert_theory.specs.declared.answer.CertAnswer.{CertAnswer}
+use Rattle.cert_theory.specs.declared.header.Asked.{Asked}
+use Rattle.cert_theory.specs.declared.header.Header.{Header}
+use Rattle.cert_theory.specs.declared.header.Form.{Form}
+use Rattle.cert_theory.specs.declared.header.Form.TheVariants.{Windowed, Clausal}
+use Rattle.cert_theory.specs.Headers.{HasHeader}
+use Rattle.cert_theory.proofs.HeaderLines.{header_once}
+use Rattle.cert_theory.specs.Phases.{behind_form, behind_header}
+use Rattle.cert_theory.specs.Sections.{Queries}
+use Rattle.cert_theory.specs.Texts.{HasClauses, IsAnswer}
 use Rattle.cert_lines.specs.Readings.{IsAt}
 use Rattle.cert_lines.specs.declared.reading.Reading.{Reading}
 use Rattle.netlist.specs.Design.{Design}
 use Rattle.owed.specs.Owed.{plain_owed}
 use Rattle.owed.specs.Violations.{violation_of}
 use Rattle.psl_tree.specs.declared.directive.Directive.{Directive}
-use Rattle.work_limits.specs.Sized.{IsSized}
+use Rattle.owed.specs.Sized.{IsSized}
 use Rattle.cert_check.specs.Claims.{AnswersBehind, asked_of, directive_of, queries_by, queries_for, queries_of}
 use Rattle.cert_check.specs.Limits.{ClausesIn, FitsFrom, HasCause, IsFault, FitsLimits, IsFaultBehind, IsFaultFrom, IsFormulaFault, IsLargeFrom, IsLargeIn, IsSmallFrom}
 use Rattle.cert_check.specs.declared.fault.CertFault.{CertFault}

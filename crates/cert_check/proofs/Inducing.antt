@@ -2,15 +2,15 @@
 use Rattle.std.proofs.Common.{◌≡◌, ap, sym, subst, ℕ, ℤ, List, [], refl}
 use Rattle.clauses.specs.declared.cnf.Cnf.{Cnf}
 use Rattle.alternating_theory.specs.Obligations.{Automaton}
-use Rattle.certificate.specs.declared.answer.CertAnswer.{CertAnswer}
-use Rattle.certificate.specs.declared.answer.CertAnswer.TheVariants.{Refused}
-use Rattle.certificate.specs.declared.header.Asked.{Asked}
-use Rattle.certificate.specs.declared.header.Header.{Header}
-use Rattle.certificate.specs.declared.header.Section.{Section}
-use Rattle.certificate.specs.declared.header.Section.TheVariants.{Initial, Step, Bad}
-use Rattle.certificate.specs.Phases.Phase.{AtEnd, InClauses, InSection}
-use Rattle.certificate.specs.Sections.{Query}
-use Rattle.certificate.proofs.ClausesOnce.{one_clauses}
+use Rattle.cert_theory.specs.declared.answer.CertAnswer.{CertAnswer}
+use Rattle.cert_theory.specs.declared.answer.CertAnswer.TheVariants.{Refused}
+use Rattle.cert_theory.specs.declared.header.Asked.{Asked}
+use Rattle.cert_theory.specs.declared.header.Header.{Header}
+use Rattle.cert_theory.specs.declared.header.Section.{Section}
+use Rattle.cert_theory.specs.declared.header.Section.TheVariants.{Initial, Step, Bad}
+use Rattle.cert_theory.specs.Phases.Phase.{AtEnd, InClauses, InSection}
+use Rattle.cert_theory.specs.Sections.{Query}
+use Rattle.cert_theory.proofs.ClausesOnce.{one_clauses}
 use Rattle.cert_lines.specs.Clauses.{AreClauses, HasNoClauses, IsRefusedAmong}
 use Rattle.cert_lines.specs.Readings.{IsAt}
 use Rattle.cert_lines.specs.Sections.{IsRefusedIn, StandsBehind, query_of}

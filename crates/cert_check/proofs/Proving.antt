@@ -4,10 +4,10 @@ use Rattle.std.specs.Bool.{IsTrue}
 use Rattle.std.proofs.lemmas.Bool.{false≢true}
 use Rattle.alternating_theory.specs.Acceptance.{Accepts}
 use Rattle.alternating_theory.specs.Obligations.{Automaton}
-use Rattle.certificate.specs.declared.header.Asked.{Asked}
-use Rattle.certificate.specs.Shown.{IsClosed, IsInduced, IsRefuted, IsShown}
-use Rattle.certificate.specs.Texts.{IsPassed}
-use Rattle.certificate.proofs.Passed.{shown}
+use Rattle.cert_theory.specs.declared.header.Asked.{Asked}
+use Rattle.cert_theory.specs.Shown.{IsClosed, IsInduced, IsRefuted, IsShown}
+use Rattle.cert_theory.specs.Texts.{IsPassed}
+use Rattle.cert_theory.proofs.Passed.{shown}
 use Rattle.clauses.proofs.Soundness.{no_model}
 use Rattle.clauses.specs.Literals.{clauses_within}
 use Rattle.joint_theory.specs.Bits.{joint_width}

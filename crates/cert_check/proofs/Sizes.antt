@@ -5,10 +5,10 @@ use Rattle.clauses.specs.declared.cnf.Cnf.{Cnf}
 use Rattle.clauses.specs.declared.flat.CnfFault.{CnfFault}
 use Rattle.clauses.specs.declared.flat.CnfFault.TheVariants as formulas
 use Rattle.clauses.specs.declared.flat.TheConstants.{MOST_VARIABLES, MOST_WORDS}
-use Rattle.circuit_theory.specs.Sizes.{IsTooLarge}
+use Rattle.gates_theory.specs.Sizes.{IsTooLarge}
 use Rattle.alternating_theory.specs.Obligations.{Automaton}
-use Rattle.certificate.specs.declared.header.Header.{Header}
-use Rattle.certificate.specs.Sections.{Query}
+use Rattle.cert_theory.specs.declared.header.Header.{Header}
+use Rattle.cert_theory.specs.Sections.{Query}
 use Rattle.cert_lines.specs.Sections.{query_of}
 use Rattle.joint.specs.Joined.{Joined}
 use Rattle.joint_theory.specs.Queries.{base, base_variables, induction, induction_variables, joint_size, query, query_variables}

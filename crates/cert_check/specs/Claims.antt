@@ -2,12 +2,12 @@
 use Rattle.std.specs.Prelude.{◌≡◌, ℕ, ℤ, ◌==◌, Bool as Truth, true, false, List, [], Option, None, Some}
 use Rattle.std.specs.List.{find}
 use Rattle.alternating_theory.specs.Obligations.{Automaton}
-use Rattle.certificate.specs.declared.answer.CertAnswer.{CertAnswer}
-use Rattle.certificate.specs.declared.header.Asked.{Asked}
-use Rattle.certificate.specs.declared.header.Header.{Header}
-use Rattle.certificate.specs.Phases.{Phase, behind_header}
-use Rattle.certificate.specs.Sections.{Queries, Query}
-use Rattle.certificate.specs.Texts.{IsAnswer}
+use Rattle.cert_theory.specs.declared.answer.CertAnswer.{CertAnswer}
+use Rattle.cert_theory.specs.declared.header.Asked.{Asked}
+use Rattle.cert_theory.specs.declared.header.Header.{Header}
+use Rattle.cert_theory.specs.Phases.{Phase, behind_header}
+use Rattle.cert_theory.specs.Sections.{Queries, Query}
+use Rattle.cert_theory.specs.Texts.{IsAnswer}
 use Rattle.cert_lines.specs.Readings.{IsAt}
 use Rattle.cert_lines.specs.declared.reading.Reading.{Reading}
 use Rattle.joint_theory.specs.Bits.{joint_width}

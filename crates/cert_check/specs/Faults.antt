@@ -1,8 +1,8 @@
 -- Which fault of a limit or of a formula is which fault of checking a certificate.
 use Rattle.clauses.specs.declared.flat.CnfFault.{CnfFault}
 use Rattle.clauses.specs.declared.flat.CnfFault.TheVariants as formulas
-use Rattle.work_limits.specs.declared.sizes.LimitFault.{LimitFault}
-use Rattle.work_limits.specs.declared.sizes.LimitFault.TheVariants as limits
+use Rattle.owed.specs.declared.limits.LimitFault.{LimitFault}
+use Rattle.owed.specs.declared.limits.LimitFault.TheVariants as limits
 use Rattle.cert_check.specs.declared.fault.CertFault.{CertFault}
 use Rattle.cert_check.specs.declared.fault.CertFault.TheVariants.{SereTooLarge, AutomatonTooLarge, UnrollTooLarge, FormulaTooLarge, NoMemory}
 

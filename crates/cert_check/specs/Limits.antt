@@ -1,25 +1,25 @@
 -- Within which limits certificates are checked.
 use Rattle.std.specs.Prelude.{◌≡◌, ◌⊎◌, ◌<◌, ℕ, ℤ, List, [], Some, true, false}
 use Rattle.alternating_theory.specs.Obligations.{Automaton}
-use Rattle.certificate.specs.declared.header.Header.{Header}
-use Rattle.certificate.specs.Headers.{HasHeader}
-use Rattle.certificate.specs.Phases.{behind_header}
-use Rattle.certificate.specs.Phases.Phase.{InClauses}
-use Rattle.certificate.specs.Texts.{HasClauses}
-use Rattle.certificate.specs.declared.header.Asked.{Asked}
-use Rattle.certificate.specs.declared.header.Form.{Form}
-use Rattle.certificate.specs.declared.header.Form.TheVariants.{Windowed, Clausal}
+use Rattle.cert_theory.specs.declared.header.Header.{Header}
+use Rattle.cert_theory.specs.Headers.{HasHeader}
+use Rattle.cert_theory.specs.Phases.{behind_header}
+use Rattle.cert_theory.specs.Phases.Phase.{InClauses}
+use Rattle.cert_theory.specs.Texts.{HasClauses}
+use Rattle.cert_theory.specs.declared.header.Asked.{Asked}
+use Rattle.cert_theory.specs.declared.header.Form.{Form}
+use Rattle.cert_theory.specs.declared.header.Form.TheVariants.{Windowed, Clausal}
 use Rattle.cert_lines.specs.Readings.{IsAt}
 use Rattle.cert_lines.specs.declared.reading.Reading.{Reading}
 use Rattle.clauses.specs.declared.flat.TheConstants.{MOST_VARIABLES}
-use Rattle.circuit_theory.specs.Sizes.{IsTooLarge}
+use Rattle.gates_theory.specs.Sizes.{IsTooLarge}
 use Rattle.joint_theory.specs.Queries.{joint_size, query, query_variables}
 use Rattle.netlist.specs.Design.{Design}
 use Rattle.owed.specs.Owed.{plain_owed}
 use Rattle.owed.specs.Violations.{violation_of}
 use Rattle.psl_tree.specs.declared.directive.Directive.{Directive}
-use Rattle.work_limits.specs.Sized.{IsRefused, IsSized}
-use Rattle.work_limits.specs.declared.sizes.LimitFault.TheVariants as limits
+use Rattle.owed.specs.Sized.{IsRefused, IsSized}
+use Rattle.owed.specs.declared.limits.LimitFault.TheVariants as limits
 use Rattle.cert_check.specs.Claims.{asked_of, bad_query, directive_of, initial_query, queries_for, queries_of, step_query}
 use Rattle.cert_check.specs.declared.fault.CertFault.{CertFault}
 use Rattle.cert_check.specs.declared.fault.CertFault.TheVariants.{SereTooLarge, AutomatonTooLarge, UnrollTooLarge, FormulaTooLarge, NoMemory}

@@ -1,9 +1,9 @@
 // A certificate, from its first byte to its last.
 ghost use Rattle.std.specs.Prelude.{◌≡◌, ◌≤◌, Ok, Some, length, All, IfOk, IfErr, OnOk};
-ghost use Rattle.certificate.specs.declared.answer.CertAnswer.{CertAnswer};
-ghost use Rattle.certificate.specs.declared.header.Header.{Header};
-ghost use Rattle.certificate.specs.Headers.{HasHeader};
-ghost use Rattle.certificate.specs.Texts.{IsAnswer};
+ghost use Rattle.cert_theory.specs.declared.answer.CertAnswer.{CertAnswer};
+ghost use Rattle.cert_theory.specs.declared.header.Header.{Header};
+ghost use Rattle.cert_theory.specs.Headers.{HasHeader};
+ghost use Rattle.cert_theory.specs.Texts.{IsAnswer};
 ghost use Rattle.owed.specs.Violations.{violation_of};
 ghost use Rattle.psl_base.specs.Places.{file_limit};
 ghost use Rattle.psl_tree.specs.Atoms.{AtomsOfFormula};
@@ -19,13 +19,12 @@ use crate::claim::{Claim, asked_of, directive_of};
 use crate::lines::check_lines;
 use crate::soundness::claim_holds;
 use cert_lines::{Reading, read_header};
-use certificate::{CertAnswer, Header};
+use cert_theory::{CertAnswer, Header};
 use netlist::Netlist;
-use owed::{assumed_size, violation};
+use owed::{assumed_size, check_sizes, violation};
 use psl_tree::Unit;
 use run_gates::automaton_law;
 use std::alloc::Global;
-use work_limits::check_sizes;
 
 /// Whether a text is a certificate that each run of a netlist satisfies what is owed of the assertion of a number: the
 /// numbers of a text's directives count from 1. No line is refused, or the first one that is counts, with its number from

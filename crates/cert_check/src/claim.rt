@@ -3,7 +3,7 @@ ghost use Rattle.std.specs.Prelude.{◌≡◌};
 ghost use Rattle.std.specs.Option.{option_copied};
 ghost use Rattle.cert_check.specs.Claims as spec;
 
-use certificate::Asked;
+use cert_theory::Asked;
 use netlist::Netlist;
 use owed::is_assertion;
 use psl_tree::{Directive, Unit};

@@ -1,7 +1,7 @@
 // The clauses of a certificate and the lines of their three sections, against their formulas.
 ghost use Rattle.std.specs.Prelude.{◌≡◌, ◌≤◌, [], None, IfOk, IfErr, IfSome, OnOk, IsTrue};
-ghost use Rattle.certificate.specs.Phases.Phase.{InClauses, InSection};
-ghost use Rattle.certificate.specs.declared.header.Section.TheVariants as sections;
+ghost use Rattle.cert_theory.specs.Phases.Phase.{InClauses, InSection};
+ghost use Rattle.cert_theory.specs.declared.header.Section.TheVariants as sections;
 ghost use Rattle.clauses.specs.Literals.{clauses_within};
 ghost use Rattle.joint_theory.specs.Bits.{joint_width};
 ghost use Rattle.run_terms.specs.Automata.{TestsSignals};
@@ -14,7 +14,7 @@ use crate::CertFault;
 use crate::formulas::formula_is_small;
 use alternating::Alternating;
 use cert_lines::{Reading, Refusal, check_section, read_clauses};
-use certificate::{CertAnswer, Header, Section};
+use cert_theory::{CertAnswer, Header, Section};
 use clauses::Clauses;
 use joint::{Joint, joint};
 use netlist::Netlist;

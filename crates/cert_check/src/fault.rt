@@ -1,7 +1,7 @@
 use clauses::CnfFault;
+use owed::LimitFault;
 use psl_base::NoMemory;
 use thiserror::Error;
-use work_limits::LimitFault;
 
 /// Why a certificate is not checked.
 #[derive(Clone, Copy, Debug, PartialEq, Eq, Drop, Error)]

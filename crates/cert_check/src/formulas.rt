@@ -1,17 +1,17 @@
 // The lines of both sections of a certificate of a window, against their formulas.
 ghost use Rattle.std.specs.Prelude.{◌≤◌, [], IfOk, IfErr, OnOk};
-ghost use Rattle.certificate.specs.declared.header.Section.TheVariants as sections;
+ghost use Rattle.cert_theory.specs.declared.header.Section.TheVariants as sections;
 ghost use Rattle.clauses.specs.Literals.{clause_words};
 ghost use Rattle.clauses.specs.declared.flat.TheConstants.{MOST_WORDS};
 ghost use Rattle.run_terms.specs.Automata.{TestsSignals};
-ghost use Rattle.certificate.specs.Phases.Phase.{InSection};
+ghost use Rattle.cert_theory.specs.Phases.Phase.{InSection};
 ghost use Rattle.cert_check.specs.Claims.{AnswersAt};
 ghost use Rattle.cert_check.specs.Limits.{AreTooLarge, IsFormulaFault};
 
 use crate::CertFault;
 use alternating::Alternating;
 use cert_lines::{Reading, check_section};
-use certificate::{CertAnswer, Header, Section};
+use cert_theory::{CertAnswer, Header, Section};
 use clauses::Cnf;
 use joint::joint;
 use netlist::Netlist;

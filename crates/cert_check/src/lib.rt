@@ -10,6 +10,6 @@ mod formulas;
 mod lines;
 mod soundness;
 
-pub use certificate::{CertAnswer, CertReason};
+pub use cert_theory::{CertAnswer, CertReason};
 pub use checking::check_cert;
 pub use fault::CertFault;

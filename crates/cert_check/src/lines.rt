@@ -9,7 +9,7 @@ use crate::clausal::check_clausal;
 use crate::formulas::check_windowed;
 use alternating::Alternating;
 use cert_lines::Reading;
-use certificate::{CertAnswer, Form, Header};
+use cert_theory::{CertAnswer, Form, Header};
 use netlist::Netlist;
 use std::alloc::Global;
 

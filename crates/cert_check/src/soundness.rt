@@ -1,6 +1,6 @@
 // What holds of what is claimed.
-ghost use Rattle.certificate.specs.Shown.{IsShown};
-ghost use Rattle.certificate.specs.declared.header.Asked.{Asked};
+ghost use Rattle.cert_theory.specs.Shown.{IsShown};
+ghost use Rattle.cert_theory.specs.declared.header.Asked.{Asked};
 ghost use Rattle.owed.specs.Violations.{violation_of};
 ghost use Rattle.run_terms.specs.Automata.{IsSound, TestsSignals};
 ghost use Rattle.cert_check.specs.Claims.{EachSatisfies, queries_for};

@@ -5,7 +5,7 @@ use Rattle.clause_log.specs.declared.step.Step.{Step}
 use Rattle.clause_log.specs.declared.step.Step.TheVariants.{Passes, Fails, TooManyLive, BadDrop}
 use Rattle.clauses.specs.Logs.{LogEntry, is_empty_lemma}
 use Rattle.clauses.specs.Logs.LogEntry.{Lemma, Forget}
-use Rattle.certificate.specs.Sections.{IsEntryLine, Query, has_empty}
+use Rattle.cert_theory.specs.Sections.{IsEntryLine, Query, has_empty}
 use Rattle.cert_lines.specs.declared.entries.SectionChecker.{SectionChecker}
 use Rattle.cert_lines.specs.Sections.{Becomes, Holds, HoldsLive, step_of}
 use Rattle.cert_lines.proofs.Holding.{ends_push, held_is, holds_drop, holds_lemma, is_live_lemma, names_live, passes_behind, passes_now}

@@ -3,23 +3,23 @@ use Rattle.std.proofs.Common.{◌≡◌, inl, inr, ◌∙◌, ap, sym, subst, �
 use Rattle.std.specs.Bool.{IsTrue}
 use Rattle.std.specs.List.{list_all}
 use Rattle.std.proofs.lemmas.Bool.{and_parts, true≢false}
-use Rattle.log_lines.specs.Lines.{lacks}
-use Rattle.certificate.specs.declared.answer.CertReason.{CertReason}
-use Rattle.certificate.specs.declared.header.Asked.{Asked}
-use Rattle.certificate.specs.declared.header.Header.{Header}
-use Rattle.certificate.specs.declared.header.Form.{Form}
-use Rattle.certificate.specs.declared.header.Form.TheVariants.{Windowed, Clausal}
-use Rattle.certificate.specs.declared.header.Section.{Section}
-use Rattle.certificate.specs.declared.header.Section.TheVariants.{Base, Induction, Initial, Step, Bad}
-use Rattle.certificate.specs.Headers.{HasHeader}
-use Rattle.certificate.specs.Lines.{header_lines, lines_text}
-use Rattle.certificate.specs.Phases.{Phase, Follows, IsRefusedLine, behind_form, behind_header, behind_section}
-use Rattle.certificate.specs.Phases.Phase.{AtVersion, AtAssertion, AtVisits, AtWindow, AtLive, AtLast, InClauses, InSection, AtEnd}
-use Rattle.certificate.specs.Sections.{Queries}
-use Rattle.certificate.specs.Texts.{FollowAll, HasClauses}
-use Rattle.certificate.proofs.HeaderLines.{header_reaches}
-use Rattle.certificate.proofs.Once.{follows_once, follows_refused}
-use Rattle.certificate.proofs.OneAnswer.{feed_in, first_line, same_line}
+use Rattle.clause_text.specs.Lines.{lacks}
+use Rattle.cert_theory.specs.declared.answer.CertReason.{CertReason}
+use Rattle.cert_theory.specs.declared.header.Asked.{Asked}
+use Rattle.cert_theory.specs.declared.header.Header.{Header}
+use Rattle.cert_theory.specs.declared.header.Form.{Form}
+use Rattle.cert_theory.specs.declared.header.Form.TheVariants.{Windowed, Clausal}
+use Rattle.cert_theory.specs.declared.header.Section.{Section}
+use Rattle.cert_theory.specs.declared.header.Section.TheVariants.{Base, Induction, Initial, Step, Bad}
+use Rattle.cert_theory.specs.Headers.{HasHeader}
+use Rattle.cert_theory.specs.Lines.{header_lines, lines_text}
+use Rattle.cert_theory.specs.Phases.{Phase, Follows, IsRefusedLine, behind_form, behind_header, behind_section}
+use Rattle.cert_theory.specs.Phases.Phase.{AtVersion, AtAssertion, AtVisits, AtWindow, AtLive, AtLast, InClauses, InSection, AtEnd}
+use Rattle.cert_theory.specs.Sections.{Queries}
+use Rattle.cert_theory.specs.Texts.{FollowAll, HasClauses}
+use Rattle.cert_theory.proofs.HeaderLines.{header_reaches}
+use Rattle.cert_theory.proofs.Once.{follows_once, follows_refused}
+use Rattle.cert_theory.proofs.OneAnswer.{feed_in, first_line, same_line}
 use Rattle.cert_lines.specs.declared.reading.Reading.{Reading}
 use Rattle.cert_lines.specs.declared.reading.Refusal.{Refusal}
 use Rattle.cert_lines.specs.Readings.{IsAt, IsRefusedBy}

@@ -7,15 +7,15 @@ use Rattle.std.proofs.lemmas.List.Sums.{sum_by_push}
 use Rattle.psl_base.specs.Places.{file_limit}
 use Rattle.clauses.specs.Literals.{clause_within, clause_words, clauses_within, words_with}
 use Rattle.clauses.specs.declared.flat.TheConstants.{MOST_WORDS}
-use Rattle.certificate.specs.declared.answer.CertReason.{CertReason}
-use Rattle.certificate.specs.declared.answer.CertReason.TheVariants.{BadHeader, BadLine, WrongAssertion, LemmaFails, NoEmptyClause, EndsInside, TrailingBytes, TooManyLive, BadDrop, BadClause}
-use Rattle.certificate.specs.declared.header.Asked.{Asked}
-use Rattle.certificate.specs.declared.header.Header.{Header}
-use Rattle.certificate.specs.declared.header.Section.TheVariants.{Initial}
-use Rattle.certificate.specs.Lines.{IsClauseLine}
-use Rattle.certificate.specs.Phases.{IsClauseRefused, IsRefusedLine, NamesBits}
-use Rattle.certificate.specs.Phases.Phase.{InClauses, InSection}
-use Rattle.certificate.specs.Sections.{Queries}
+use Rattle.cert_theory.specs.declared.answer.CertReason.{CertReason}
+use Rattle.cert_theory.specs.declared.answer.CertReason.TheVariants.{BadHeader, BadLine, WrongAssertion, LemmaFails, NoEmptyClause, EndsInside, TrailingBytes, TooManyLive, BadDrop, BadClause}
+use Rattle.cert_theory.specs.declared.header.Asked.{Asked}
+use Rattle.cert_theory.specs.declared.header.Header.{Header}
+use Rattle.cert_theory.specs.declared.header.Section.TheVariants.{Initial}
+use Rattle.cert_theory.specs.Lines.{IsClauseLine}
+use Rattle.cert_theory.specs.Phases.{IsClauseRefused, IsRefusedLine, NamesBits}
+use Rattle.cert_theory.specs.Phases.Phase.{InClauses, InSection}
+use Rattle.cert_theory.specs.Sections.{Queries}
 use Rattle.cert_lines.specs.declared.entries.LineStep.TheVariants as steps
 use Rattle.cert_lines.specs.declared.reading.Reading.{Reading}
 use Rattle.cert_lines.specs.declared.reading.Refusal.{Refusal}

@@ -1,21 +1,21 @@
 -- A header, line by line.
 use Rattle.std.proofs.Common.{◌≡◌, inl, inr, ◌∙◌, ap, sym, subst, ℕ, true, false, List, [], ◌∷◌, ◌++◌, arith, refl, append_assoc}
 use Rattle.clauses.specs.declared.flat.TheConstants.{MOST_VARIABLES}
-use Rattle.certificate.specs.declared.answer.CertReason.{CertReason}
-use Rattle.certificate.specs.declared.answer.CertReason.TheVariants.{BadHeader}
-use Rattle.certificate.specs.declared.header.Asked.{Asked}
-use Rattle.certificate.specs.declared.header.Field.{Field}
-use Rattle.certificate.specs.declared.header.Field.TheVariants.{Assertion, Visits, Window, Live}
-use Rattle.certificate.specs.declared.header.Header.{Header}
-use Rattle.certificate.specs.declared.header.Form.{Form}
-use Rattle.certificate.specs.declared.header.Form.TheVariants.{Windowed, Clausal}
-use Rattle.certificate.specs.declared.header.Version.TheVariants.{One, Two}
-use Rattle.certificate.specs.Headers.{HasHeader, MayBe}
-use Rattle.certificate.specs.Lines.{field_line, form_line, last_line, lines_text, live_lines, window_lines}
-use Rattle.certificate.specs.Phases.{Phase, IsMisshapen, IsRefusedLine, behind_header, behind_visits, behind_window}
-use Rattle.certificate.specs.Phases.Phase.{AtVersion, AtAssertion, AtVisits, AtWindow, AtLive, AtLast}
-use Rattle.certificate.specs.Sections.{Queries}
-use Rattle.certificate.specs.Texts.{is_end}
+use Rattle.cert_theory.specs.declared.answer.CertReason.{CertReason}
+use Rattle.cert_theory.specs.declared.answer.CertReason.TheVariants.{BadHeader}
+use Rattle.cert_theory.specs.declared.header.Asked.{Asked}
+use Rattle.cert_theory.specs.declared.header.Field.{Field}
+use Rattle.cert_theory.specs.declared.header.Field.TheVariants.{Assertion, Visits, Window, Live}
+use Rattle.cert_theory.specs.declared.header.Header.{Header}
+use Rattle.cert_theory.specs.declared.header.Form.{Form}
+use Rattle.cert_theory.specs.declared.header.Form.TheVariants.{Windowed, Clausal}
+use Rattle.cert_theory.specs.declared.header.Version.TheVariants.{One, Two}
+use Rattle.cert_theory.specs.Headers.{HasHeader, MayBe}
+use Rattle.cert_theory.specs.Lines.{field_line, form_line, last_line, lines_text, live_lines, window_lines}
+use Rattle.cert_theory.specs.Phases.{Phase, IsMisshapen, IsRefusedLine, behind_header, behind_visits, behind_window}
+use Rattle.cert_theory.specs.Phases.Phase.{AtVersion, AtAssertion, AtVisits, AtWindow, AtLive, AtLast}
+use Rattle.cert_theory.specs.Sections.{Queries}
+use Rattle.cert_theory.specs.Texts.{is_end}
 use Rattle.cert_lines.specs.declared.reading.Reading.{Reading}
 use Rattle.cert_lines.specs.declared.reading.Refusal.{Refusal}
 use Rattle.cert_lines.specs.Fields.{GivesForm, GivesLive, GivesNumber, GivesWindow, IsAskedFor, IsNoAsked, IsNoForm, IsNoLast, IsNoLive, IsNoNumber, IsNoWindow}

@@ -20,12 +20,12 @@ use Rattle.clauses.specs.Logs.{LogEntry, clauses_after, entry_words, is_empty_le
 use Rattle.clauses.specs.Logs.LogEntry.{Lemma, Forget}
 use Rattle.clauses.specs.Passing as passing
 use Rattle.clauses.specs.declared.flat.TheConstants.{MOST_VARIABLES}
-use Rattle.log_lines.specs.Lines.{entry_text, hints_text, literals_text}
-use Rattle.log_lines.proofs.Numerals.{number_parts}
-use Rattle.certificate.specs.declared.header.Form.{Form}
-use Rattle.certificate.specs.Sections.{IsEntryLine, NamesLive, PassesBehind, Query, has_empty, live_lemmas}
-use Rattle.certificate.proofs.Entries.{entry_is}
-use Rattle.certificate.proofs.Passed.{empty_push}
+use Rattle.clause_text.specs.Lines.{entry_text, hints_text, literals_text}
+use Rattle.clause_text.proofs.Numerals.{number_parts}
+use Rattle.cert_theory.specs.declared.header.Form.{Form}
+use Rattle.cert_theory.specs.Sections.{IsEntryLine, NamesLive, PassesBehind, Query, has_empty, live_lemmas}
+use Rattle.cert_theory.proofs.Entries.{entry_is}
+use Rattle.cert_theory.proofs.Passed.{empty_push}
 use Rattle.cert_lines.specs.Sections.{HoldsLive, bytes_of}
 
 -- the empty lemma does not stand among entries

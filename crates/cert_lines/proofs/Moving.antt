@@ -5,15 +5,15 @@ use Rattle.std.specs.List.{list_all}
 use Rattle.std.proofs.lemmas.Bool.{and_from}
 use Rattle.std.proofs.lemmas.List.{length_push}
 use Rattle.std.proofs.lemmas.List.Folds.{list_all-append}
-use Rattle.log_lines.specs.Lines.{lacks}
-use Rattle.certificate.specs.declared.answer.CertReason.{CertReason}
-use Rattle.certificate.specs.declared.answer.CertReason.TheVariants.{BadHeader, BadLine, WrongAssertion, LemmaFails, NoEmptyClause, EndsInside, TrailingBytes, TooManyLive, BadDrop, BadClause}
-use Rattle.certificate.specs.declared.header.Asked.{Asked}
-use Rattle.certificate.specs.Lines.{lines_text}
-use Rattle.certificate.specs.Phases.{Phase, Follows, IsRefusedLine}
-use Rattle.certificate.specs.Phases.Phase.{AtVersion, AtEnd}
-use Rattle.certificate.specs.Sections.{Queries}
-use Rattle.certificate.specs.Texts.{FollowAll, IsRefusal, Reaches, RefusesLine, is_end}
+use Rattle.clause_text.specs.Lines.{lacks}
+use Rattle.cert_theory.specs.declared.answer.CertReason.{CertReason}
+use Rattle.cert_theory.specs.declared.answer.CertReason.TheVariants.{BadHeader, BadLine, WrongAssertion, LemmaFails, NoEmptyClause, EndsInside, TrailingBytes, TooManyLive, BadDrop, BadClause}
+use Rattle.cert_theory.specs.declared.header.Asked.{Asked}
+use Rattle.cert_theory.specs.Lines.{lines_text}
+use Rattle.cert_theory.specs.Phases.{Phase, Follows, IsRefusedLine}
+use Rattle.cert_theory.specs.Phases.Phase.{AtVersion, AtEnd}
+use Rattle.cert_theory.specs.Sections.{Queries}
+use Rattle.cert_theory.specs.Texts.{FollowAll, IsRefusal, Reaches, RefusesLine, is_end}
 use Rattle.cert_lines.specs.declared.reading.Reading.{Reading}
 use Rattle.cert_lines.specs.declared.reading.Refusal.{Refusal}
 use Rattle.cert_lines.specs.Readings.{IsAt, IsCutAt, IsRefusedBy, RefusesAs, Takes}

@@ -5,11 +5,11 @@ use Rattle.std.proofs.lemmas.Option.{none-some}
 use Rattle.std.proofs.lemmas.List.{append_cancel_left}
 use Rattle.std.proofs.Math.Seq.{drop-append_seam, take-append_seam}
 use Rattle.psl_base.specs.Decimals.{plain_upto}
-use Rattle.log_lines.proofs.Numerals.{decimal_of_plain, plain_of_decimal}
-use Rattle.certificate.specs.declared.header.Field.{Field}
-use Rattle.certificate.specs.declared.header.Field.TheVariants.{Assertion, Visits, Window, Live}
-use Rattle.certificate.specs.Headers.{Says, least_of, most_of}
-use Rattle.certificate.specs.Lines.{word_of}
+use Rattle.clause_text.proofs.Numerals.{decimal_of_plain, plain_of_decimal}
+use Rattle.cert_theory.specs.declared.header.Field.{Field}
+use Rattle.cert_theory.specs.declared.header.Field.TheVariants.{Assertion, Visits, Window, Live}
+use Rattle.cert_theory.specs.Headers.{Says, least_of, most_of}
+use Rattle.cert_theory.specs.Lines.{word_of}
 
 small_most : (field : Field) → most_of field < 2 ^ 64
 small_most Assertion = omega arith

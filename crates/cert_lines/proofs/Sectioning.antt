@@ -2,15 +2,15 @@
 use Rattle.std.proofs.Common.{◌≡◌, inl, inr, ◌∙◌, ap, sym, subst, ℕ, ℤ, ◌+◌, ◌≤◌, List, [], ◌∷◌, ◌++◌, length, arith, refl, length-append}
 use Rattle.psl_base.specs.Places.{file_limit}
 use Rattle.clauses.specs.Logs.{LogEntry}
-use Rattle.certificate.specs.declared.answer.CertReason.{CertReason}
-use Rattle.certificate.specs.declared.answer.CertReason.TheVariants.{BadHeader, BadLine, WrongAssertion, LemmaFails, NoEmptyClause, EndsInside, TrailingBytes, TooManyLive, BadDrop, BadClause}
-use Rattle.certificate.specs.declared.header.Asked.{Asked}
-use Rattle.certificate.specs.declared.header.Header.{Header}
-use Rattle.certificate.specs.declared.header.Section.{Section}
-use Rattle.certificate.specs.Lines.{end_line}
-use Rattle.certificate.specs.Phases.{IsRefusedLine, behind_section}
-use Rattle.certificate.specs.Phases.Phase.{InSection}
-use Rattle.certificate.specs.Sections.{IsEntryLine, IsSectionRefused, IsTaken, Queries, Query, query_at}
+use Rattle.cert_theory.specs.declared.answer.CertReason.{CertReason}
+use Rattle.cert_theory.specs.declared.answer.CertReason.TheVariants.{BadHeader, BadLine, WrongAssertion, LemmaFails, NoEmptyClause, EndsInside, TrailingBytes, TooManyLive, BadDrop, BadClause}
+use Rattle.cert_theory.specs.declared.header.Asked.{Asked}
+use Rattle.cert_theory.specs.declared.header.Header.{Header}
+use Rattle.cert_theory.specs.declared.header.Section.{Section}
+use Rattle.cert_theory.specs.Lines.{end_line}
+use Rattle.cert_theory.specs.Phases.{IsRefusedLine, behind_section}
+use Rattle.cert_theory.specs.Phases.Phase.{InSection}
+use Rattle.cert_theory.specs.Sections.{IsEntryLine, IsSectionRefused, IsTaken, Queries, Query, query_at}
 use Rattle.cert_lines.specs.declared.entries.LineStep.TheVariants as steps
 use Rattle.cert_lines.specs.declared.entries.SectionChecker.{SectionChecker}
 use Rattle.cert_lines.specs.declared.reading.Reading.{Reading}

@@ -1,13 +1,13 @@
 -- What is read of the clauses of a certificate, line by line.
 use Rattle.std.specs.Prelude.{◌≡◌, ℕ, ℤ, List, [], ◌∷◌, ◌++◌}
-use Rattle.certificate.specs.declared.header.Asked.{Asked}
-use Rattle.certificate.specs.declared.header.Header.{Header}
-use Rattle.certificate.specs.declared.header.Section.TheVariants.{Initial}
-use Rattle.certificate.specs.Lines.{IsClauseLine, initial_line}
-use Rattle.certificate.specs.Phases.{IsClauseRefused, NamesBits}
-use Rattle.certificate.specs.Phases.Phase.{InClauses, InSection}
-use Rattle.certificate.specs.Sections.{Queries}
-use Rattle.certificate.specs.Texts.{HasClauses}
+use Rattle.cert_theory.specs.declared.header.Asked.{Asked}
+use Rattle.cert_theory.specs.declared.header.Header.{Header}
+use Rattle.cert_theory.specs.declared.header.Section.TheVariants.{Initial}
+use Rattle.cert_theory.specs.Lines.{IsClauseLine, initial_line}
+use Rattle.cert_theory.specs.Phases.{IsClauseRefused, NamesBits}
+use Rattle.cert_theory.specs.Phases.Phase.{InClauses, InSection}
+use Rattle.cert_theory.specs.Sections.{Queries}
+use Rattle.cert_theory.specs.Texts.{HasClauses}
 use Rattle.cert_lines.specs.declared.entries.LineStep.{LineStep}
 use Rattle.cert_lines.specs.declared.entries.LineStep.TheVariants as steps
 use Rattle.cert_lines.specs.declared.reading.Reading.{Reading}

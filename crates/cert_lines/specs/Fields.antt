@@ -1,16 +1,16 @@
 -- What is read of each line of a header.
 use Rattle.std.specs.Prelude.{◌≡◌, ◌⊎◌, ℕ, List}
 use Rattle.clauses.specs.declared.flat.TheConstants.{MOST_VARIABLES}
-use Rattle.certificate.specs.declared.answer.CertReason.{CertReason}
-use Rattle.certificate.specs.declared.answer.CertReason.TheVariants.{BadHeader, WrongAssertion}
-use Rattle.certificate.specs.declared.header.Asked.{Asked}
-use Rattle.certificate.specs.declared.header.Field.{Field}
-use Rattle.certificate.specs.declared.header.Field.TheVariants.{Assertion, Window, Live}
-use Rattle.certificate.specs.declared.header.Form.{Form}
-use Rattle.certificate.specs.declared.header.Form.TheVariants.{Windowed, Clausal}
-use Rattle.certificate.specs.declared.header.Version.TheVariants.{One, Two}
-use Rattle.certificate.specs.Headers.{IsAsked, Says}
-use Rattle.certificate.specs.Lines.{form_line, last_line}
+use Rattle.cert_theory.specs.declared.answer.CertReason.{CertReason}
+use Rattle.cert_theory.specs.declared.answer.CertReason.TheVariants.{BadHeader, WrongAssertion}
+use Rattle.cert_theory.specs.declared.header.Asked.{Asked}
+use Rattle.cert_theory.specs.declared.header.Field.{Field}
+use Rattle.cert_theory.specs.declared.header.Field.TheVariants.{Assertion, Window, Live}
+use Rattle.cert_theory.specs.declared.header.Form.{Form}
+use Rattle.cert_theory.specs.declared.header.Form.TheVariants.{Windowed, Clausal}
+use Rattle.cert_theory.specs.declared.header.Version.TheVariants.{One, Two}
+use Rattle.cert_theory.specs.Headers.{IsAsked, Says}
+use Rattle.cert_theory.specs.Lines.{form_line, last_line}
 use Rattle.cert_lines.specs.declared.reading.Reading.{Reading}
 use Rattle.cert_lines.specs.Readings.{Takes}
 

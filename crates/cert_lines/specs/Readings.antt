@@ -1,12 +1,12 @@
 -- What is read of a text, line by line.
 use Rattle.std.specs.Prelude.{◌≡◌, ◌⊎◌, ℕ, suc, List, ◌∷◌, ◌++◌, length, IsTrue}
-use Rattle.log_lines.specs.Lines.{lacks}
-use Rattle.certificate.specs.declared.answer.CertReason.{CertReason}
-use Rattle.certificate.specs.declared.answer.CertReason.TheVariants.{EndsInside}
-use Rattle.certificate.specs.declared.header.Asked.{Asked}
-use Rattle.certificate.specs.Phases.{Phase}
-use Rattle.certificate.specs.Sections.{Queries}
-use Rattle.certificate.specs.Texts.{IsRefusal, Reaches}
+use Rattle.clause_text.specs.Lines.{lacks}
+use Rattle.cert_theory.specs.declared.answer.CertReason.{CertReason}
+use Rattle.cert_theory.specs.declared.answer.CertReason.TheVariants.{EndsInside}
+use Rattle.cert_theory.specs.declared.header.Asked.{Asked}
+use Rattle.cert_theory.specs.Phases.{Phase}
+use Rattle.cert_theory.specs.Sections.{Queries}
+use Rattle.cert_theory.specs.Texts.{IsRefusal, Reaches}
 use Rattle.cert_lines.specs.declared.reading.Reading.{Reading}
 use Rattle.cert_lines.specs.declared.reading.Refusal.{Refusal}
 

@@ -6,14 +6,14 @@ use Rattle.clause_log.specs.declared.step.Step.TheVariants.{Passes, Fails, TooMa
 use Rattle.clauses.specs.Live.{all_live}
 use Rattle.clauses.specs.Logs.{LogEntry, clauses_after}
 use Rattle.clauses.specs.declared.cnf.Cnf.{Cnf}
-use Rattle.certificate.specs.declared.answer.CertReason.TheVariants as reasons
-use Rattle.certificate.specs.declared.header.Asked.{Asked}
-use Rattle.certificate.specs.declared.header.Header.{Header}
-use Rattle.certificate.specs.declared.header.Section.{Section}
-use Rattle.certificate.specs.Lines.{end_line}
-use Rattle.certificate.specs.Phases.{behind_section}
-use Rattle.certificate.specs.Phases.Phase.{InSection}
-use Rattle.certificate.specs.Sections.{IsEntryLine, IsSectionRefused, IsTaken, Queries, Query, has_empty, query_at}
+use Rattle.cert_theory.specs.declared.answer.CertReason.TheVariants as reasons
+use Rattle.cert_theory.specs.declared.header.Asked.{Asked}
+use Rattle.cert_theory.specs.declared.header.Header.{Header}
+use Rattle.cert_theory.specs.declared.header.Section.{Section}
+use Rattle.cert_theory.specs.Lines.{end_line}
+use Rattle.cert_theory.specs.Phases.{behind_section}
+use Rattle.cert_theory.specs.Phases.Phase.{InSection}
+use Rattle.cert_theory.specs.Sections.{IsEntryLine, IsSectionRefused, IsTaken, Queries, Query, has_empty, query_at}
 use Rattle.cert_lines.specs.declared.entries.LineStep.{LineStep}
 use Rattle.cert_lines.specs.declared.entries.LineStep.TheVariants as steps
 use Rattle.cert_lines.specs.declared.entries.SectionChecker.{SectionChecker}

@@ -7,9 +7,9 @@ ghost use Rattle.cert_lines.specs.Clauses.{AreClauses, BecomesClause, HasNoClaus
 
 use crate::entries::LineStep;
 use crate::{Reading, Refusal};
-use certificate::CertReason;
+use cert_theory::CertReason;
+use clause_text::{LineRoom, read_clause};
 use clauses::{Clauses, CnfFault};
-use log_lines::{LineRoom, read_clause};
 use psl_base::NoMemory;
 use std::alloc::Global;
 

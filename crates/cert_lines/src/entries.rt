@@ -1,16 +1,16 @@
 // The lines of a section.
 ghost use Rattle.std.specs.Prelude.{◌≡◌, ℕ, ◌+◌, ◌<◌, ◌≤◌, List, [], length, IfOk, OnOk, if◌then◌else◌};
 ghost use Rattle.psl_base.specs.Places.{file_limit};
-ghost use Rattle.certificate.specs.Lines as lines;
-ghost use Rattle.certificate.specs.Sections.{Query, drops_in};
+ghost use Rattle.cert_theory.specs.Lines as lines;
+ghost use Rattle.cert_theory.specs.Sections.{Query, drops_in};
 ghost use Rattle.clauses.specs.Entries.{entry_of};
 ghost use Rattle.clauses.specs.Logs.{LogEntry, is_empty_lemma};
 ghost use Rattle.cert_lines.specs.Sections.{Becomes, Holds, at_end, query_of, step_of, taken_bytes};
 
-use certificate::{CertReason, Form, Header, Section, Version};
+use cert_theory::{CertReason, Form, Header, Section, Version};
 use clause_log::{LogChecker, Step};
+use clause_text::{LineRoom, read_entry};
 use clauses::{Cnf, Entry};
-use log_lines::{LineRoom, read_entry};
 use psl_base::NoMemory;
 use std::alloc::Global;
 

@@ -1,6 +1,6 @@
 // The lines of a header.
 ghost use Rattle.std.specs.Prelude.{◌≡◌, IfOk, IfErr};
-ghost use Rattle.certificate.specs.Lines.{last_line};
+ghost use Rattle.cert_theory.specs.Lines.{last_line};
 ghost use Rattle.cert_lines.specs.Readings.{IsRefusedBy, Takes};
 ghost use Rattle.cert_lines.specs.Fields.{GivesForm, GivesLive, GivesNumber, GivesWindow, IsAskedFor};
 ghost use Rattle.cert_lines.specs.Fields.{IsNoAsked, IsNoForm, IsNoLast, IsNoLive, IsNoNumber, IsNoWindow};
@@ -8,7 +8,7 @@ ghost use Rattle.cert_lines.specs.Fields.{IsNoAsked, IsNoForm, IsNoLast, IsNoLiv
 use crate::forms::form_of;
 use crate::numbers::number_in;
 use crate::{Reading, Refusal};
-use certificate::{Asked, CertReason, Field, Form, Version};
+use cert_theory::{Asked, CertReason, Field, Form, Version};
 use clauses::MOST_VARIABLES;
 
 impl<'a> Reading<'a> {

@@ -1,9 +1,9 @@
 // The first line of a header.
 ghost use Rattle.std.specs.Prelude.{◌≡◌, IfNone, IfSome};
-ghost use Rattle.certificate.specs.Lines.{form_line};
-ghost use Rattle.certificate.specs.declared.header.Form.{Form};
+ghost use Rattle.cert_theory.specs.Lines.{form_line};
+ghost use Rattle.cert_theory.specs.declared.header.Form.{Form};
 
-use certificate::{Form, Version};
+use cert_theory::{Form, Version};
 
 /// The form whose first line this is.
 pub(crate) fn form_of(line: &[u8]) -> Option<Form>

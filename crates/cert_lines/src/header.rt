@@ -1,13 +1,13 @@
 // The header of a certificate.
 ghost use Rattle.std.specs.Prelude.{◌≡◌, IfOk, IfErr};
-ghost use Rattle.certificate.specs.declared.header.Header.{Header};
-ghost use Rattle.certificate.specs.Headers.{HasHeader};
-ghost use Rattle.certificate.specs.Phases.{behind_header};
-ghost use Rattle.certificate.specs.Sections.{Queries};
+ghost use Rattle.cert_theory.specs.declared.header.Header.{Header};
+ghost use Rattle.cert_theory.specs.Headers.{HasHeader};
+ghost use Rattle.cert_theory.specs.Phases.{behind_header};
+ghost use Rattle.cert_theory.specs.Sections.{Queries};
 ghost use Rattle.cert_lines.specs.Readings.{IsAt, RefusesAs};
 
 use crate::{Reading, Refusal};
-use certificate::{Asked, Field, Header};
+use cert_theory::{Asked, Field, Header};
 
 /// Reads the header of a certificate of the assertion that is asked for, from the first line on.
 ///

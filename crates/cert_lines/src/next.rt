@@ -1,15 +1,15 @@
 // One line more.
 ghost use Rattle.std.specs.Prelude.{◌≡◌, ℕ, ◌≤◌, List, length, IfOk, IfErr};
-ghost use Rattle.certificate.specs.declared.header.Asked.{Asked};
-ghost use Rattle.certificate.specs.Phases.Phase.{AtEnd};
-ghost use Rattle.certificate.specs.Sections.{Queries};
-ghost use Rattle.certificate.specs.Texts.{IsAnswer};
+ghost use Rattle.cert_theory.specs.declared.header.Asked.{Asked};
+ghost use Rattle.cert_theory.specs.Phases.Phase.{AtEnd};
+ghost use Rattle.cert_theory.specs.Sections.{Queries};
+ghost use Rattle.cert_theory.specs.Texts.{IsAnswer};
 ghost use Rattle.psl_base.specs.Places.{file_limit};
 ghost use Rattle.cert_lines.specs.Readings.{IsAt, IsCutAt, Takes};
 
 use crate::{Reading, Refusal};
-use certificate::{CertAnswer, CertReason};
-use log_lines::next_line;
+use cert_theory::{CertAnswer, CertReason};
+use clause_text::next_line;
 
 impl<'a> Reading<'a> {
     /// A text of which nothing was read.

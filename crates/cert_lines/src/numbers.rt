@@ -1,10 +1,10 @@
 // The numbers of a header.
 ghost use Rattle.std.specs.Prelude.{◌≡◌, ℕ, List, ◌∷◌, ◌++◌, IfSome, IfNone};
-ghost use Rattle.certificate.specs.Headers as spec;
-ghost use Rattle.certificate.specs.Headers.{Says};
-ghost use Rattle.certificate.specs.Lines as lines;
+ghost use Rattle.cert_theory.specs.Headers as spec;
+ghost use Rattle.cert_theory.specs.Headers.{Says};
+ghost use Rattle.cert_theory.specs.Lines as lines;
 
-use certificate::{Field, MOST_VISITS, MOST_WINDOW};
+use cert_theory::{Field, MOST_VISITS, MOST_WINDOW};
 use clauses::MOST_VARIABLES;
 use psl_base::plain_decimal;
 

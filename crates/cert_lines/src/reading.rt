@@ -2,7 +2,7 @@
 ghost use Rattle.std.specs.Prelude.{◌+◌, ◌<◌, ◌≤◌, length};
 ghost use Rattle.psl_base.specs.Places.{file_limit};
 
-use certificate::CertReason;
+use cert_theory::CertReason;
 
 /// The lines of a text that were not read yet.
 #[derive(Debug, Drop)]

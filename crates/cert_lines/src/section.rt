@@ -4,9 +4,9 @@ ghost use Rattle.cert_lines.specs.Sections.{IsRefusedIn, StandsBehind, query_of}
 
 use crate::entries::{LineStep, SectionChecker};
 use crate::{Reading, Refusal};
-use certificate::{Header, Section};
+use cert_theory::{Header, Section};
+use clause_text::LineRoom;
 use clauses::Cnf;
-use log_lines::LineRoom;
 use psl_base::NoMemory;
 use std::alloc::Global;
 

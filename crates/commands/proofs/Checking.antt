@@ -1,7 +1,7 @@
 -- A certificate is read behind the text and the netlist.
 use Rattle.std.proofs.Common.{ℕ, List, [], ◌∷◌, Ok, Err, inl, inr}
 use Rattle.std.specs.Prelude.{Result}
-use Rattle.certificate.specs.declared.answer.CertAnswer.{CertAnswer}
+use Rattle.cert_theory.specs.declared.answer.CertAnswer.{CertAnswer}
 use Rattle.psl_base.specs.Shelf.{ShelfState}
 use Rattle.commands.proofs.Composing.{stage-among, stage-first, stage-then}
 use Rattle.commands.specs.Checks.{CertStage, CheckStage}

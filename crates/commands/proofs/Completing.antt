@@ -3,7 +3,7 @@ use Rattle.std.proofs.Common.{◌≡◌, refl, sym, ◌∙◌, subst, ℕ, List,
 use Rattle.std.specs.Prelude.{◌⊎◌, Result, Ok, Err, IfOk, IfErr}
 use Rattle.psl_base.specs.Faults.{Rose}
 use Rattle.psl_base.specs.Shelf.{Contents, ShelfState, OnlyReads}
-use Rattle.saving.specs.Saves.{SavesPart, file_of}
+use Rattle.psl_base.specs.Saves.{SavesPart, file_of}
 use Rattle.commands.proofs.Saving.{fails-by}
 use Rattle.commands.specs.Commands.{FirstRefusal}
 use Rattle.commands.specs.Endings.{Explained, IsOutOfMemory, EndsWith, EndsFaulted}

@@ -16,7 +16,7 @@ use Rattle.commands.specs.declared.outcome.Outcome.{Outcome}
 use Rattle.commands.specs.declared.outcome.Outcome.TheVariants.{Nothing}
 use Rattle.commands.specs.declared.reason.Reason.{Reason}
 use Rattle.commands.specs.declared.reason.Reason.TheVariants.{Usage, ReadFault, WriteFault, NoMemory}
-use Rattle.saving.specs.Saves.{NewFile, file_of}
+use Rattle.psl_base.specs.Saves.{NewFile, file_of}
 
 -- a fault of writing alone has its cause
 of_writing : (reason : Reason) → cause_of reason ≡ OfWriting → reason ≡ WriteFault

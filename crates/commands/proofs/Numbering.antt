@@ -2,8 +2,8 @@
 use Rattle.std.proofs.Common.{◌≡◌, ap, ℕ, zero, suc, ◌+◌, List, [], ◌∷◌, map, Some, arith}
 use Rattle.std.specs.Prelude.{slice_get}
 use Rattle.findings.specs.Assertions.{AreNumbered}
-use Rattle.psl_elaboration.specs.Answers.{IsUnit, Numbered, directive_of, numbered}
-use Rattle.psl_elaboration.specs.Directives.{Asked, kernel}
+use Rattle.psl_layer_theory.specs.Answers.{IsUnit, Numbered, directive_of, numbered}
+use Rattle.psl_layer_theory.specs.Directives.{Asked, kernel}
 use Rattle.psl_grammar.specs.declared.tree.UnitTree.{UnitTree}
 use Rattle.psl_tree.specs.declared.directive.Directive.{Directive}
 use Rattle.psl_tree.specs.declared.name.Name.{Name}

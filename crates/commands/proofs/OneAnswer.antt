@@ -16,16 +16,16 @@ use Rattle.findings.proofs.Faults.{one_fault as one_size_fault, not_both as with
 use Rattle.psl_grammar.specs.declared.tree.UnitTree.{UnitTree}
 use Rattle.psl_grammar.specs.Surface.{tree_node}
 use Rattle.psl_layer_laws.proofs.TreeLaws.{same-tree}
-use Rattle.psl_elaboration.proofs.Resolved.{one_fault as one_layer_fault}
-use Rattle.psl_elaboration.specs.Answers.{IsUnit, IsFlawAt, IsLayerFault, numbered, first_too_large}
-use Rattle.psl_elaboration.specs.Directives.{kernel}
-use Rattle.psl_elaboration.specs.FirstFlaw.{IsFirstFlaw}
-use Rattle.psl_elaboration.specs.Flaws.{tree_flaws}
-use Rattle.psl_elaboration.specs.declared.fault.Cause.{Cause}
-use Rattle.psl_elaboration.specs.declared.fault.Cause.TheVariants as causes
-use Rattle.psl_elaboration.specs.declared.fault.Flaw.{Flaw}
-use Rattle.psl_elaboration.specs.declared.fault.LayerFault.{LayerFault}
-use Rattle.psl_elaboration.specs.declared.fault.LayerFault.TheVariants as layer
+use Rattle.psl_layer_theory.proofs.Resolved.{one_fault as one_layer_fault}
+use Rattle.psl_layer_theory.specs.Answers.{IsUnit, IsFlawAt, IsLayerFault, numbered, first_too_large}
+use Rattle.psl_layer_theory.specs.Directives.{kernel}
+use Rattle.psl_layer_theory.specs.FirstFlaw.{IsFirstFlaw}
+use Rattle.psl_layer_theory.specs.Flaws.{tree_flaws}
+use Rattle.psl_layer_theory.specs.declared.fault.Cause.{Cause}
+use Rattle.psl_layer_theory.specs.declared.fault.Cause.TheVariants as causes
+use Rattle.psl_layer_theory.specs.declared.fault.Flaw.{Flaw}
+use Rattle.psl_layer_theory.specs.declared.fault.LayerFault.{LayerFault}
+use Rattle.psl_layer_theory.specs.declared.fault.LayerFault.TheVariants as layer
 use Rattle.psl_lexer.proofs.LawReads.{one_list, one_fault as one_lex_fault, not_both as lexed_or_not}
 use Rattle.psl_lexer.specs.Faults.{IsFirstFault as IsFirstLexFault}
 use Rattle.psl_lexer.specs.Lexed.{IsLexed}
@@ -42,7 +42,7 @@ use Rattle.commands.proofs.SameOwed.{are-within, same-first-refused}
 use Rattle.commands.proofs.SameUnits.{SameUnit, all-judgeable, same-first, same-said}
 use Rattle.commands.proofs.Unknowns.{one-known}
 use Rattle.commands.specs.Diagnostics.{lex_diagnostic, parse_diagnostic, layer_diagnostic, judge_diagnostic, vcd_diagnostic, blif_diagnostic}
-use Rattle.certificate.specs.declared.answer.CertAnswer.{CertAnswer}
+use Rattle.cert_theory.specs.declared.answer.CertAnswer.{CertAnswer}
 use Rattle.commands.specs.Checks.{CertReading, CertStage, CheckStage}
 use Rattle.commands.specs.Commands.{CommandStage, FirstRefusal, MeaningStage, findings_outcome, replayed_outcome, wave_outcome}
 use Rattle.commands.specs.Faults.{missing_in, of_none}

@@ -1,8 +1,8 @@
 -- What is said of the faults of texts and directives, but for want of memory, is said of a text.
 use Rattle.std.proofs.Common.{◌≡◌, refl, ℕ, List}
 use Rattle.std.specs.Prelude.{◌≢◌}
-use Rattle.psl_elaboration.specs.declared.fault.LayerFault.{LayerFault}
-use Rattle.psl_elaboration.specs.declared.fault.LayerFault.TheVariants as layer
+use Rattle.psl_layer_theory.specs.declared.fault.LayerFault.{LayerFault}
+use Rattle.psl_layer_theory.specs.declared.fault.LayerFault.TheVariants as layer
 use Rattle.psl_lexer.specs.declared.fault.LexFault.{LexFault}
 use Rattle.psl_lexer.specs.declared.fault.LexFault.TheVariants as lex
 use Rattle.psl_lexer.specs.declared.token.Token.{Token}

@@ -8,23 +8,23 @@ use Rattle.cert_check.specs.Claims.{asked_of, directive_of as directive_at, is_s
 use Rattle.cert_check.specs.Limits.{ClausesIn, FitsLimits, HasCause, IsFault, IsFaultBehind, IsLarge, IsLargeIn}
 use Rattle.cert_check.specs.declared.fault.CertFault.{CertFault}
 use Rattle.cert_check.specs.declared.fault.CertFault.TheVariants.{SereTooLarge, AutomatonTooLarge, UnrollTooLarge, FormulaTooLarge, NoMemory}
-use Rattle.certificate.proofs.HeaderLines.{header_once}
-use Rattle.certificate.specs.Headers.{HasHeader}
-use Rattle.certificate.specs.Sections.{Queries}
-use Rattle.certificate.specs.Texts.{HasClauses}
-use Rattle.certificate.specs.declared.header.Form.{Form}
-use Rattle.certificate.specs.declared.header.Form.TheVariants.{Windowed, Clausal}
-use Rattle.certificate.specs.declared.answer.CertAnswer.{CertAnswer}
-use Rattle.certificate.specs.declared.header.Asked.{Asked}
-use Rattle.certificate.specs.declared.header.Header.{Header}
+use Rattle.cert_theory.proofs.HeaderLines.{header_once}
+use Rattle.cert_theory.specs.Headers.{HasHeader}
+use Rattle.cert_theory.specs.Sections.{Queries}
+use Rattle.cert_theory.specs.Texts.{HasClauses}
+use Rattle.cert_theory.specs.declared.header.Form.{Form}
+use Rattle.cert_theory.specs.declared.header.Form.TheVariants.{Windowed, Clausal}
+use Rattle.cert_theory.specs.declared.answer.CertAnswer.{CertAnswer}
+use Rattle.cert_theory.specs.declared.header.Asked.{Asked}
+use Rattle.cert_theory.specs.declared.header.Header.{Header}
 use Rattle.netlist.specs.Design.{Design}
 use Rattle.owed.specs.Owed.{is_assertion}
 use Rattle.owed.specs.Violations.{violation_of}
-use Rattle.psl_elaboration.specs.Answers.{Numbered, directive_of}
+use Rattle.psl_layer_theory.specs.Answers.{Numbered, directive_of}
 use Rattle.psl_tree.specs.Trees.{Formula}
 use Rattle.psl_tree.specs.declared.directive.Directive.{Directive}
-use Rattle.work_limits.specs.Sized.{IsRefused, IsSized}
-use Rattle.work_limits.specs.declared.sizes.LimitFault.TheVariants as limits
+use Rattle.owed.specs.Sized.{IsRefused, IsSized}
+use Rattle.owed.specs.declared.limits.LimitFault.TheVariants as limits
 use Rattle.commands.proofs.Alike.{Agree}
 use Rattle.commands.proofs.SameOwed.{same-kind, same-owed, same-violation}
 use Rattle.commands.proofs.SameUnits.{SameUnit, heads, none-some, same-place, tails}

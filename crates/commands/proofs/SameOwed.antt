@@ -11,10 +11,10 @@ use Rattle.findings.specs.declared.sizes.SizeFault.TheVariants as sizes
 use Rattle.netlist.specs.Design.{Design}
 use Rattle.owed.specs.Owed.{assumptions, conjunction, is_assertion, is_assumption, plain_owed, under}
 use Rattle.owed.specs.Violations.{violation_of}
-use Rattle.work_limits.specs.Sized as sized
-use Rattle.work_limits.specs.Sized.{IsSized}
-use Rattle.work_limits.specs.declared.sizes.LimitFault.TheVariants as limits
-use Rattle.psl_elaboration.specs.Answers.{Numbered, directive_of}
+use Rattle.owed.specs.Sized as sized
+use Rattle.owed.specs.Sized.{IsSized}
+use Rattle.owed.specs.declared.limits.LimitFault.TheVariants as limits
+use Rattle.psl_layer_theory.specs.Answers.{Numbered, directive_of}
 use Rattle.psl_tree.specs.Plain.{plain}
 use Rattle.psl_tree.specs.Trees.{Formula, formula_of}
 use Rattle.psl_tree.specs.declared.directive.Directive.{Directive}

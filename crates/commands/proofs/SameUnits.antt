@@ -7,7 +7,7 @@ use Rattle.std.proofs.lemmas.List.{take-map}
 use Rattle.std.proofs.lemmas.List.Elements.{All-nil, All-cons, All-head, All-tail}
 use Rattle.alternating.specs.Limits.{HasLargeSequence}
 use Rattle.psl_base.specs.declared.place.Place.{Place}
-use Rattle.psl_elaboration.specs.Answers.{Numbered, directive_of}
+use Rattle.psl_layer_theory.specs.Answers.{Numbered, directive_of}
 use Rattle.psl_tree.specs.Plain.{plain}
 use Rattle.psl_tree.specs.Counts.{obligations_of}
 use Rattle.psl_tree.specs.Trees.{Formula}

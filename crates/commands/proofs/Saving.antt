@@ -5,8 +5,8 @@ use Rattle.std.specs.Option.{option_map}
 use Rattle.psl_base.specs.Faults.{Rose}
 use Rattle.psl_base.specs.Shelf.{ShelfState, OnlyReads}
 use Rattle.psl_base.specs.Sink.{SinkState, AddsPart}
-use Rattle.saving.specs.Saves.{NewFile, SavesAll, SavesPart, file_of, with_files}
-use Rattle.saving.specs.declared.Save.{Save}
+use Rattle.psl_base.specs.Saves.{NewFile, SavesAll, SavesPart, file_of, with_files}
+use Rattle.psl_base.specs.declared.saving.Save.{Save}
 use Rattle.command_line.specs.Commands.{Meaning}
 use Rattle.command_line.specs.Evidences.{Wanted}
 use Rattle.commands.specs.Commands.{IsCommand}

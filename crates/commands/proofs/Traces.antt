@@ -5,7 +5,7 @@ use Rattle.blif_model.specs.Rules.{signal_limit}
 use Rattle.command_line.specs.Evidences.{Wanted}
 use Rattle.findings.proofs.Shown.{first-is}
 use Rattle.findings.specs.Traceable.{AreTraceable, HasTraces}
-use Rattle.hierarchy_laws.specs.Plain.{IsPlain}
+use Rattle.blif_laws.specs.Plain.{IsPlain}
 use Rattle.netlist.specs.Design.{Design}
 use Rattle.netlist.specs.Sound.{IsSound}
 use Rattle.psl_tree.specs.Counts.{formula_size}

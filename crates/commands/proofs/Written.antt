@@ -2,12 +2,12 @@
 use Rattle.std.proofs.Common.{◌≡◌, sym, ap, subst, ℕ, zero, suc, ◌≤◌, List, [], ◌∷◌, length, Option, None, Some, Ok, Err, arith, inl, inr}
 use Rattle.std.specs.Prelude.{Result, slice_get}
 use Rattle.cert_check.specs.Claims.{asked_of, directive_of as directive_at, queries_of}
-use Rattle.certificate.proofs.OneAnswer.{one_answer}
-use Rattle.certificate.specs.Sections.{Queries}
-use Rattle.certificate.specs.Texts.{IsAnswer}
-use Rattle.certificate.specs.declared.answer.CertAnswer.{CertAnswer}
-use Rattle.certificate.specs.declared.answer.CertAnswer.TheVariants.{Passed}
-use Rattle.certificate.specs.declared.header.Asked.{Asked}
+use Rattle.cert_theory.proofs.OneAnswer.{one_answer}
+use Rattle.cert_theory.specs.Sections.{Queries}
+use Rattle.cert_theory.specs.Texts.{IsAnswer}
+use Rattle.cert_theory.specs.declared.answer.CertAnswer.{CertAnswer}
+use Rattle.cert_theory.specs.declared.answer.CertAnswer.TheVariants.{Passed}
+use Rattle.cert_theory.specs.declared.header.Asked.{Asked}
 use Rattle.command_line.specs.Evidences.{Wanted}
 use Rattle.command_line.specs.declared.Limits.{Limits}
 use Rattle.findings.specs.Assertions.{assertions}

@@ -5,11 +5,11 @@ use Rattle.cert_check.specs.Claims.{IsProved, asked_of, directive_of, queries_of
 use Rattle.cert_check.specs.Limits.{ClausesIn, FitsLimits, IsFault}
 use Rattle.cert_check.specs.declared.fault.CertFault.{CertFault}
 use Rattle.cert_check.specs.declared.fault.CertFault.TheVariants as limits
-use Rattle.certificate.specs.Headers.{HasHeader}
-use Rattle.certificate.specs.Texts.{IsAnswer}
-use Rattle.certificate.specs.declared.answer.CertAnswer.{CertAnswer}
-use Rattle.certificate.specs.declared.answer.CertAnswer.TheVariants.{Passed}
-use Rattle.certificate.specs.declared.header.Header.{Header}
+use Rattle.cert_theory.specs.Headers.{HasHeader}
+use Rattle.cert_theory.specs.Texts.{IsAnswer}
+use Rattle.cert_theory.specs.declared.answer.CertAnswer.{CertAnswer}
+use Rattle.cert_theory.specs.declared.answer.CertAnswer.TheVariants.{Passed}
+use Rattle.cert_theory.specs.declared.header.Header.{Header}
 use Rattle.psl_base.specs.Shelf.{Contents}
 use Rattle.psl_tree.specs.declared.directive.Directive.{Directive}
 use Rattle.commands.specs.Diagnostics.{directive_place}

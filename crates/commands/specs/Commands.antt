@@ -5,7 +5,7 @@ use Rattle.command_line.specs.Commands.{Meaning}
 use Rattle.command_line.specs.Commands.Meaning.{wave, show, show_netlist, gen, prove, check, replay}
 use Rattle.command_line.specs.declared.Limits.{Limits}
 use Rattle.psl_base.specs.Shelf.{Contents, ShelfState}
-use Rattle.certificate.specs.declared.answer.CertAnswer.{CertAnswer}
+use Rattle.cert_theory.specs.declared.answer.CertAnswer.{CertAnswer}
 use Rattle.commands.specs.Checks.{CheckStage}
 use Rattle.commands.specs.Endings.{Explained}
 use Rattle.commands.specs.Faults.{of_none, fault_of}

@@ -6,8 +6,8 @@ use Rattle.blif_model.specs.declared.fault.BlifFault.{BlifFault}
 use Rattle.blif_model.specs.declared.fault.BlifFault.TheVariants as blif
 use Rattle.psl_base.specs.Places.{place_at}
 use Rattle.psl_base.specs.declared.place.Place.{Place}
-use Rattle.psl_elaboration.specs.declared.fault.LayerFault.{LayerFault}
-use Rattle.psl_elaboration.specs.declared.fault.LayerFault.TheVariants as layer
+use Rattle.psl_layer_theory.specs.declared.fault.LayerFault.{LayerFault}
+use Rattle.psl_layer_theory.specs.declared.fault.LayerFault.TheVariants as layer
 use Rattle.psl_lexer.specs.declared.fault.LexFault.{LexFault}
 use Rattle.psl_lexer.specs.declared.fault.LexFault.TheVariants as lex
 use Rattle.psl_lexer.specs.declared.token.Token.{Token}

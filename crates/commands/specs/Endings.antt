@@ -1,8 +1,8 @@
 -- How a run ends: its status, what it prints, and why a fault came.
 use Rattle.std.specs.Prelude.{◌≡◌, ◌≢◌, ◌⊎◌, Bool, true, false, ◌||◌, ℕ, List, Option, None, Some, if◌then◌else◌}
 use Rattle.std.specs.List.{list_all, list_any}
-use Rattle.certificate.specs.declared.answer.CertAnswer.{CertAnswer}
-use Rattle.certificate.specs.declared.answer.CertAnswer.TheVariants.{Passed, Refused}
+use Rattle.cert_theory.specs.declared.answer.CertAnswer.{CertAnswer}
+use Rattle.cert_theory.specs.declared.answer.CertAnswer.TheVariants.{Passed, Refused}
 use Rattle.findings.specs.declared.entry.FindingEntry.{FindingEntry}
 use Rattle.prover.specs.Findings.{is_proved, is_violated}
 use Rattle.psl_base.specs.Shelf.{Contents, ShelfState}

@@ -1,8 +1,8 @@
 -- The files that a run writes: the certificates of what it proved, and the recordings of runs that violate assertions.
 use Rattle.std.specs.Prelude.{◌≡◌, ◌⊎◌, ℕ, List, [], ◌∷◌, ◌++◌, map, Option, None, Some, Result, Ok, Err, codes, decimal}
 use Rattle.std.specs.List.{flat_map}
-use Rattle.certificate.specs.Printed.{cert_text, inductive_text}
-use Rattle.certificate.specs.declared.header.Version.TheVariants.{Two}
+use Rattle.cert_theory.specs.Printed.{cert_text, inductive_text}
+use Rattle.cert_theory.specs.declared.header.Version.TheVariants.{Two}
 use Rattle.command_line.specs.Commands.{Meaning}
 use Rattle.command_line.specs.Evidences.{Wanted}
 use Rattle.command_line.specs.Commands.Meaning.{wave, show, show_netlist, gen, prove, check, replay}
@@ -13,7 +13,7 @@ use Rattle.prover.specs.declared.finding.Finding.{Finding}
 use Rattle.prover.specs.declared.finding.Finding.TheVariants as findings
 use Rattle.psl_base.specs.Shelf.{ShelfState, OnlyReads}
 use Rattle.psl_base.specs.Sink.{SinkState, AddsPart}
-use Rattle.saving.specs.Saves.{NewFile, SavesAll, SavesPart, file_of}
+use Rattle.psl_base.specs.Saves.{NewFile, SavesAll, SavesPart, file_of}
 use Rattle.commands.specs.Commands.{IsCommand}
 use Rattle.commands.specs.Faults.{of_none}
 use Rattle.commands.specs.declared.finish.Planned.{Planned}

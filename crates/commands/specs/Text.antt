@@ -1,10 +1,10 @@
 -- What is printed: the lines of an outcome, and the line of a fault.
 use Rattle.std.specs.Prelude.{Bool, true, false, ℕ, suc, List, [], ◌∷◌, ◌++◌, length, Option, None, Some, codes, decimal}
 use Rattle.std.specs.List.{flat_map}
-use Rattle.certificate.specs.declared.answer.CertAnswer.{CertAnswer}
-use Rattle.certificate.specs.declared.answer.CertAnswer.TheVariants.{Passed, Refused}
-use Rattle.certificate.specs.declared.answer.CertReason.{CertReason}
-use Rattle.certificate.specs.declared.answer.CertReason.TheVariants as certs
+use Rattle.cert_theory.specs.declared.answer.CertAnswer.{CertAnswer}
+use Rattle.cert_theory.specs.declared.answer.CertAnswer.TheVariants.{Passed, Refused}
+use Rattle.cert_theory.specs.declared.answer.CertReason.{CertReason}
+use Rattle.cert_theory.specs.declared.answer.CertReason.TheVariants as certs
 use Rattle.clauses.specs.Logs.{lemmas}
 use Rattle.findings.specs.Columns.{ShowColumns}
 use Rattle.findings.specs.declared.entry.FindingEntry.{FindingEntry}

@@ -7,13 +7,13 @@ use Rattle.command_line.specs.declared.Unknown as words
 use Rattle.command_line.specs.declared.Unknown.TheVariants as word
 use Rattle.psl_base.specs.Shelf.{Contents}
 use Rattle.psl_grammar.specs.declared.tree.UnitTree.{UnitTree}
-use Rattle.psl_elaboration.specs.Answers.{IsUnit, IsLayerFault}
+use Rattle.psl_layer_theory.specs.Answers.{IsUnit, IsLayerFault}
 use Rattle.psl_lexer.specs.declared.token.Token.{Token}
 use Rattle.psl_lexer.specs.Faults.{IsFirstFault}
 use Rattle.psl_lexer.specs.Lexed.{IsLexed}
 use Rattle.psl_tree.specs.Plain.{plain}
 use Rattle.psl_parser.specs.Parsing.{IsParsed, IsParseFault}
-use Rattle.canonical_text.specs.CanonicalText.{formula_text}
+use Rattle.psl_text.specs.CanonicalText.{formula_text}
 use Rattle.psl_tree.specs.Counts.{obligations_of, shown}
 use Rattle.psl_tree.specs.declared.directive.Directive.{Directive}
 use Rattle.psl_tree.specs.declared.name.Name.{Name}

@@ -11,7 +11,7 @@ use crate::reason::{Diagnostic, Reason};
 use blif_reader::BlifFault;
 use findings::SizeFault;
 use psl_base::{NoMemory, Place, Text, place_of};
-use psl_elaboration::LayerFault;
+use psl_layer_theory::LayerFault;
 use psl_lexer::{LexFault, Tokens};
 use psl_parser::ParseFault;
 use psl_tree::Unit;

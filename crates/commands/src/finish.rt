@@ -9,7 +9,7 @@ ghost use Rattle.commands.specs.Faults.{of_none, fault_of};
 ghost use Rattle.commands.specs.Saved.{FailsPlanned, HasSaved, WritingFails};
 ghost use Rattle.commands.specs.Text.{text_of, line_of};
 ghost use Rattle.prover.specs.Findings.{is_proved, is_violated};
-ghost use Rattle.saving.specs.Saves.{SavesAll, SavesPart, file_of};
+ghost use Rattle.psl_base.specs.Saves.{SavesAll, SavesPart, file_of};
 
 use crate::faults::of_none;
 use crate::outcome::{Fault, Outcome, Report};
@@ -18,10 +18,9 @@ use crate::report::fault_line;
 use crate::rows::row_of;
 use cert_check::CertAnswer;
 use findings::FindingEntry;
-use psl_base::{Bytes, Failed, Shelf, Sink, put_all};
+use psl_base::{Bytes, Failed, Save, Saves, Shelf, Sink, put_all, save_all};
 use psl_tree::Kind;
 use replay::Replay;
-use saving::{Save, Saves, save_all};
 use std::alloc::Global;
 use wave_judge::Verdict;
 

@@ -1,10 +1,10 @@
 // What follows from the definitions alone.
 ghost use Rattle.std.specs.Prelude.{◌≡◌, ◌≤◌, ℕ, List, Option, Result, Ok, Some, length, slice_get};
-ghost use Rattle.certificate.specs.Printed.{cert_text, inductive_text};
-ghost use Rattle.certificate.specs.declared.answer.CertAnswer.{CertAnswer};
-ghost use Rattle.certificate.specs.declared.certificate.Certificate.{Certificate};
-ghost use Rattle.certificate.specs.declared.certificate.InductiveCert.{InductiveCert};
-ghost use Rattle.certificate.specs.declared.header.Version.TheVariants.{Two};
+ghost use Rattle.cert_theory.specs.Printed.{cert_text, inductive_text};
+ghost use Rattle.cert_theory.specs.declared.answer.CertAnswer.{CertAnswer};
+ghost use Rattle.cert_theory.specs.declared.certificate.Certificate.{Certificate};
+ghost use Rattle.cert_theory.specs.declared.certificate.InductiveCert.{InductiveCert};
+ghost use Rattle.cert_theory.specs.declared.header.Version.TheVariants.{Two};
 ghost use Rattle.command_line.specs.Evidences.{Wanted};
 ghost use Rattle.command_line.specs.declared.Limits.{Limits};
 ghost use Rattle.commands.specs.Checks.{CheckStage};

@@ -1,5 +1,5 @@
 use crate::reason::Reason;
-use certificate::CertAnswer;
+use cert_theory::CertAnswer;
 use findings::Findings;
 use psl_base::{Items, Place, Text};
 use psl_tree::{Kind, Names};

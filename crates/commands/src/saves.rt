@@ -1,21 +1,20 @@
 ghost use Rattle.std.specs.Prelude.{◌≡◌, ◌++◌, map, string_bytes, Some, IfOk, OnOk};
 ghost use Rattle.std.specs.List.{flat_map};
 ghost use Rattle.std.specs.Option.{option_map};
-ghost use Rattle.certificate.specs.Printed.{cert_text, inductive_text};
-ghost use Rattle.certificate.specs.declared.header.Version.TheVariants.{Two};
+ghost use Rattle.cert_theory.specs.Printed.{cert_text, inductive_text};
+ghost use Rattle.cert_theory.specs.declared.header.Version.TheVariants.{Two};
 ghost use Rattle.command_line.specs.Evidences.{evidence_of};
 ghost use Rattle.commands.specs.Saved.{certificate_files, file_name, files_of_entry, files_of_outcome, recorded_files, recording_files};
-ghost use Rattle.saving.specs.Saves.{file_of};
+ghost use Rattle.psl_base.specs.Saves.{file_of};
 
 use crate::outcome::Outcome;
-use certificate::{Certificate, InductiveCert};
-use certificate_text::{print_cert, print_inductive};
+use cert_text::{print_cert, print_inductive};
+use cert_theory::{Certificate, InductiveCert};
 use command_line::Evidence;
 use findings::{FindingEntry, Recorded};
 use itoa::Buffer;
 use prover::Finding;
-use psl_base::{Bytes, NoMemory};
-use saving::{Save, Saves};
+use psl_base::{Bytes, NoMemory, Save, Saves};
 use std::alloc::{AllocError, Global};
 
 /// The files of evidence that are to be written of an outcome, in the order of the assertions: the certificate of each one

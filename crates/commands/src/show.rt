@@ -10,10 +10,10 @@ ghost use Rattle.commands.specs.Waves.{LinesReading, ShowStage, ShowNetlistStage
 use crate::directives::directives;
 use crate::inputs::{load_circuit, load_inputs};
 use crate::outcome::{Fault, Line, Lines};
-use canonical_text::print_fl;
 use clock_rewrite::unclock;
 use psl_base::{NoMemory, Shelf, Text};
 use psl_grammar::UnitTree;
+use psl_text::print_fl;
 use psl_tree::{Directive, Fl, Names, obligations};
 use std::alloc::Global;
 use vcd_reader::Unknown;

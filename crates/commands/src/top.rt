@@ -12,7 +12,7 @@ ghost use Rattle.commands.specs.Planning.{IsAnswer};
 ghost use Rattle.commands.specs.Saved.{AreToWrite, FailsToWrite, IsSavedBy, files_of_outcome, wanted_of};
 ghost use Rattle.commands.specs.Stages.{OfTold, IsUnread};
 ghost use Rattle.commands.specs.Text.{text_of, IsShowable};
-ghost use Rattle.saving.specs.Saves.{file_of};
+ghost use Rattle.psl_base.specs.Saves.{file_of};
 ghost use Rattle.vcd_reader.specs.Rules.{sample_limit};
 
 use crate::check::{Question, check};

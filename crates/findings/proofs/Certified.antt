@@ -8,20 +8,20 @@ use Rattle.cert_check.specs.Claims.{asked_of, directive_of, is_some_assertion, q
 use Rattle.cert_check.specs.Limits.{ClausesIn, HasCause, IsFault, IsFaultBehind}
 use Rattle.cert_check.specs.declared.fault.CertFault.{CertFault}
 use Rattle.cert_check.specs.declared.fault.CertFault.TheVariants.{SereTooLarge, AutomatonTooLarge, UnrollTooLarge, FormulaTooLarge, NoMemory}
-use Rattle.certificate.proofs.HeaderLines.{header_once}
-use Rattle.certificate.proofs.OneAnswer.{one_answer}
-use Rattle.certificate.specs.Headers.{HasHeader, MayBe}
-use Rattle.certificate.specs.Printed.{cert_text, header_of}
-use Rattle.certificate.specs.Sections.{NamesLive, Query}
-use Rattle.certificate.specs.Texts.{IsAnswer}
-use Rattle.certificate.specs.declared.answer.CertAnswer.{CertAnswer}
-use Rattle.certificate.specs.declared.answer.CertAnswer.TheVariants.{Passed}
-use Rattle.certificate.specs.declared.certificate.Certificate.{Certificate}
-use Rattle.certificate.specs.declared.header.Field.TheVariants.{Assertion}
-use Rattle.certificate.specs.declared.header.Header.{Header}
-use Rattle.certificate.specs.declared.header.Version.{Version}
-use Rattle.certificate_text.proofs.Passing.{text_header, text_passes}
-use Rattle.certificate_text.specs.Evidence.{EachDrop, IsEvidence, IsRefuted}
+use Rattle.cert_theory.proofs.HeaderLines.{header_once}
+use Rattle.cert_theory.proofs.OneAnswer.{one_answer}
+use Rattle.cert_theory.specs.Headers.{HasHeader, MayBe}
+use Rattle.cert_theory.specs.Printed.{cert_text, header_of}
+use Rattle.cert_theory.specs.Sections.{NamesLive, Query}
+use Rattle.cert_theory.specs.Texts.{IsAnswer}
+use Rattle.cert_theory.specs.declared.answer.CertAnswer.{CertAnswer}
+use Rattle.cert_theory.specs.declared.answer.CertAnswer.TheVariants.{Passed}
+use Rattle.cert_theory.specs.declared.certificate.Certificate.{Certificate}
+use Rattle.cert_theory.specs.declared.header.Field.TheVariants.{Assertion}
+use Rattle.cert_theory.specs.declared.header.Header.{Header}
+use Rattle.cert_theory.specs.declared.header.Version.{Version}
+use Rattle.cert_text.proofs.Passing.{text_header, text_passes}
+use Rattle.cert_text.specs.Evidence.{EachDrop, IsEvidence, IsRefuted}
 use Rattle.clauses.specs.Logs.{LogEntry}
 use Rattle.clauses.specs.Logs.LogEntry.{Lemma, Forget}
 use Rattle.clauses.specs.declared.flat.TheConstants.{MOST_VARIABLES}
@@ -40,7 +40,7 @@ use Rattle.prover.specs.declared.finding.Query.TheVariants.{Base, Induction}
 use Rattle.prover.specs.declared.options.Options.{Options}
 use Rattle.prover.specs.declared.task.Task.{Task}
 use Rattle.psl_tree.specs.declared.directive.Directive.{Directive}
-use Rattle.work_limits.specs.Sized.{IsSized, bulk_of}
+use Rattle.owed.specs.Sized.{IsSized, bulk_of}
 use Rattle.findings.specs.Assertions.{IsAssertionOf}
 use Rattle.findings.specs.Entries.{IsPassedFor, IsPassedText}
 

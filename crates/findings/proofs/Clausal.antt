@@ -5,24 +5,24 @@ use Rattle.cert_check.specs.Claims.{asked_of, bad_query, initial_query, is_some_
 use Rattle.cert_check.specs.Limits.{AreClausesTooLarge, ClausesIn, IsFaultBehind}
 use Rattle.cert_check.specs.declared.fault.CertFault.{CertFault}
 use Rattle.cert_check.specs.declared.fault.CertFault.TheVariants.{SereTooLarge, AutomatonTooLarge, UnrollTooLarge, FormulaTooLarge, NoMemory}
-use Rattle.certificate.proofs.ClausesOnce.{one_clauses}
-use Rattle.certificate.proofs.HeaderLines.{header_lacks}
-use Rattle.certificate.specs.Headers.{MayBe}
-use Rattle.certificate.specs.Lines.{header_lines, lines_text}
-use Rattle.certificate.specs.Phases.Phase.{AtVersion, InClauses, InSection}
-use Rattle.certificate.specs.Printed.{clause_lines, inductive_header, inductive_text, log_lines_of}
-use Rattle.certificate.specs.Sections.{Queries}
-use Rattle.certificate.specs.Texts.{HasClauses}
-use Rattle.certificate.specs.declared.certificate.InductiveCert.{InductiveCert}
-use Rattle.certificate.specs.declared.header.Asked.{Asked}
-use Rattle.certificate.specs.declared.header.Field.TheVariants.{Assertion}
-use Rattle.certificate.specs.declared.header.Section.TheVariants.{Initial}
-use Rattle.certificate_text.proofs.Following.{clauses_follow, clauses_whole, followed}
-use Rattle.certificate_text.proofs.Inducing.{inductive_begins, inductive_passes}
-use Rattle.certificate_text.proofs.Joining.{lines_text-append}
-use Rattle.certificate_text.proofs.Passing.{both_whole, front_follows}
-use Rattle.certificate_text.specs.Evidence.{IsInductiveEvidence, IsRefuted}
-use Rattle.circuit_theory.specs.Sizes.{IsTooLarge}
+use Rattle.cert_theory.proofs.ClausesOnce.{one_clauses}
+use Rattle.cert_theory.proofs.HeaderLines.{header_lacks}
+use Rattle.cert_theory.specs.Headers.{MayBe}
+use Rattle.cert_theory.specs.Lines.{header_lines, lines_text}
+use Rattle.cert_theory.specs.Phases.Phase.{AtVersion, InClauses, InSection}
+use Rattle.cert_theory.specs.Printed.{clause_lines, inductive_header, inductive_text, log_lines_of}
+use Rattle.cert_theory.specs.Sections.{Queries}
+use Rattle.cert_theory.specs.Texts.{HasClauses}
+use Rattle.cert_theory.specs.declared.certificate.InductiveCert.{InductiveCert}
+use Rattle.cert_theory.specs.declared.header.Asked.{Asked}
+use Rattle.cert_theory.specs.declared.header.Field.TheVariants.{Assertion}
+use Rattle.cert_theory.specs.declared.header.Section.TheVariants.{Initial}
+use Rattle.cert_text.proofs.Following.{clauses_follow, clauses_whole, followed}
+use Rattle.cert_text.proofs.Inducing.{inductive_begins, inductive_passes}
+use Rattle.cert_text.proofs.Joining.{lines_text-append}
+use Rattle.cert_text.proofs.Passing.{both_whole, front_follows}
+use Rattle.cert_text.specs.Evidence.{IsInductiveEvidence, IsRefuted}
+use Rattle.gates_theory.specs.Sizes.{IsTooLarge}
 use Rattle.clauses.specs.Literals.{clauses_within}
 use Rattle.clauses.specs.Logs.{LogEntry}
 use Rattle.clauses.specs.declared.flat.TheConstants.{MOST_VARIABLES}
@@ -46,7 +46,7 @@ use Rattle.reach.specs.Answers as reached
 use Rattle.reach.specs.Formulas.{clauses_of, variables_of}
 use Rattle.reach_frames.specs.declared.stop.ReachQuery as asked
 use Rattle.reach_frames.specs.declared.stop.ReachQuery.TheVariants as queries
-use Rattle.work_limits.specs.Sized.{IsSized, bulk_of}
+use Rattle.owed.specs.Sized.{IsSized, bulk_of}
 use Rattle.findings.specs.Assertions.{IsAssertionOf}
 use Rattle.findings.specs.Entries.{IsPassedText}
 use Rattle.findings.proofs.Certified.{drops-live, less-work, no-fault}

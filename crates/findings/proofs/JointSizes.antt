@@ -6,14 +6,14 @@ use Rattle.std.proofs.lemmas.List.{length-replicate}
 use Rattle.std.proofs.lemmas.List.FromFn.{length-map-range_with_len}
 use Rattle.std.proofs.lemmas.List.Sums.{sum_by-append, sum_by-cons}
 use Rattle.alternating_theory.specs.Obligations.{Automaton}
-use Rattle.circuit_theory.proofs.Sizes.{words-append}
-use Rattle.circuit_theory.specs.Relations.{circuit_of}
-use Rattle.circuit_theory.specs.Sizes.{is_conjunction, IsTooLarge}
-use Rattle.circuit_theory.specs.Terms.{Term, built, built_all, term_size}
-use Rattle.circuit_theory.specs.Terms.Term.{Literal, Negation, Conjunction, Equality}
-use Rattle.circuit_theory.specs.Unrolled.{gate_clauses, gates_clauses, units}
-use Rattle.circuit_theory.specs.declared.circuit.Gate.{Gate}
-use Rattle.circuit_theory.specs.declared.circuit.Gate.TheVariants.{Free, And}
+use Rattle.gates_theory.proofs.Sizes.{words-append}
+use Rattle.gates_theory.specs.Relations.{circuit_of}
+use Rattle.gates_theory.specs.Sizes.{is_conjunction, IsTooLarge}
+use Rattle.gates_theory.specs.Terms.{Term, built, built_all, term_size}
+use Rattle.gates_theory.specs.Terms.Term.{Literal, Negation, Conjunction, Equality}
+use Rattle.gates_theory.specs.Unrolled.{gate_clauses, gates_clauses, units}
+use Rattle.gates_theory.specs.declared.circuit.Gate.{Gate}
+use Rattle.gates_theory.specs.declared.circuit.Gate.TheVariants.{Free, And}
 use Rattle.clauses.specs.Literals.{clause_words}
 use Rattle.clauses.specs.declared.flat.TheConstants.{MOST_VARIABLES, MOST_WORDS}
 use Rattle.joint_selectors.specs.Missed.{some_missed}

@@ -4,12 +4,12 @@ use Rattle.cert_check.specs.Claims.{asked_of, queries_of}
 use Rattle.cert_check.specs.Limits.{IsFault}
 use Rattle.cert_check.specs.declared.fault.CertFault.{CertFault}
 use Rattle.cert_check.specs.declared.fault.CertFault.TheVariants.{NoMemory}
-use Rattle.certificate.specs.Printed.{cert_text, inductive_text}
-use Rattle.certificate.specs.Texts.{IsAnswer}
-use Rattle.certificate.specs.declared.answer.CertAnswer.TheVariants.{Passed}
-use Rattle.certificate.specs.declared.certificate.Certificate.{Certificate}
-use Rattle.certificate.specs.declared.certificate.InductiveCert.{InductiveCert}
-use Rattle.certificate.specs.declared.header.Version.{Version}
+use Rattle.cert_theory.specs.Printed.{cert_text, inductive_text}
+use Rattle.cert_theory.specs.Texts.{IsAnswer}
+use Rattle.cert_theory.specs.declared.answer.CertAnswer.TheVariants.{Passed}
+use Rattle.cert_theory.specs.declared.certificate.Certificate.{Certificate}
+use Rattle.cert_theory.specs.declared.certificate.InductiveCert.{InductiveCert}
+use Rattle.cert_theory.specs.declared.header.Version.{Version}
 use Rattle.netlist.specs.Design.{Design}
 use Rattle.prover.specs.Findings.{IsFinding}
 use Rattle.prover.specs.declared.finding.Finding.TheVariants.{Proved, ProvedReach}

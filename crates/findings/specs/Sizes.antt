@@ -3,9 +3,9 @@ use Rattle.std.specs.Prelude.{◌≡◌, ℕ, true, List, Some, All, take, slice
 use Rattle.netlist.specs.Design.{Design}
 use Rattle.owed.specs.Owed.{is_assertion, plain_owed}
 use Rattle.psl_tree.specs.declared.directive.Directive.{Directive}
-use Rattle.work_limits.specs.Sized as sized
-use Rattle.work_limits.specs.Sized.{IsSized}
-use Rattle.work_limits.specs.declared.sizes.LimitFault.TheVariants as limits
+use Rattle.owed.specs.Sized as sized
+use Rattle.owed.specs.Sized.{IsSized}
+use Rattle.owed.specs.declared.limits.LimitFault.TheVariants as limits
 use Rattle.findings.specs.declared.sizes.SizeFault.{SizeFault}
 use Rattle.findings.specs.declared.sizes.SizeFault.TheVariants.{SereTooLarge, AutomatonTooLarge, UnrollTooLarge, NoMemory}
 

@@ -3,12 +3,12 @@ ghost use Rattle.std.specs.Prelude.{◌≡◌, ◌⊎◌, ℕ, List, Option, Res
 ghost use Rattle.cert_check.specs.Claims.{asked_of, queries_of};
 ghost use Rattle.cert_check.specs.Limits.{IsFault};
 ghost use Rattle.cert_check.specs.declared.fault.CertFault.{CertFault};
-ghost use Rattle.certificate.specs.Printed.{cert_text, inductive_text};
-ghost use Rattle.certificate.specs.Texts.{IsAnswer};
-ghost use Rattle.certificate.specs.declared.answer.CertAnswer.{CertAnswer};
-ghost use Rattle.certificate.specs.declared.certificate.Certificate.{Certificate};
-ghost use Rattle.certificate.specs.declared.certificate.InductiveCert.{InductiveCert};
-ghost use Rattle.certificate.specs.declared.header.Version.{Version};
+ghost use Rattle.cert_theory.specs.Printed.{cert_text, inductive_text};
+ghost use Rattle.cert_theory.specs.Texts.{IsAnswer};
+ghost use Rattle.cert_theory.specs.declared.answer.CertAnswer.{CertAnswer};
+ghost use Rattle.cert_theory.specs.declared.certificate.Certificate.{Certificate};
+ghost use Rattle.cert_theory.specs.declared.certificate.InductiveCert.{InductiveCert};
+ghost use Rattle.cert_theory.specs.declared.header.Version.{Version};
 ghost use Rattle.findings.specs.Entries.{IsEntry};
 ghost use Rattle.findings.specs.declared.entry.FindingEntry.{FindingEntry};
 ghost use Rattle.netlist.specs.Design.{Design};

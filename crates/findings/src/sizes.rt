@@ -5,12 +5,11 @@ ghost use Rattle.owed.specs.Sizes.{AreSizesOf};
 ghost use Rattle.psl_tree.specs.declared.directive.Directive.{Directive};
 
 use netlist::Netlist;
-use owed::{Size, assumed_size, is_assertion};
+use owed::{LimitFault, Size, assumed_size, check_sizes, is_assertion};
 use psl_base::{NoMemory, Place};
 use psl_tree::{Directive, Unit};
 use std::alloc::Global;
 use thiserror::Error;
-use work_limits::{LimitFault, check_sizes};
 
 /// Why the assertions of a text are not proved of a netlist.
 #[derive(Clone, Copy, Debug, PartialEq, Eq, Drop, Error)]

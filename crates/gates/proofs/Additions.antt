@@ -4,8 +4,8 @@ use Rattle.std.specs.Prelude.{Result}
 use Rattle.std.proofs.lemmas.List.{take-append-le, append-nil, length-take, take-take, take_all}
 use Rattle.clauses.specs.declared.flat.CnfFault.{CnfFault}
 use Rattle.clauses.specs.Literals.{clause_words}
-use Rattle.circuit_theory.proofs.Sizes.{words-append}
-use Rattle.circuit_theory.specs.Unrolled.{up_to}
+use Rattle.gates_theory.proofs.Sizes.{words-append}
+use Rattle.gates_theory.specs.Unrolled.{up_to}
 use Rattle.gates.proofs.Words.{words-up}
 use Rattle.gates.specs.Adding.{FitsWith, Adds}
 

@@ -3,8 +3,8 @@ use Rattle.std.proofs.Common.{◌≡◌, ℕ, zero, suc, ◌+◌, ◌<◌, ℤ, 
 use Rattle.std.specs.Bool.{IsTrue}
 use Rattle.std.proofs.lemmas.Bool.{and_parts}
 use Rattle.clauses.specs.Literals.{is_within, clause_within}
-use Rattle.circuit_theory.specs.Distinct.{difference, differences, following}
-use Rattle.circuit_theory.specs.Unrolled.{equality, links, moved}
+use Rattle.gates_theory.specs.Distinct.{difference, differences, following}
+use Rattle.gates_theory.specs.Unrolled.{equality, links, moved}
 
 pub links-drop : (base low : ℕ) (literals others : List ℤ) (i : ℕ) → i < length literals → length others ≡ length literals →
     links base low (drop i literals) (drop i others)

@@ -1,8 +1,8 @@
 -- Variables in use before the pairs of a position.
 use Rattle.std.proofs.Common.{ℕ, suc, ◌+◌, ◌*◌, ◌<◌, ◌≤◌, length, arith, mul-le-mul_right}
-use Rattle.circuit_theory.specs.declared.circuit.Circuit.{Circuit}
-use Rattle.circuit_theory.specs.Distinct.{pairs, variables_before}
-use Rattle.circuit_theory.proofs.Within.{pairs_more}
+use Rattle.gates_theory.specs.declared.circuit.Circuit.{Circuit}
+use Rattle.gates_theory.specs.Distinct.{pairs, variables_before}
+use Rattle.gates_theory.proofs.Within.{pairs_more}
 
 pub rows-more : (c : Circuit) (variables later positions : ℕ) → later < positions → variables_before c variables 0 (suc later) ≤ variables_before c variables 0 positions
 rows-more c variables later positions below =

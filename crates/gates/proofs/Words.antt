@@ -3,10 +3,10 @@ use Rattle.std.proofs.Common.{◌≡◌, inl, inr, ℕ, zero, suc, ◌+◌, ◌-
 use Rattle.std.proofs.lemmas.Bool.{cases_lt}
 use Rattle.clauses.specs.declared.flat.TheConstants.{MOST_VARIABLES, MOST_WORDS}
 use Rattle.clauses.specs.Literals.{clause_words}
-use Rattle.circuit_theory.specs.declared.circuit.Circuit.{Circuit}
-use Rattle.circuit_theory.specs.Unrolled.{up_to}
-use Rattle.circuit_theory.specs.Distinct.{pairs, distinct}
-use Rattle.circuit_theory.proofs.Sizes.{words-append, distinct-words}
+use Rattle.gates_theory.specs.declared.circuit.Circuit.{Circuit}
+use Rattle.gates_theory.specs.Unrolled.{up_to}
+use Rattle.gates_theory.specs.Distinct.{pairs, distinct}
+use Rattle.gates_theory.proofs.Sizes.{words-append, distinct-words}
 use Rattle.gates.specs.Adding.{FitsWith}
 
 -- fewer lists have no more words

@@ -3,8 +3,8 @@ use Rattle.std.specs.Prelude.{◌≡◌, ◌≤◌, ℕ, ℤ, List, [], ◌∷�
 use Rattle.clauses.specs.declared.flat.CnfFault.{CnfFault}
 use Rattle.clauses.specs.declared.flat.TheConstants.{MOST_VARIABLES, MOST_WORDS}
 use Rattle.clauses.specs.Literals.{clause_words}
-use Rattle.circuit_theory.specs.declared.circuit.Circuit.{Circuit}
-use Rattle.circuit_theory.specs.Distinct.{differences, following}
+use Rattle.gates_theory.specs.declared.circuit.Circuit.{Circuit}
+use Rattle.gates_theory.specs.Distinct.{differences, following}
 
 -- there may be so many words, with the clauses that are to be added
 pub record FitsWith (old more : List (List ℤ)) : Type 0 where

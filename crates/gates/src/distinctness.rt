@@ -2,15 +2,15 @@
 ghost use Rattle.std.specs.Prelude.{◌≡◌, ◌++◌, ◌*◌, ◌≤◌, ◌↔◌, ℕ, length, Err, OnOk, OnErr};
 ghost use Rattle.clauses.specs.declared.flat.CnfFault.{CnfFault};
 ghost use Rattle.clauses.specs.Models.{Assignment, IsModel};
-ghost use Rattle.circuit_theory.specs.Circuits.{AreDistinct, AreSame, IsSound};
-ghost use Rattle.circuit_theory.specs.Distinct as spec;
-ghost use Rattle.circuit_theory.specs.Sizes.{distinct_variables as variables_of, IsTooLarge};
-ghost use Rattle.circuit_theory.specs.Unrolled.{positions_of};
+ghost use Rattle.gates_theory.specs.Circuits.{AreDistinct, AreSame, IsSound};
+ghost use Rattle.gates_theory.specs.Distinct as spec;
+ghost use Rattle.gates_theory.specs.Sizes.{distinct_variables as variables_of, IsTooLarge};
+ghost use Rattle.gates_theory.specs.Unrolled.{positions_of};
 
 use crate::sizes::distinct_variables;
 use crate::states::add_states;
-use circuit_theory::Circuit;
 use clauses::{Cnf, CnfFault};
+use gates_theory::Circuit;
 use std::alloc::Global;
 
 /// Adds to a formula that the states of a circuit at the first so many positions are different: a variable for each

@@ -1,7 +1,7 @@
 ghost use Rattle.std.specs.Prelude.{◌≡◌, ◌<◌, ◌≤◌, ◌+◌, pos, neg_ℤ, IsTrue};
 ghost use Rattle.clauses.specs.declared.flat.TheConstants.{MOST_VARIABLES};
 ghost use Rattle.clauses.specs.Literals.{is_within};
-ghost use Rattle.circuit_theory.specs.Unrolled as spec;
+ghost use Rattle.gates_theory.specs.Unrolled as spec;
 
 /// The literal of a variable.
 pub fn positive(variable: u32) -> i32

@@ -2,14 +2,14 @@
 ghost use Rattle.std.specs.Prelude.{◌≡◌, ◌+◌, ◌*◌, suc, ◌≤◌, neg_ℤ, length, IsTrue};
 ghost use Rattle.clauses.specs.declared.flat.TheConstants.{MOST_VARIABLES};
 ghost use Rattle.clauses.specs.Literals.{clause_within, is_within};
-ghost use Rattle.circuit_theory.specs.Circuits.{gate_within, gates_within, IsSound};
-ghost use Rattle.circuit_theory.specs.Unrolled.{conjunction, equality, gate_clauses, gates_clauses, links, position_clauses, units};
+ghost use Rattle.gates_theory.specs.Circuits.{gate_within, gates_within, IsSound};
+ghost use Rattle.gates_theory.specs.Unrolled.{conjunction, equality, gate_clauses, gates_clauses, links, position_clauses, units};
 ghost use Rattle.gates.specs.Adding.{Adds, FitsWith};
 
 use crate::adding::{add_1, add_2, add_3};
 use crate::literals::{moved, negated, positive};
-use circuit_theory::{Circuit, Gate};
 use clauses::{Clauses, CnfFault};
+use gates_theory::{Circuit, Gate};
 
 /// A literal is the conjunction of two others.
 fn add_conjunction(

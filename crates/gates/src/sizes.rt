@@ -1,15 +1,15 @@
 // How large the lists of clauses are, told before they are built.
 ghost use Rattle.std.specs.Prelude.{◌≡◌, ◌+◌, ◌-◌, ◌*◌, ◌<◌, ◌≤◌, ◌^◌, ◌++◌, length, count_by, IfOk, IfErr, OnOk};
 ghost use Rattle.clauses.specs.declared.flat.CnfFault.{CnfFault};
-ghost use Rattle.circuit_theory.specs.Circuits.{IsSound};
-ghost use Rattle.circuit_theory.specs.Distinct.{distinct, pairs as pairs_below};
-ghost use Rattle.circuit_theory.specs.Sizes as spec;
-ghost use Rattle.circuit_theory.specs.Sizes.{is_conjunction, IsTooLarge};
-ghost use Rattle.circuit_theory.specs.Unrolled.{unrolled};
+ghost use Rattle.gates_theory.specs.Circuits.{IsSound};
+ghost use Rattle.gates_theory.specs.Distinct.{distinct, pairs as pairs_below};
+ghost use Rattle.gates_theory.specs.Sizes as spec;
+ghost use Rattle.gates_theory.specs.Sizes.{is_conjunction, IsTooLarge};
+ghost use Rattle.gates_theory.specs.Unrolled.{unrolled};
 ghost use Rattle.gates.specs.Adding.{AreFew};
 
-use circuit_theory::{Circuit, Gate};
 use clauses::{Cnf, CnfFault, MOST_VARIABLES, MOST_WORDS};
+use gates_theory::{Circuit, Gate};
 
 /// How many gates are conjunctions.
 fn conjunctions(gates: &[Gate]) -> usize

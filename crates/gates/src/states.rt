@@ -3,16 +3,16 @@ ghost use Rattle.std.specs.Prelude.{◌≡◌, [], ◌∷◌, ◌++◌, ◌+◌,
 ghost use Rattle.clauses.specs.declared.flat.CnfFault.{CnfFault};
 ghost use Rattle.clauses.specs.declared.flat.TheConstants.{MOST_VARIABLES};
 ghost use Rattle.clauses.specs.Literals.{clause_within, is_within};
-ghost use Rattle.circuit_theory.specs.Circuits.{IsSound};
-ghost use Rattle.circuit_theory.specs.Distinct as spec;
-ghost use Rattle.circuit_theory.specs.Distinct.{difference, differences, following, pair_clauses, row_clauses, variables_before};
+ghost use Rattle.gates_theory.specs.Circuits.{IsSound};
+ghost use Rattle.gates_theory.specs.Distinct as spec;
+ghost use Rattle.gates_theory.specs.Distinct.{difference, differences, following, pair_clauses, row_clauses, variables_before};
 ghost use Rattle.gates.specs.Adding.{Adds, FitsWith, pair_of};
 
 use crate::adding::{add, add_3};
 use crate::literals::{moved, negated, positive};
 use crate::sizes::pairs;
-use circuit_theory::Circuit;
 use clauses::{Clauses, CnfFault};
+use gates_theory::Circuit;
 
 /// The variables in use, and those before the gates of two positions.
 #[derive(Clone, Copy)]

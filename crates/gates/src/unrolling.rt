@@ -2,15 +2,15 @@
 ghost use Rattle.std.specs.Prelude.{◌≡◌, ◌≤◌, ◌↔◌, ℕ, Err, IfOk, IfErr};
 ghost use Rattle.clauses.specs.declared.flat.CnfFault.{CnfFault};
 ghost use Rattle.clauses.specs.Models.{Assignment, IsModel};
-ghost use Rattle.circuit_theory.specs.Circuits.{IsPath, IsSound};
-ghost use Rattle.circuit_theory.specs.Sizes.{unrolled_variables as variables_of, IsTooLarge};
-ghost use Rattle.circuit_theory.specs.Unrolled.{positions_of, unrolled};
+ghost use Rattle.gates_theory.specs.Circuits.{IsPath, IsSound};
+ghost use Rattle.gates_theory.specs.Sizes.{unrolled_variables as variables_of, IsTooLarge};
+ghost use Rattle.gates_theory.specs.Unrolled.{positions_of, unrolled};
 ghost use Rattle.gates.specs.Adding.{AreFew};
 
 use crate::parts::add_position;
 use crate::sizes::unrolled_variables;
-use circuit_theory::Circuit;
 use clauses::{Clauses, Cnf, CnfFault};
+use gates_theory::Circuit;
 use std::alloc::Global;
 
 /// A circuit at so many positions as clauses. Gate k, counted from 1, of g gates is at the position i, counted from 0,

@@ -4,7 +4,7 @@ use Rattle.std.specs.Prelude.{slice_get}
 use Rattle.std.specs.Bool.{IsTrue}
 use Rattle.std.proofs.lemmas.Bool.{and_parts}
 use Rattle.clauses.specs.Literals.{clause_within, clauses_within, is_within}
-use Rattle.circuit_theory.specs.Unrolled.{moved}
+use Rattle.gates_theory.specs.Unrolled.{moved}
 use Rattle.joint_selectors.specs.Missed.{each_missed, missed}
 
 -- the clause of the first literal that is left

@@ -3,9 +3,9 @@ use Rattle.std.proofs.Common.{◌≡◌, inl, inr, refl, ap, ◌∙◌, ℕ, zer
 use Rattle.std.specs.Prelude.{slice_get, IsTrue}
 use Rattle.clauses.specs.declared.flat.TheConstants.{MOST_WORDS}
 use Rattle.clauses.specs.Literals.{clause_within, clause_words, is_within}
-use Rattle.circuit_theory.specs.Sizes.{IsTooLarge}
-use Rattle.circuit_theory.proofs.Sizes.{words-append}
-use Rattle.circuit_theory.proofs.Within.{negated_within}
+use Rattle.gates_theory.specs.Sizes.{IsTooLarge}
+use Rattle.gates_theory.proofs.Sizes.{words-append}
+use Rattle.gates_theory.proofs.Within.{negated_within}
 use Rattle.joint_theory.proofs.Parts.{all-weaker, map-parts}
 
 abbrev pub Clauses : Type 0

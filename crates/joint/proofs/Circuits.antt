@@ -3,12 +3,12 @@ use Rattle.std.proofs.Common.{◌≡◌, ℕ, suc, ◌+◌, ◌<◌, ℤ, negsuc
 use Rattle.std.proofs.lemmas.List.{length-replicate}
 use Rattle.std.proofs.lemmas.List.Sums.{sum_by-append, sum_by-cons}
 use Rattle.alternating_theory.specs.Obligations.{Automaton}
-use Rattle.circuit_theory.specs.declared.circuit.Circuit.{Circuit}
-use Rattle.circuit_theory.specs.declared.circuit.Gate.{Gate}
-use Rattle.circuit_theory.specs.declared.circuit.Gate.TheVariants.{Free, And}
-use Rattle.circuit_theory.specs.Distinct.{following}
-use Rattle.circuit_theory.specs.Terms.{Term, built, built_all, term_size}
-use Rattle.circuit_theory.specs.Terms.Term.{Literal, Negation, Conjunction, Equality}
+use Rattle.gates_theory.specs.declared.circuit.Circuit.{Circuit}
+use Rattle.gates_theory.specs.declared.circuit.Gate.{Gate}
+use Rattle.gates_theory.specs.declared.circuit.Gate.TheVariants.{Free, And}
+use Rattle.gates_theory.specs.Distinct.{following}
+use Rattle.gates_theory.specs.Terms.{Term, built, built_all, term_size}
+use Rattle.gates_theory.specs.Terms.Term.{Literal, Negation, Conjunction, Equality}
 use Rattle.clauses.specs.declared.flat.CnfFault.{CnfFault}
 use Rattle.clauses.specs.declared.flat.TheConstants.{MOST_VARIABLES}
 use Rattle.netlist.specs.Design.{Design}

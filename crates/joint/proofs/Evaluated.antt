@@ -6,12 +6,12 @@ use Rattle.std.proofs.lemmas.Bool.{and_from, and_parts}
 use Rattle.std.proofs.lemmas.List.{get_or_append_left, get_or-append-add, length-take, take_more}
 use Rattle.clauses.specs.Literals.{is_within}
 use Rattle.clauses.specs.Models.{is_true}
-use Rattle.circuit_theory.specs.declared.circuit.Gate.{Gate}
-use Rattle.circuit_theory.specs.declared.circuit.Gate.TheVariants.{Free, And}
-use Rattle.circuit_theory.specs.Circuits.{gate_holds, gate_within, gates_hold, gates_within, AreSame}
-use Rattle.circuit_theory.proofs.Agreement.{same-gates, same-literal}
-use Rattle.circuit_theory.proofs.Parts.{same-from}
-use Rattle.circuit_theory.proofs.TermValues.{gates_hold-append}
+use Rattle.gates_theory.specs.declared.circuit.Gate.{Gate}
+use Rattle.gates_theory.specs.declared.circuit.Gate.TheVariants.{Free, And}
+use Rattle.gates_theory.specs.Circuits.{gate_holds, gate_within, gates_hold, gates_within, AreSame}
+use Rattle.gates_theory.proofs.Agreement.{same-gates, same-literal}
+use Rattle.gates_theory.proofs.Parts.{same-from}
+use Rattle.gates_theory.proofs.TermValues.{gates_hold-append}
 use Rattle.run_terms.specs.Formulas.{values_of}
 use Rattle.joint.specs.Values.{gate_value}
 

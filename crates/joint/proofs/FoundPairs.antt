@@ -5,13 +5,13 @@ use Rattle.std.specs.List.{list_all}
 use Rattle.std.proofs.lemmas.List.{ext_get_or}
 use Rattle.alternating_theory.specs.Obligations.{Automaton}
 use Rattle.clauses.specs.Models.{Assignment, IsModel, is_true, meets}
-use Rattle.circuit_theory.specs.declared.circuit.Circuit.{Circuit}
-use Rattle.circuit_theory.specs.Circuits.{gates_hold}
-use Rattle.circuit_theory.specs.Relations.{circuit_of}
-use Rattle.circuit_theory.specs.Unrolled.{units, unrolled}
-use Rattle.circuit_theory.proofs.Chains.{relation-sound}
-use Rattle.circuit_theory.proofs.Models.{path-model}
-use Rattle.circuit_theory.proofs.Parts.{units-met}
+use Rattle.gates_theory.specs.declared.circuit.Circuit.{Circuit}
+use Rattle.gates_theory.specs.Circuits.{gates_hold}
+use Rattle.gates_theory.specs.Relations.{circuit_of}
+use Rattle.gates_theory.specs.Unrolled.{units, unrolled}
+use Rattle.gates_theory.proofs.Chains.{relation-sound}
+use Rattle.gates_theory.proofs.Models.{path-model}
+use Rattle.gates_theory.proofs.Parts.{units-met}
 use Rattle.netlist.specs.Design.{Design}
 use Rattle.netlist.specs.Sound as netlists
 use Rattle.run_terms.specs.Automata as automata

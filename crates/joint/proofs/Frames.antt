@@ -2,9 +2,9 @@
 use Rattle.std.proofs.Common.{◌≡◌, ◌+◌, ℤ, List, [], ◌∷◌, Ok, Err, refl, sym, ap, ◌∙◌, pos, arith}
 use Rattle.std.specs.Prelude.{Result}
 use Rattle.clauses.specs.declared.flat.CnfFault.{CnfFault}
-use Rattle.circuit_theory.specs.declared.circuit.Gate.{Gate}
-use Rattle.circuit_theory.specs.Terms.{Term, Built, built, term_size}
-use Rattle.circuit_theory.specs.Terms.Term.{Literal, Equality}
+use Rattle.gates_theory.specs.declared.circuit.Gate.{Gate}
+use Rattle.gates_theory.specs.Terms.{Term, Built, built, term_size}
+use Rattle.gates_theory.specs.Terms.Term.{Literal, Equality}
 use Rattle.run_gates.specs.Building.{Builds, BuildsAll, Holding, Holds}
 use Rattle.run_gates.proofs.Terms.{held-end, held-hold, held-init, held-step, held-term}
 use Rattle.run_terms.specs.Booleans.{either}

@@ -4,8 +4,8 @@ use Rattle.std.specs.Prelude.{filter, flat_map, slice_get}
 use Rattle.std.specs.List.{range_with_len}
 use Rattle.std.proofs.lemmas.List.Concat.{flat_map-cons}
 use Rattle.clauses.specs.declared.flat.CnfFault.{CnfFault}
-use Rattle.circuit_theory.specs.declared.circuit.Gate.{Gate}
-use Rattle.circuit_theory.specs.Terms.{Term}
+use Rattle.gates_theory.specs.declared.circuit.Gate.{Gate}
+use Rattle.gates_theory.specs.Terms.{Term}
 use Rattle.run_gates.specs.Building.{BuildsAll, Holding}
 use Rattle.run_gates.proofs.Terms.{all-first, all-then, held-end, held-init}
 use Rattle.joint.specs.Kept.{kept_term, terms_of}

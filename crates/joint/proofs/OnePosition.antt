@@ -1,13 +1,13 @@
 -- Circuits of one position: how many gates they have where there are too many, and that they are sound.
 use Rattle.std.proofs.Common.{◌≡◌, ℕ, ◌<◌, ◌≤◌, List, [], length, replicate, None, Err, sym, ap, ◌∙◌, subst, arith}
 use Rattle.std.proofs.lemmas.List.{length-replicate}
-use Rattle.circuit_theory.specs.declared.circuit.Circuit.{Circuit}
-use Rattle.circuit_theory.specs.declared.circuit.Gate.{Gate}
-use Rattle.circuit_theory.specs.declared.circuit.Gate.TheVariants.{Free}
-use Rattle.circuit_theory.specs.Circuits.{IsSound}
-use Rattle.circuit_theory.specs.Relations.{circuit_of, variables_of, IsClosed, Relation}
-use Rattle.circuit_theory.specs.Terms.{Term, built_all}
-use Rattle.circuit_theory.proofs.Chains.{relation-sound}
+use Rattle.gates_theory.specs.declared.circuit.Circuit.{Circuit}
+use Rattle.gates_theory.specs.declared.circuit.Gate.{Gate}
+use Rattle.gates_theory.specs.declared.circuit.Gate.TheVariants.{Free}
+use Rattle.gates_theory.specs.Circuits.{IsSound}
+use Rattle.gates_theory.specs.Relations.{circuit_of, variables_of, IsClosed, Relation}
+use Rattle.gates_theory.specs.Terms.{Term, built_all}
+use Rattle.gates_theory.proofs.Chains.{relation-sound}
 use Rattle.clauses.specs.declared.flat.CnfFault.{CnfFault}
 use Rattle.clauses.specs.declared.flat.TheConstants.{MOST_VARIABLES}
 use Rattle.run_gates.specs.Building.{kept_all, BuildsAll, Holding}

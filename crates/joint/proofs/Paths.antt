@@ -4,7 +4,7 @@ use Rattle.std.specs.Prelude.{if◌then◌else◌, IfOk}
 use Rattle.std.proofs.lemmas.List.FromFn.{length-map-range_with_len}
 use Rattle.alternating_theory.specs.Obligations.{Automaton}
 use Rattle.clauses.specs.Models.{Assignment, is_true}
-use Rattle.circuit_theory.specs.Unrolled.{positions_of}
+use Rattle.gates_theory.specs.Unrolled.{positions_of}
 use Rattle.netlist.specs.Design.{Design}
 use Rattle.run_terms.specs.Formulas.{values_of}
 use Rattle.joint_theory.specs.Bits.{joint_width, state_in}

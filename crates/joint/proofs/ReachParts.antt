@@ -1,7 +1,7 @@
 -- The formulas of reachability as those of a state or of a pair and what is added to them.
 use Rattle.std.proofs.Common.{◌≡◌, ◌∙◌, ap, ℕ, ◌+◌, ◌-◌, ℤ, neg_ℤ, Bool as Truth, List, [], ◌∷◌, ◌++◌, map, length, append_assoc, arith}
 use Rattle.alternating_theory.specs.Obligations.{Automaton}
-use Rattle.circuit_theory.specs.Unrolled.{units}
+use Rattle.gates_theory.specs.Unrolled.{units}
 use Rattle.joint_selectors.specs.Missed.{some_missed}
 use Rattle.joint_theory.specs.Bits.{bad_bit, joint_width}
 use Rattle.joint_theory.specs.Queries.{start_literals}

@@ -5,7 +5,7 @@ use Rattle.std.specs.List.{range_with_len}
 use Rattle.std.proofs.lemmas.List.Elements.{filter_agree}
 use Rattle.std.proofs.lemmas.List.Sums.{sum_by-cons}
 use Rattle.std.proofs.lemmas.List.FromFn.{map-range_with_len_more}
-use Rattle.circuit_theory.specs.Unrolled.{positions_of}
+use Rattle.gates_theory.specs.Unrolled.{positions_of}
 use Rattle.joint_theory.specs.Queries.{joint_circuit, joint_size, path_in}
 use Rattle.alternating_theory.specs.Obligations.{Automaton}
 use Rattle.clauses.specs.Models.{Assignment, is_true}

@@ -2,10 +2,10 @@
 use Rattle.std.proofs.Common.{◌≡◌, ◌∙◌, refl, ap, subst, ℕ, zero, suc, ◌*◌, ℤ, pos, neg_ℤ, List, [], ◌∷◌, ◌++◌, map, length}
 use Rattle.std.specs.List.{range_with_len}
 use Rattle.alternating_theory.specs.Obligations.{Automaton}
-use Rattle.circuit_theory.specs.declared.circuit.Circuit.{Circuit}
-use Rattle.circuit_theory.specs.Distinct.{distinct}
-use Rattle.circuit_theory.specs.Sizes.{IsTooLarge}
-use Rattle.circuit_theory.specs.Unrolled.{moved, units}
+use Rattle.gates_theory.specs.declared.circuit.Circuit.{Circuit}
+use Rattle.gates_theory.specs.Distinct.{distinct}
+use Rattle.gates_theory.specs.Sizes.{IsTooLarge}
+use Rattle.gates_theory.specs.Unrolled.{moved, units}
 use Rattle.netlist.specs.Design.{Design}
 use Rattle.run_formulas.specs.Adding.{held_to}
 use Rattle.run_formulas.specs.Windows as windows

@@ -1,6 +1,6 @@
 -- Terms of what is kept, one for each number or element.
 use Rattle.std.specs.Prelude.{Bool as Truth, if◌then◌else◌, List, [], ◌∷◌, Option, None, Some}
-use Rattle.circuit_theory.specs.Terms.{Term}
+use Rattle.gates_theory.specs.Terms.{Term}
 
 -- the term of what is kept, and none of what is not
 abbrev pub kept_term : {A : Type 0} → (A → Truth) → (A → Term) → A → List Term

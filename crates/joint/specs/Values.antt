@@ -1,8 +1,8 @@
 -- The values of gates, and the states whose bits they are.
 use Rattle.std.specs.Prelude.{◌≡◌, ℕ, Bool as Truth, ◌&&◌, List}
 use Rattle.alternating_theory.specs.Obligations.{Automaton}
-use Rattle.circuit_theory.specs.declared.circuit.Gate.{Gate}
-use Rattle.circuit_theory.specs.declared.circuit.Gate.TheVariants.{Free, And}
+use Rattle.gates_theory.specs.declared.circuit.Gate.{Gate}
+use Rattle.gates_theory.specs.declared.circuit.Gate.TheVariants.{Free, And}
 use Rattle.clauses.specs.Models.{Assignment, is_true}
 use Rattle.netlist.specs.Design.{Design}
 use Rattle.joint_theory.specs.Bits.{state_bits}

@@ -1,7 +1,7 @@
 // The circuit of the joint states.
 ghost use Rattle.std.specs.Prelude.{◌≡◌, ◌+◌, ◌<◌, ◌≤◌, length, IfOk, IfErr};
 ghost use Rattle.alternating_theory.specs.Atoms.{AtomsOfObligations};
-ghost use Rattle.circuit_theory.specs.Distinct as distinct;
+ghost use Rattle.gates_theory.specs.Distinct as distinct;
 ghost use Rattle.clauses.specs.declared.flat.CnfFault.{CnfFault};
 ghost use Rattle.clauses.specs.declared.flat.TheConstants.{MOST_VARIABLES};
 ghost use Rattle.joint_theory.specs.Queries as spec;
@@ -9,8 +9,8 @@ ghost use Rattle.joint_theory.specs.Queries as spec;
 use crate::product::Product;
 use crate::state::add_state;
 use crate::step::add_step;
-use circuit_theory::Circuit;
 use clauses::CnfFault;
+use gates_theory::Circuit;
 use psl_base::NoMemory;
 use run_formulas::following;
 use run_gates::{Builder, Held, negated};

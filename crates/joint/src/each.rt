@@ -1,7 +1,7 @@
 // One term for each of some numbers.
 ghost use Rattle.std.specs.Prelude.{ℕ, ◌<◌, ◌≤◌, map};
 ghost use Rattle.std.specs.List.{range_with_len};
-ghost use Rattle.circuit_theory.specs.Terms.{Term};
+ghost use Rattle.gates_theory.specs.Terms.{Term};
 ghost use Rattle.run_gates.specs.Building.{Builds, BuildsAll};
 
 use clauses::CnfFault;

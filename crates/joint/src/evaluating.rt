@@ -1,13 +1,13 @@
 // The values of gates, computed one behind another.
 ghost use Rattle.std.specs.Prelude.{◌≡◌, [], ◌∷◌, ◌++◌, length, IfOk, IsTrue};
 ghost use Rattle.std.specs.List.{list_all};
-ghost use Rattle.circuit_theory.specs.Circuits.{gate_within, gates_hold, gates_within};
+ghost use Rattle.gates_theory.specs.Circuits.{gate_within, gates_hold, gates_within};
 ghost use Rattle.clauses.specs.Literals.{clause_within, is_within};
 ghost use Rattle.clauses.specs.Models as models;
 ghost use Rattle.joint.specs.Values.{gate_value};
 ghost use Rattle.run_terms.specs.Formulas.{values_of};
 
-use circuit_theory::Gate;
+use gates_theory::Gate;
 use psl_base::{Bits, NoMemory};
 use std::alloc::Global;
 

@@ -1,6 +1,6 @@
 // What holds of each product and its circuit.
 ghost use Rattle.std.specs.Prelude.{◌≡◌, ◌<◌, ◌≤◌, length, IsTrue};
-ghost use Rattle.circuit_theory.specs.Circuits as circuits;
+ghost use Rattle.gates_theory.specs.Circuits as circuits;
 ghost use Rattle.clauses.specs.Literals.{clause_within, is_within};
 ghost use Rattle.joint_theory.specs.Bits.{bad_bit};
 ghost use Rattle.joint_theory.specs.Queries.{joint_circuit, start_literals};
@@ -8,7 +8,7 @@ ghost use Rattle.netlist.specs.Sound as netlists;
 ghost use Rattle.run_terms.specs.Automata.{IsSound, TestsSignals};
 
 use crate::product::Product;
-use circuit_theory::Circuit;
+use gates_theory::Circuit;
 use netlist::soundness_law;
 use run_gates::automaton_law;
 

@@ -1,7 +1,7 @@
 // The formulas of a joint state, and of a joint state and a neighbour, before anything is asked of them.
 ghost use Rattle.std.specs.Prelude.{◌≡◌, ◌+◌, ◌<◌, ◌≤◌, length, IfOk, IfErr};
-ghost use Rattle.circuit_theory.specs.Circuits as circuits;
-ghost use Rattle.circuit_theory.specs.Sizes.{IsTooLarge};
+ghost use Rattle.gates_theory.specs.Circuits as circuits;
+ghost use Rattle.gates_theory.specs.Sizes.{IsTooLarge};
 ghost use Rattle.clauses.specs.declared.flat.CnfFault.{CnfFault};
 ghost use Rattle.clauses.specs.declared.flat.TheConstants.{MOST_VARIABLES};
 ghost use Rattle.joint_theory.specs.Reaching as spec;
@@ -11,8 +11,8 @@ ghost use Rattle.run_terms.specs.Formulas.{whole};
 
 use crate::one_position::{one_state, two_states};
 use crate::product::Product;
-use circuit_theory::Circuit;
 use clauses::{Cnf, CnfFault, MOST_VARIABLES};
+use gates_theory::Circuit;
 use netlist::soundness_law;
 use run_formulas::held_to;
 use run_gates::automaton_law;

@@ -1,5 +1,5 @@
 use crate::product::Product;
-use circuit_theory::Circuit;
+use gates_theory::Circuit;
 use std::marker::Model;
 
 /// The joint states of a netlist and an automaton, up to a number of visits, as one circuit.

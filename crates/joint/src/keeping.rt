@@ -1,8 +1,8 @@
 // What is held for some numbers, where it is kept.
 ghost use Rattle.std.specs.Prelude.{◌≡◌, ℕ, ◌<◌, ◌≤◌, [], ◌∷◌, List, flat_map, IsTrue};
 ghost use Rattle.std.specs.List.{range_with_len};
-ghost use Rattle.circuit_theory.specs.Terms.{Term};
-ghost use Rattle.circuit_theory.specs.Terms.Term.{Literal, Equality};
+ghost use Rattle.gates_theory.specs.Terms.{Term};
+ghost use Rattle.gates_theory.specs.Terms.Term.{Literal, Equality};
 ghost use Rattle.clauses.specs.Literals.{is_literal};
 ghost use Rattle.joint_theory.specs.Sliced.{kept_by};
 ghost use Rattle.run_gates.specs.Building.{BuildsAll};

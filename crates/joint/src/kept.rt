@@ -1,6 +1,6 @@
 // What a slice of the signals keeps of the netlist's terms.
 ghost use Rattle.std.specs.Prelude.{◌≡◌, ◌+◌, ◌<◌, ◌≤◌, ⊤, length, map, slice_get, All};
-ghost use Rattle.circuit_theory.specs.Terms.{Term};
+ghost use Rattle.gates_theory.specs.Terms.{Term};
 ghost use Rattle.joint.specs.Kept.{kept_term, terms_of};
 ghost use Rattle.joint_theory.specs.Sliced as spec;
 ghost use Rattle.joint_theory.specs.Sliced.{earlier_term, kept_by, kept_latches, kept_signals, kept_tables, shift_term};

@@ -1,6 +1,6 @@
 // Gates of two literals, as terms.
 ghost use Rattle.std.specs.Prelude.{IsTrue};
-ghost use Rattle.circuit_theory.specs.Terms.Term.{Literal, Equality};
+ghost use Rattle.gates_theory.specs.Terms.Term.{Literal, Equality};
 ghost use Rattle.clauses.specs.Literals.{is_literal};
 ghost use Rattle.run_gates.specs.Building.{Builds};
 ghost use Rattle.run_terms.specs.Booleans as booleans;

@@ -1,6 +1,6 @@
 // What is asked of the bits of joint states, as clauses.
 ghost use Rattle.std.specs.Prelude.{◌≡◌, ◌≤◌, ◌∷◌, [], map, neg_ℤ, IfOk, IsTrue};
-ghost use Rattle.circuit_theory.specs.Unrolled.{units};
+ghost use Rattle.gates_theory.specs.Unrolled.{units};
 ghost use Rattle.clauses.specs.declared.flat.TheConstants.{MOST_VARIABLES};
 ghost use Rattle.clauses.specs.Literals.{clause_within, clauses_within};
 ghost use Rattle.joint_theory.specs.Queries as queries;
@@ -10,8 +10,8 @@ ghost use Rattle.run_terms.specs.Automata.{TestsSignals};
 
 use crate::product::Product;
 use crate::starts::start_literals;
-use circuit_theory::Literals;
 use clauses::{Clauses, Cnf, CnfFault};
+use gates_theory::Literals;
 use netlist::soundness_law;
 use psl_base::NoMemory;
 use run_formulas::{add_clause, add_units};

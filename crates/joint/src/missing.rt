@@ -2,7 +2,7 @@
 ghost use Rattle.std.specs.Prelude.{◌≡◌, ◌+◌, ◌<◌, ◌≤◌, negsuc, neg_ℤ, length, IsTrue};
 ghost use Rattle.clauses.specs.declared.flat.TheConstants.{MOST_VARIABLES};
 ghost use Rattle.clauses.specs.Literals.{clause_within, clauses_within, is_within};
-ghost use Rattle.circuit_theory.specs.Unrolled.{moved as higher};
+ghost use Rattle.gates_theory.specs.Unrolled.{moved as higher};
 ghost use Rattle.run_formulas.specs.Adding.{Adds};
 ghost use Rattle.joint_selectors.specs.Missed as spec;
 

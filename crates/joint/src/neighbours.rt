@@ -1,6 +1,6 @@
 // A test that two joint states are neighbours, by their bits.
 ghost use Rattle.std.specs.Prelude.{◌≡◌, ℕ, ◌+◌, ◌<◌, ◌≤◌, false, length, slice_index_or, IfOk, IfErr, IsTrue};
-ghost use Rattle.circuit_theory.specs.Relations as relations;
+ghost use Rattle.gates_theory.specs.Relations as relations;
 ghost use Rattle.clauses.specs.declared.flat.CnfFault.{CnfFault};
 ghost use Rattle.clauses.specs.declared.flat.TheConstants.{MOST_VARIABLES};
 ghost use Rattle.joint.specs.Values.{AreBitsOfNeighbours};
@@ -11,8 +11,8 @@ use crate::evaluating::{all_true, values_of_gates};
 use crate::joined::Joint;
 use crate::one_position::two_states;
 use crate::product::Product;
-use circuit_theory::Circuit;
 use clauses::CnfFault;
+use gates_theory::Circuit;
 use netlist::soundness_law;
 use psl_base::{Bits, NoMemory};
 use run_gates::automaton_law;

@@ -1,7 +1,7 @@
 // The circuits of a joint state without a next one, and of a joint state and a neighbour: they have one position.
 ghost use Rattle.std.specs.Prelude.{◌≡◌, ◌+◌, ◌<◌, ◌≤◌, ◌++◌, [], length, IfOk, IfErr};
 ghost use Rattle.alternating_theory.specs.Atoms.{AtomsOfObligations};
-ghost use Rattle.circuit_theory.specs.Relations as relations;
+ghost use Rattle.gates_theory.specs.Relations as relations;
 ghost use Rattle.clauses.specs.declared.flat.CnfFault.{CnfFault};
 ghost use Rattle.clauses.specs.declared.flat.TheConstants.{MOST_VARIABLES};
 ghost use Rattle.joint_theory.specs.Bits.{joint_width};
@@ -12,8 +12,8 @@ ghost use Rattle.run_gates.specs.Building.{BuildsAll};
 use crate::product::Product;
 use crate::state::add_state;
 use crate::step::add_step;
-use circuit_theory::{Circuit, Literals};
 use clauses::CnfFault;
+use gates_theory::{Circuit, Literals};
 use run_gates::{Builder, Held};
 use std::alloc::Global;
 

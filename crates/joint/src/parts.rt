@@ -8,7 +8,7 @@ ghost use Rattle.run_terms.specs.Automata.{TestsSignals};
 use crate::joined::Joint;
 use crate::starts::start_literals;
 use alternating::Alternating;
-use circuit_theory::Literals;
+use gates_theory::Literals;
 use netlist::{Netlist, soundness_law};
 use psl_base::NoMemory;
 use run_gates::automaton_law;

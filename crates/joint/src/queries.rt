@@ -1,6 +1,6 @@
 // The formulas that look for an open path of a window.
 ghost use Rattle.std.specs.Prelude.{◌≡◌, IfOk, IfErr};
-ghost use Rattle.circuit_theory.specs.Sizes.{IsTooLarge};
+ghost use Rattle.gates_theory.specs.Sizes.{IsTooLarge};
 ghost use Rattle.clauses.specs.declared.flat.CnfFault.{CnfFault};
 ghost use Rattle.joint_theory.specs.Queries as spec;
 ghost use Rattle.joint_theory.specs.Queries.{base_variables, induction_variables, joint_circuit};
@@ -9,8 +9,8 @@ ghost use Rattle.run_terms.specs.Automata.{TestsSignals};
 use crate::facts::circuit_is_sound;
 use crate::product::Product;
 use crate::starts::start_literals;
-use circuit_theory::Circuit;
 use clauses::{Cnf, CnfFault};
+use gates_theory::Circuit;
 use psl_base::NoMemory;
 use run_formulas::{base, induction};
 use std::alloc::Global;

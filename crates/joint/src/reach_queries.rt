@@ -1,7 +1,7 @@
 // The formulas of reachability.
 ghost use Rattle.std.specs.Prelude.{◌≡◌, ◌+◌, ◌-◌, ◌≤◌, ◌∷◌, [], ◌++◌, map, neg_ℤ, length, IfOk, IfErr, IsTrue};
-ghost use Rattle.circuit_theory.specs.Sizes.{IsTooLarge};
-ghost use Rattle.circuit_theory.specs.Unrolled.{units};
+ghost use Rattle.gates_theory.specs.Sizes.{IsTooLarge};
+ghost use Rattle.gates_theory.specs.Unrolled.{units};
 ghost use Rattle.clauses.specs.declared.flat.CnfFault.{CnfFault};
 ghost use Rattle.clauses.specs.Literals.{clause_within, clauses_within};
 ghost use Rattle.joint_selectors.specs.Missed.{some_missed};

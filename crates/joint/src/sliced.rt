@@ -1,9 +1,9 @@
 // The formula of two neighbours over a slice of the signals.
 ghost use Rattle.std.specs.Prelude.{◌≡◌, ◌+◌, ◌<◌, ◌≤◌, ◌++◌, [], ◌∷◌, length, IfOk, IfErr};
 ghost use Rattle.alternating_theory.specs.Atoms.{AtomsOfObligations};
-ghost use Rattle.circuit_theory.specs.Relations as relations;
-ghost use Rattle.circuit_theory.specs.Sizes.{IsTooLarge};
-ghost use Rattle.circuit_theory.specs.Terms.Term.{Literal};
+ghost use Rattle.gates_theory.specs.Relations as relations;
+ghost use Rattle.gates_theory.specs.Sizes.{IsTooLarge};
+ghost use Rattle.gates_theory.specs.Terms.Term.{Literal};
 ghost use Rattle.clauses.specs.declared.flat.CnfFault.{CnfFault};
 ghost use Rattle.clauses.specs.declared.flat.TheConstants.{MOST_VARIABLES};
 ghost use Rattle.joint_theory.specs.Sliced as spec;
@@ -23,8 +23,8 @@ use crate::slice::Slice;
 use crate::state::add_own;
 use crate::step::{add_asked_terms, add_breakpoint};
 use crate::support::add_support;
-use circuit_theory::Circuit;
 use clauses::{Cnf, CnfFault};
+use gates_theory::Circuit;
 use netlist::soundness_law;
 use run_formulas::held_to;
 use run_gates::{Builder, Held, automaton_law};

@@ -7,7 +7,7 @@ ghost use Rattle.joint_theory.specs.Queries as spec;
 ghost use Rattle.joint_theory.specs.States.{is_listed, not_accepting};
 
 use crate::product::Product;
-use circuit_theory::Literals;
+use gates_theory::Literals;
 use psl_base::NoMemory;
 use run_gates::{first_literals, negated, netlist_law};
 use std::alloc::Global;

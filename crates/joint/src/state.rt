@@ -1,6 +1,6 @@
 // What holds of the bits of each joint state.
 ghost use Rattle.std.specs.Prelude.{suc, ◌<◌, ◌≤◌};
-ghost use Rattle.circuit_theory.specs.Terms.Term.{Literal};
+ghost use Rattle.gates_theory.specs.Terms.Term.{Literal};
 ghost use Rattle.joint_theory.specs.Bits.{count_bit, count_of};
 ghost use Rattle.joint_theory.specs.Relation as spec;
 ghost use Rattle.joint_theory.specs.Sliced.{own_terms};

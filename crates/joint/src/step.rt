@@ -1,7 +1,7 @@
 // What a joint state asks of the one that follows it.
 ghost use Rattle.std.specs.Prelude.{◌≡◌, suc, ◌<◌, ◌≤◌, ⊤, ◌∷◌, [], IsTrue, All, IfOk};
 ghost use Rattle.alternating_theory.specs.Atoms.{AtomsOfObligations};
-ghost use Rattle.circuit_theory.specs.Terms.Term.{Literal};
+ghost use Rattle.gates_theory.specs.Terms.Term.{Literal};
 ghost use Rattle.clauses.specs.Literals.{is_literal};
 ghost use Rattle.joint_theory.specs.Bits.{count_of, owed_bit};
 ghost use Rattle.joint_theory.specs.Relation as spec;
@@ -13,8 +13,8 @@ use crate::each::{Asking, add_each};
 use crate::literals::{add_implied, add_one, add_same};
 use crate::product::Product;
 use crate::support::add_support;
-use circuit_theory::Literals;
 use clauses::CnfFault;
+use gates_theory::Literals;
 use psl_base::NoMemory;
 use run_gates::{Builder, Held, Owing, add_all, add_moves, add_positive, negated, netlist_law};
 use std::alloc::Global;

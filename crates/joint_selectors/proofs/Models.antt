@@ -6,12 +6,12 @@ use Rattle.std.proofs.lemmas.Bool.{and_from, and_parts, both_ways, cond-false, c
 use Rattle.std.proofs.lemmas.List.Folds.{list_all-append}
 use Rattle.clauses.specs.Literals.{clause_within, clauses_within, is_within}
 use Rattle.clauses.specs.Models.{Assignment, IsModel, is_true, meets}
-use Rattle.circuit_theory.specs.Circuits.{AreSame}
-use Rattle.circuit_theory.specs.Distinct.{following}
-use Rattle.circuit_theory.specs.Unrolled.{moved}
-use Rattle.circuit_theory.proofs.Agreement.{same-fewer, same-meets, same-met, same-shifted}
-use Rattle.circuit_theory.proofs.Literals.{shifted, some_moved, true-moved, true-neg}
-use Rattle.circuit_theory.proofs.Parts.{meets_all}
+use Rattle.gates_theory.specs.Circuits.{AreSame}
+use Rattle.gates_theory.specs.Distinct.{following}
+use Rattle.gates_theory.specs.Unrolled.{moved}
+use Rattle.gates_theory.proofs.Agreement.{same-fewer, same-meets, same-met, same-shifted}
+use Rattle.gates_theory.proofs.Literals.{shifted, some_moved, true-moved, true-neg}
+use Rattle.gates_theory.proofs.Parts.{meets_all}
 use Rattle.joint_selectors.specs.Missed.{each_missed, missed, some_missed, MissesSome}
 
 -- a literal of a clause, the others, and the selector

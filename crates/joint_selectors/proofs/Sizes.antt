@@ -5,11 +5,11 @@ use Rattle.std.specs.List.{sum_by}
 use Rattle.std.proofs.lemmas.Bool.{and_from, and_parts}
 use Rattle.std.proofs.lemmas.List.Sums.{sum_by-cons}
 use Rattle.clauses.specs.Literals.{clause_within, clause_words, clauses_within, is_within}
-use Rattle.circuit_theory.specs.Distinct.{following}
-use Rattle.circuit_theory.specs.Unrolled.{moved}
-use Rattle.circuit_theory.proofs.Literals.{within_from}
-use Rattle.circuit_theory.proofs.Sizes.{words-append, words-cons}
-use Rattle.circuit_theory.proofs.Within.{both_within, following-within, moved_within, negated_within}
+use Rattle.gates_theory.specs.Distinct.{following}
+use Rattle.gates_theory.specs.Unrolled.{moved}
+use Rattle.gates_theory.proofs.Literals.{within_from}
+use Rattle.gates_theory.proofs.Sizes.{words-append, words-cons}
+use Rattle.gates_theory.proofs.Within.{both_within, following-within, moved_within, negated_within}
 use Rattle.joint_selectors.specs.Missed.{each_missed, missed, missed_words, some_missed}
 
 -- literals

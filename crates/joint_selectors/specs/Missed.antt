@@ -4,8 +4,8 @@
 use Rattle.std.specs.Prelude.{◌≡◌, ℕ, suc, ◌+◌, ◌*◌, ℤ, negsuc, neg_ℤ, Bool, false, List, [], ◌∷◌, ◌++◌, map, length, sum_by}
 use Rattle.std.specs.List.{list_all}
 use Rattle.clauses.specs.Models.{Assignment, meets}
-use Rattle.circuit_theory.specs.Distinct.{following}
-use Rattle.circuit_theory.specs.Unrolled.{moved}
+use Rattle.gates_theory.specs.Distinct.{following}
+use Rattle.gates_theory.specs.Unrolled.{moved}
 
 -- the selector behind so many variables is true only where each literal of a clause is false
 abbrev pub missed : ℕ → ℕ → List ℤ → List (List ℤ)

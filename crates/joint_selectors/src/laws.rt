@@ -2,7 +2,7 @@
 ghost use Rattle.std.specs.Prelude.{◌≡◌, ◌+◌, ◌≤◌, ℕ, ℤ, List, ◌++◌, length, IsTrue};
 ghost use Rattle.clauses.specs.Literals.{clause_words, clauses_within};
 ghost use Rattle.clauses.specs.Models.{Assignment, IsModel};
-ghost use Rattle.circuit_theory.specs.Circuits.{AreSame};
+ghost use Rattle.gates_theory.specs.Circuits.{AreSame};
 ghost use Rattle.joint_selectors.specs.Missed.{missed_words, some_missed, MissesSome};
 
 /// A law: with the clauses that some clause of a list is missed, the models of a formula are those that miss one of them,

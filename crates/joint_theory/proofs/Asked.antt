@@ -9,7 +9,7 @@ use Rattle.alternating_theory.specs.Obligations.{Automaton}
 use Rattle.alternating_theory.specs.Positive.{owes}
 use Rattle.clauses.specs.Literals.{variable_of}
 use Rattle.clauses.specs.Models.{Assignment, is_true}
-use Rattle.circuit_theory.proofs.Literals.{true-neg}
+use Rattle.gates_theory.proofs.Literals.{true-neg}
 use Rattle.joint_theory.specs.Bits.{count_of, numbers_of}
 use Rattle.joint_theory.specs.Relation.{askers}
 use Rattle.joint_theory.specs.States.{delta_of, is_asked, is_listed}

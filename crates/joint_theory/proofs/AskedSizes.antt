@@ -6,7 +6,7 @@ use Rattle.std.proofs.lemmas.Bool.{cases_eq, eq-eqb, ne_eqb}
 use Rattle.std.proofs.lemmas.List.Sums.{sum_by-cons}
 use Rattle.alternating_theory.specs.Obligations.{Automaton, Obligation, obligation_at}
 use Rattle.alternating_theory.specs.Positive.{Positive, Const, Holds, Owed, And, Or, owes}
-use Rattle.circuit_theory.specs.Terms.{Term, term_size}
+use Rattle.gates_theory.specs.Terms.{Term, term_size}
 use Rattle.run_terms.specs.Sizes.{constructors, positive_size, terms_size}
 use Rattle.joint_theory.specs.Bits.{numbers_of}
 use Rattle.joint_theory.specs.Relation.{askers}

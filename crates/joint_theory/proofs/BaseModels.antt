@@ -6,9 +6,9 @@ use Rattle.std.proofs.lemmas.Bool.{cases_lt, both_ways}
 use Rattle.std.proofs.lemmas.Option.{slice_get_within}
 use Rattle.alternating_theory.specs.Obligations.{Automaton}
 use Rattle.clauses.specs.Models.{Assignment, IsModel, is_true, meets}
-use Rattle.circuit_theory.specs.Unrolled.{positions_of, units}
-use Rattle.circuit_theory.proofs.Literals.{shifted}
-use Rattle.circuit_theory.proofs.Parts.{units-met}
+use Rattle.gates_theory.specs.Unrolled.{positions_of, units}
+use Rattle.gates_theory.proofs.Literals.{shifted}
+use Rattle.gates_theory.proofs.Parts.{units-met}
 use Rattle.netlist.specs.Design.{Design}
 use Rattle.netlist.specs.Sound as netlists
 use Rattle.run_terms.specs.Automata as automata

@@ -6,12 +6,12 @@ use Rattle.std.proofs.lemmas.Bool.{and_from}
 use Rattle.std.proofs.lemmas.List.FromFn.{get_or-map-range_with_len, length-map-range_with_len}
 use Rattle.clauses.specs.Literals.{clause_within, clauses_within, is_within}
 use Rattle.clauses.specs.Models.{Assignment, IsModel}
-use Rattle.circuit_theory.specs.Circuits.{AreSame}
-use Rattle.circuit_theory.specs.Relations.{circuit_of, IsClosed, Relation}
-use Rattle.circuit_theory.specs.Unrolled.{moved, units, unrolled}
-use Rattle.circuit_theory.proofs.Agreement.{same-met}
-use Rattle.circuit_theory.proofs.Chains.{relation-sound}
-use Rattle.circuit_theory.proofs.Within.{both_within, moved_within, unrolled-within}
+use Rattle.gates_theory.specs.Circuits.{AreSame}
+use Rattle.gates_theory.specs.Relations.{circuit_of, IsClosed, Relation}
+use Rattle.gates_theory.specs.Unrolled.{moved, units, unrolled}
+use Rattle.gates_theory.proofs.Agreement.{same-met}
+use Rattle.gates_theory.proofs.Chains.{relation-sound}
+use Rattle.gates_theory.proofs.Within.{both_within, moved_within, unrolled-within}
 use Rattle.run_terms.specs.Formulas.{values_of, whole}
 use Rattle.joint_theory.proofs.Parts.{all-weaker, map-parts}
 

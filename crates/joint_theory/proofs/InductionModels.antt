@@ -7,12 +7,12 @@ use Rattle.std.proofs.lemmas.Option.{slice_get-get_or}
 use Rattle.alternating_theory.specs.Obligations.{Automaton}
 use Rattle.clauses.specs.Literals.{variable_of}
 use Rattle.clauses.specs.Models.{Assignment, IsModel, is_true, meets}
-use Rattle.circuit_theory.specs.Circuits.{literal_values}
-use Rattle.circuit_theory.specs.Distinct.{following}
-use Rattle.circuit_theory.specs.Unrolled.{positions_of}
-use Rattle.circuit_theory.proofs.Chains.{relation-sound}
-use Rattle.circuit_theory.proofs.Filling.{distinct-extends, distinct-models}
-use Rattle.circuit_theory.proofs.Literals.{true-neg}
+use Rattle.gates_theory.specs.Circuits.{literal_values}
+use Rattle.gates_theory.specs.Distinct.{following}
+use Rattle.gates_theory.specs.Unrolled.{positions_of}
+use Rattle.gates_theory.proofs.Chains.{relation-sound}
+use Rattle.gates_theory.proofs.Filling.{distinct-extends, distinct-models}
+use Rattle.gates_theory.proofs.Literals.{true-neg}
 use Rattle.netlist.specs.Design.{Design}
 use Rattle.netlist.specs.Sound as netlists
 use Rattle.run_terms.specs.Automata as automata

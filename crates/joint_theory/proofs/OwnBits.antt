@@ -2,8 +2,8 @@
 use Rattle.std.proofs.Common.{◌≡◌, ap, ◌∙◌, ℕ, zero, suc, ◌+◌, ◌-◌, ◌<◌, false, get_or, arith}
 use Rattle.alternating_theory.specs.Obligations.{Automaton}
 use Rattle.clauses.specs.Models.{Assignment}
-use Rattle.circuit_theory.specs.Circuits.{AreSame}
-use Rattle.circuit_theory.proofs.Literals.{shifted}
+use Rattle.gates_theory.specs.Circuits.{AreSame}
+use Rattle.gates_theory.proofs.Literals.{shifted}
 use Rattle.netlist.specs.Design.{Design}
 use Rattle.joint_theory.specs.Bits.{joint_width, state_bits, AreBits}
 use Rattle.joint_theory.specs.Sets.{bits_of}

@@ -5,11 +5,11 @@ use Rattle.std.specs.List.{list_all}
 use Rattle.std.proofs.lemmas.List.{get_or_append_left, get_or-append-add, length-append}
 use Rattle.alternating_theory.specs.Obligations.{Automaton}
 use Rattle.clauses.specs.Models.{Assignment, IsModel}
-use Rattle.circuit_theory.specs.Circuits.{AreSame}
-use Rattle.circuit_theory.specs.Relations.{circuit_of, is_related, variables_of, IsClosed, Relation}
-use Rattle.circuit_theory.specs.Terms.{term_within, value}
-use Rattle.circuit_theory.proofs.Agreement.{same-fewer}
-use Rattle.circuit_theory.proofs.Literals.{shifted}
+use Rattle.gates_theory.specs.Circuits.{AreSame}
+use Rattle.gates_theory.specs.Relations.{circuit_of, is_related, variables_of, IsClosed, Relation}
+use Rattle.gates_theory.specs.Terms.{term_within, value}
+use Rattle.gates_theory.proofs.Agreement.{same-fewer}
+use Rattle.gates_theory.proofs.Literals.{shifted}
 use Rattle.netlist.specs.Design.{Design}
 use Rattle.netlist.specs.Sound as netlists
 use Rattle.run_terms.specs.Automata as automata

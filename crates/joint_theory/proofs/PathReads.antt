@@ -5,8 +5,8 @@ use Rattle.std.specs.List.{list_all}
 use Rattle.std.proofs.lemmas.Bool.{cases_Bool, cases_eq, cases_lt, both_ways, lt-ltb, ltb-true, not_from_false}
 use Rattle.alternating_theory.specs.Obligations.{Automaton}
 use Rattle.clauses.specs.Models.{Assignment, is_true}
-use Rattle.circuit_theory.specs.Terms.{Term, value}
-use Rattle.circuit_theory.proofs.Literals.{true-neg}
+use Rattle.gates_theory.specs.Terms.{Term, value}
+use Rattle.gates_theory.proofs.Literals.{true-neg}
 use Rattle.netlist.specs.Design.{Design}
 use Rattle.netlist.specs.Sound as netlists
 use Rattle.run_terms.specs.Automata as automata

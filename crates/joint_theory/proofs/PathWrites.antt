@@ -6,9 +6,9 @@ use Rattle.std.proofs.lemmas.Bool.{both_ways, not-true}
 use Rattle.std.proofs.lemmas.List.{get_or_append_left, get_or-append-add, length-append}
 use Rattle.alternating_theory.specs.Obligations.{Automaton}
 use Rattle.clauses.specs.Models.{Assignment, IsModel, is_true}
-use Rattle.circuit_theory.specs.Terms.{Term, value}
-use Rattle.circuit_theory.specs.Unrolled.{positions_of}
-use Rattle.circuit_theory.proofs.Literals.{true-neg}
+use Rattle.gates_theory.specs.Terms.{Term, value}
+use Rattle.gates_theory.specs.Unrolled.{positions_of}
+use Rattle.gates_theory.proofs.Literals.{true-neg}
 use Rattle.netlist.specs.Design.{Design}
 use Rattle.netlist.specs.Sound as netlists
 use Rattle.run_terms.specs.Automata as automata

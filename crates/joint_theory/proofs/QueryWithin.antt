@@ -5,10 +5,10 @@ use Rattle.std.specs.List.{range_with_len}
 use Rattle.std.proofs.lemmas.Bool.{and_from}
 use Rattle.alternating_theory.specs.Obligations.{Automaton}
 use Rattle.clauses.specs.Literals.{clause_within, clauses_within, is_within}
-use Rattle.circuit_theory.specs.Distinct.{distinct}
-use Rattle.circuit_theory.specs.Unrolled.{units}
-use Rattle.circuit_theory.proofs.Chains.{relation-sound}
-use Rattle.circuit_theory.proofs.Within.{both_within, distinct-all_within, moved_within, negated_within, wider_all}
+use Rattle.gates_theory.specs.Distinct.{distinct}
+use Rattle.gates_theory.specs.Unrolled.{units}
+use Rattle.gates_theory.proofs.Chains.{relation-sound}
+use Rattle.gates_theory.proofs.Within.{both_within, distinct-all_within, moved_within, negated_within, wider_all}
 use Rattle.netlist.specs.Design.{Design}
 use Rattle.netlist.specs.Sound as netlists
 use Rattle.run_terms.specs.Automata as automata

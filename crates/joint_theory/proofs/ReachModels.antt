@@ -7,11 +7,11 @@ use Rattle.std.proofs.lemmas.Bool.{and_parts, both_ways, not-true, not_from_fals
 use Rattle.alternating_theory.specs.Obligations.{Automaton}
 use Rattle.clauses.specs.Literals.{clause_within, clauses_within, is_within}
 use Rattle.clauses.specs.Models.{Assignment, IsModel, is_true, meets}
-use Rattle.circuit_theory.specs.Circuits.{AreSame}
-use Rattle.circuit_theory.specs.Unrolled.{units}
-use Rattle.circuit_theory.proofs.Agreement.{same-all, same-fewer, same-met, same-shifted, same-then}
-use Rattle.circuit_theory.proofs.Literals.{shifted, true-neg, within_is}
-use Rattle.circuit_theory.proofs.Parts.{units-met}
+use Rattle.gates_theory.specs.Circuits.{AreSame}
+use Rattle.gates_theory.specs.Unrolled.{units}
+use Rattle.gates_theory.proofs.Agreement.{same-all, same-fewer, same-met, same-shifted, same-then}
+use Rattle.gates_theory.proofs.Literals.{shifted, true-neg, within_is}
+use Rattle.gates_theory.proofs.Parts.{units-met}
 use Rattle.joint_selectors.specs.Missed.{values_from}
 use Rattle.joint_selectors.proofs.Models.{missed-extends, missed-model}
 use Rattle.netlist.specs.Design.{Design}

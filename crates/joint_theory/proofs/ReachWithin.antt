@@ -4,9 +4,9 @@ use Rattle.std.specs.Prelude.{IsTrue}
 use Rattle.std.proofs.lemmas.Bool.{and_from}
 use Rattle.alternating_theory.specs.Obligations.{Automaton}
 use Rattle.clauses.specs.Literals.{clause_within, clauses_within, is_within}
-use Rattle.circuit_theory.specs.Relations.{circuit_of, IsClosed, Relation}
-use Rattle.circuit_theory.specs.Unrolled.{units}
-use Rattle.circuit_theory.proofs.Within.{both_within, negated_within, wider, wider_all}
+use Rattle.gates_theory.specs.Relations.{circuit_of, IsClosed, Relation}
+use Rattle.gates_theory.specs.Unrolled.{units}
+use Rattle.gates_theory.proofs.Within.{both_within, negated_within, wider, wider_all}
 use Rattle.joint_selectors.specs.Missed.{some_missed}
 use Rattle.joint_selectors.proofs.Sizes.{some-within}
 use Rattle.netlist.specs.Design.{Design}

@@ -7,12 +7,12 @@ use Rattle.std.proofs.lemmas.List.Sums.{sum_by-append, sum_by-cons}
 use Rattle.std.proofs.Math.Nat.{mul-le-mul_left}
 use Rattle.alternating_theory.specs.Obligations.{Automaton, obligation_at}
 use Rattle.clauses.specs.Literals.{clause_words}
-use Rattle.circuit_theory.specs.Distinct.{distinct, pairs}
-use Rattle.circuit_theory.specs.Relations.{Relation}
-use Rattle.circuit_theory.specs.Terms.{Term, term_size}
-use Rattle.circuit_theory.specs.Terms.Term.{Literal}
-use Rattle.circuit_theory.specs.Unrolled.{units}
-use Rattle.circuit_theory.proofs.Sizes.{distinct-words, length-following, words-append, words-cons}
+use Rattle.gates_theory.specs.Distinct.{distinct, pairs}
+use Rattle.gates_theory.specs.Relations.{Relation}
+use Rattle.gates_theory.specs.Terms.{Term, term_size}
+use Rattle.gates_theory.specs.Terms.Term.{Literal}
+use Rattle.gates_theory.specs.Unrolled.{units}
+use Rattle.gates_theory.proofs.Sizes.{distinct-words, length-following, words-append, words-cons}
 use Rattle.netlist.specs.Design.{marks_of, Design}
 use Rattle.netlist.specs.Sound as netlists
 use Rattle.run_terms.specs.Automata as automata

@@ -6,10 +6,10 @@ use Rattle.std.proofs.lemmas.Bool.{and_from, and_parts}
 use Rattle.alternating_theory.specs.Obligations.{Automaton}
 use Rattle.clauses.specs.Literals.{clause_within, clauses_within}
 use Rattle.clauses.specs.Models.{Assignment, IsModel}
-use Rattle.circuit_theory.specs.Circuits.{AreSame}
-use Rattle.circuit_theory.specs.Relations.{variables_of, IsClosed}
-use Rattle.circuit_theory.specs.Terms.{term_within, value, Term}
-use Rattle.circuit_theory.specs.Terms.Term.{Literal}
+use Rattle.gates_theory.specs.Circuits.{AreSame}
+use Rattle.gates_theory.specs.Relations.{variables_of, IsClosed}
+use Rattle.gates_theory.specs.Terms.{term_within, value, Term}
+use Rattle.gates_theory.specs.Terms.Term.{Literal}
 use Rattle.joint_selectors.specs.Missed.{values_from}
 use Rattle.netlist.specs.Design.{Design}
 use Rattle.netlist.specs.Sound as netlists

@@ -8,9 +8,9 @@ use Rattle.std.proofs.lemmas.List.Kept.{IsStrictlyIncreasing-filter}
 use Rattle.alternating_theory.specs.Obligations.{Automaton}
 use Rattle.clauses.specs.Literals.{variable_of}
 use Rattle.clauses.specs.Models.{Assignment, is_true}
-use Rattle.circuit_theory.specs.Circuits.{same}
-use Rattle.circuit_theory.proofs.Literals.{true-neg}
-use Rattle.circuit_theory.proofs.Parts.{same-from, same-is}
+use Rattle.gates_theory.specs.Circuits.{same}
+use Rattle.gates_theory.proofs.Literals.{true-neg}
+use Rattle.gates_theory.proofs.Parts.{same-from, same-is}
 use Rattle.netlist.specs.Design.{Design}
 use Rattle.netlist.specs.Sound as netlists
 use Rattle.run_terms.specs.Automata as automata

@@ -7,8 +7,8 @@ use Rattle.std.proofs.lemmas.List.Elements.{All-filter, filter_passes}
 use Rattle.std.proofs.lemmas.List.FromFn.{length-range_with_len}
 use Rattle.std.proofs.lemmas.List.Sums.{count_by-le-length}
 use Rattle.clauses.specs.Models.{Assignment, is_true}
-use Rattle.circuit_theory.specs.Terms.{value}
-use Rattle.circuit_theory.specs.Terms.Term.{Literal, Negation}
+use Rattle.gates_theory.specs.Terms.{value}
+use Rattle.gates_theory.specs.Terms.Term.{Literal, Negation}
 use Rattle.alternating_theory.specs.Obligations.{Automaton}
 use Rattle.netlist.specs.Design.{Design}
 use Rattle.netlist.specs.Sound as netlists

@@ -10,11 +10,11 @@ use Rattle.alternating_theory.specs.Obligations.{Automaton, Obligation, obligati
 use Rattle.alternating_theory.specs.Positive.{met}
 use Rattle.alternating_theory.proofs.MetLaws.{met-same}
 use Rattle.clauses.specs.Models.{Assignment, is_true}
-use Rattle.circuit_theory.specs.Circuits.{same}
-use Rattle.circuit_theory.specs.Terms.{Term, value}
-use Rattle.circuit_theory.specs.Terms.Term.{Literal, Conjunction}
-use Rattle.circuit_theory.proofs.Literals.{true-neg}
-use Rattle.circuit_theory.proofs.Parts.{same-is, same-from}
+use Rattle.gates_theory.specs.Circuits.{same}
+use Rattle.gates_theory.specs.Terms.{Term, value}
+use Rattle.gates_theory.specs.Terms.Term.{Literal, Conjunction}
+use Rattle.gates_theory.proofs.Literals.{true-neg}
+use Rattle.gates_theory.proofs.Parts.{same-is, same-from}
 use Rattle.netlist.specs.Design.{Design}
 use Rattle.netlist.specs.Sound as netlists
 use Rattle.psl_tree.specs.Names.{AtomInRange}

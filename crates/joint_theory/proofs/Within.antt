@@ -5,10 +5,10 @@ use Rattle.std.specs.List.{list_all, range_with_len}
 use Rattle.std.proofs.lemmas.Bool.{and_from}
 use Rattle.alternating_theory.specs.Obligations.{Automaton}
 use Rattle.clauses.specs.Literals.{clause_within, is_within}
-use Rattle.circuit_theory.specs.Relations.{variables_of, IsClosed}
-use Rattle.circuit_theory.specs.Terms.{Term, term_within}
-use Rattle.circuit_theory.specs.Terms.Term.{Literal}
-use Rattle.circuit_theory.proofs.Within.{negated_within}
+use Rattle.gates_theory.specs.Relations.{variables_of, IsClosed}
+use Rattle.gates_theory.specs.Terms.{Term, term_within}
+use Rattle.gates_theory.specs.Terms.Term.{Literal}
+use Rattle.gates_theory.proofs.Within.{negated_within}
 use Rattle.netlist.specs.Design.{Design}
 use Rattle.netlist.specs.Sound as netlists
 use Rattle.psl_tree.specs.Names.{AtomInRange}

@@ -2,11 +2,11 @@
 use Rattle.std.specs.Prelude.{ℕ, zero, suc, ◌*◌, ℤ, neg_ℤ, Bool as Truth, true, false, if◌then◌else◌, List, [], ◌∷◌, ◌++◌, map, length}
 use Rattle.std.specs.List.{range_with_len}
 use Rattle.alternating_theory.specs.Obligations.{Automaton}
-use Rattle.circuit_theory.specs.Distinct.{distinct}
-use Rattle.circuit_theory.specs.Relations.{circuit_of}
-use Rattle.circuit_theory.specs.Sizes.{distinct_variables}
-use Rattle.circuit_theory.specs.Unrolled.{moved, positions_of, units}
-use Rattle.circuit_theory.specs.declared.circuit.Circuit.{Circuit}
+use Rattle.gates_theory.specs.Distinct.{distinct}
+use Rattle.gates_theory.specs.Relations.{circuit_of}
+use Rattle.gates_theory.specs.Sizes.{distinct_variables}
+use Rattle.gates_theory.specs.Unrolled.{moved, positions_of, units}
+use Rattle.gates_theory.specs.declared.circuit.Circuit.{Circuit}
 use Rattle.clauses.specs.Models.{Assignment, is_true}
 use Rattle.netlist.specs.Design.{Design}
 use Rattle.run_terms.specs.Formulas.{whole}

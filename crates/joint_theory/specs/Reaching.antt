@@ -3,9 +3,9 @@
 -- its neighbour.
 use Rattle.std.specs.Prelude.{◌≡◌, ℕ, suc, ◌+◌, ◌↔◌, ℤ, neg_ℤ, Bool as Truth, false, if◌then◌else◌, List, [], ◌∷◌, ◌++◌, map, length, IsTrue}
 use Rattle.alternating_theory.specs.Obligations.{Automaton}
-use Rattle.circuit_theory.specs.Circuits.{AreSame}
-use Rattle.circuit_theory.specs.Relations.{Relation, circuit_of}
-use Rattle.circuit_theory.specs.Unrolled.{units}
+use Rattle.gates_theory.specs.Circuits.{AreSame}
+use Rattle.gates_theory.specs.Relations.{Relation, circuit_of}
+use Rattle.gates_theory.specs.Unrolled.{units}
 use Rattle.clauses.specs.Literals.{clauses_within}
 use Rattle.clauses.specs.Models.{Assignment, IsModel}
 use Rattle.joint_selectors.specs.Missed.{some_missed, values_from}

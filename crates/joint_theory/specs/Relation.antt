@@ -5,8 +5,8 @@ use Rattle.std.specs.Prelude.{ℕ, zero, suc, ◌+◌, ℤ, pos, neg_ℤ, if◌t
 use Rattle.std.specs.List.{range_with_len}
 use Rattle.alternating_theory.specs.Obligations.{Automaton}
 use Rattle.alternating_theory.specs.Positive.{owes}
-use Rattle.circuit_theory.specs.Relations.{Relation}
-use Rattle.circuit_theory.specs.Terms.{Term, Literal, Negation, Conjunction, Equality}
+use Rattle.gates_theory.specs.Relations.{Relation}
+use Rattle.gates_theory.specs.Terms.{Term, Literal, Negation, Conjunction, Equality}
 use Rattle.netlist.specs.Design.{Design}
 use Rattle.run_terms.specs.Booleans.{either}
 use Rattle.run_terms.specs.Combinations.{positive_term}

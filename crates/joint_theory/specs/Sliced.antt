@@ -5,10 +5,10 @@
 use Rattle.std.specs.Prelude.{ℕ, suc, ◌+◌, ℤ, neg_ℤ, Bool as Truth, false, List, [], ◌∷◌, ◌++◌, map, filter, length, slice_index_or, IsTrue}
 use Rattle.std.specs.List.{range_with_len}
 use Rattle.alternating_theory.specs.Obligations.{Automaton}
-use Rattle.circuit_theory.specs.Circuits.{AreSame}
-use Rattle.circuit_theory.specs.Relations.{Relation, circuit_of}
-use Rattle.circuit_theory.specs.Terms.{Term, Literal}
-use Rattle.circuit_theory.specs.Unrolled.{units}
+use Rattle.gates_theory.specs.Circuits.{AreSame}
+use Rattle.gates_theory.specs.Relations.{Relation, circuit_of}
+use Rattle.gates_theory.specs.Terms.{Term, Literal}
+use Rattle.gates_theory.specs.Unrolled.{units}
 use Rattle.clauses.specs.Literals.{clauses_within}
 use Rattle.clauses.specs.Models.{Assignment, IsModel}
 use Rattle.joint_selectors.specs.Missed.{values_from}

@@ -2,7 +2,7 @@
 ghost use Rattle.std.specs.Prelude.{ℕ, suc, ◌*◌, ◌≤◌, ◌↔◌, ℤ, Bool as Truth, true, false, List, IsTrue};
 ghost use Rattle.alternating_theory.specs.Acceptance.{Accepts};
 ghost use Rattle.alternating_theory.specs.Obligations.{Automaton};
-ghost use Rattle.circuit_theory.specs.Circuits as circuits;
+ghost use Rattle.gates_theory.specs.Circuits as circuits;
 ghost use Rattle.clauses.specs.Literals.{clause_within, clause_words, clauses_within};
 ghost use Rattle.clauses.specs.Models.{Assignment, IsModel};
 ghost use Rattle.joint_theory.specs.Bits.{joint_width};

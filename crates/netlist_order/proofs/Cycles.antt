@@ -2,8 +2,8 @@
 use Rattle.std.proofs.Common.{◌≡◌, ℕ, zero, suc, ◌<◌, ◌⊎◌, inl, inr, List, [], ◌∷◌, length, get_or, Option, None, Some, refl, subst, ⊎_elim, arith}
 use Rattle.std.proofs.lemmas.Option.{none-some}
 use Rattle.std.proofs.lemmas.Bool.{cases_lt, cases_eq}
-use Rattle.table_order.specs.Graph.{Graph, inputs_of, Reads, Depends, directly, onwards, IsFirstOnCycle}
-use Rattle.table_order.proofs.Chains.{Depends-append, Depends-within}
+use Rattle.netlist_order.specs.Graph.{Graph, inputs_of, Reads, Depends, directly, onwards, IsFirstOnCycle}
+use Rattle.netlist_order.proofs.Chains.{Depends-append, Depends-within}
 use Rattle.netlist_order.specs.TableGraph.{IsAcyclic}
 
 -- something holds, or it does not

@@ -1,3 +1,15 @@
+pub mod Advancing
+pub mod Chains
+pub mod Closing
+pub mod Components
+pub mod Ending
+pub mod Entering
+pub mod Leading
+pub mod Leaving
+pub mod Lists
+pub mod Merging
+pub mod Turning
+pub mod Wires
 pub mod Cycles
 pub mod Drivers
 pub mod Orders

@@ -4,10 +4,10 @@ use Rattle.std.proofs.Math.Path.{fun_ext}
 use Rattle.std.proofs.lemmas.Bool.{cases_lt}
 use Rattle.std.proofs.lemmas.List.{length-map, get_or-map, get_or_default, get_or-take, length-take-le}
 use Rattle.std.proofs.lemmas.List.Elements.{All-from_get_or}
-use Rattle.table_order.specs.Graph as graphs
-use Rattle.table_order.specs.Graph.{Graph, driver_of, Reads, Occurs, OccursBefore}
-use Rattle.table_order.specs.Wires.{drivers_of, graph_of}
-use Rattle.table_order.proofs.Chains.{order-acyclic}
+use Rattle.netlist_order.specs.Graph as graphs
+use Rattle.netlist_order.specs.Graph.{Graph, driver_of, Reads, Occurs, OccursBefore}
+use Rattle.netlist_order.specs.Wires.{drivers_of, graph_of}
+use Rattle.netlist_order.proofs.Chains.{order-acyclic}
 use Rattle.netlist.specs.declared.table.Table.{Table}
 use Rattle.netlist.specs.Sound.{AreApart, IsOrder, no_table, table_at}
 use Rattle.netlist_order.specs.TableGraph.{driver_in, table_graph, IsAcyclic}

@@ -1,1 +1,5 @@
+pub mod Graph
+pub mod Wires
+pub mod State
+pub mod Sound
 pub mod TableGraph

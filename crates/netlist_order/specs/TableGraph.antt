@@ -2,7 +2,7 @@
 use Rattle.std.specs.Prelude.{ℕ, ◌==◌, List, map, Option}
 use Rattle.std.specs.List.{position_from}
 use Rattle.netlist.specs.declared.table.Table.{Table}
-use Rattle.table_order.specs.Graph.{Graph, Depends}
+use Rattle.netlist_order.specs.Graph.{Graph, Depends}
 
 -- the first table that drives a signal
 abbrev pub driver_in : List Table → ℕ → Option ℕ

@@ -1,5 +1,5 @@
 ghost use Rattle.std.specs.Prelude.{◌≡◌, ℕ, ◌⊎◌};
-ghost use Rattle.table_order.specs.Graph.{Graph, IsFirstOnCycle};
+ghost use Rattle.netlist_order.specs.Graph.{Graph, IsFirstOnCycle};
 ghost use Rattle.netlist_order.specs.TableGraph.{IsAcyclic};
 
 /// A law of dependency graphs: no table depends on itself, or there is a first one that does, and never both.

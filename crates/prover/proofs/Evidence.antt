@@ -6,7 +6,7 @@ use Rattle.alternating_theory.specs.Obligations.{Automaton}
 use Rattle.clauses.proofs.Soundness.{no_model}
 use Rattle.clauses.specs.declared.cnf.Cnf.{Cnf}
 use Rattle.clauses.specs.Logs.{LogEntry, Refutes}
-use Rattle.circuit_theory.specs.Sizes.{IsTooLarge}
+use Rattle.gates_theory.specs.Sizes.{IsTooLarge}
 use Rattle.clock_rewrite.proofs.Meaning.{plain_words}
 use Rattle.netlist.specs.Design.{Design}
 use Rattle.netlist.specs.Runs.{word}
@@ -20,8 +20,8 @@ use Rattle.owed.proofs.Violating.{violating-runs}
 use Rattle.owed.specs.Owed.{owed, plain_owed}
 use Rattle.owed.specs.Violations.{violation_of}
 use Rattle.run_terms.specs.Formulas.{HasModel, values_of}
-use Rattle.search_theory.specs.Found.{IsFound, SomeFound, run_size}
-use Rattle.search_theory.specs.Searches.{search_clauses, search_variables}
+use Rattle.bounded_theory.specs.Found.{IsFound, SomeFound, run_size}
+use Rattle.bounded_theory.specs.Searches.{search_clauses, search_variables}
 use Rattle.prover.proofs.Turned.{none-within}
 use Rattle.prover.specs.Findings.{IsShortest}
 use Rattle.prover.specs.Queries.{IsFormulaOf, clauses_of, variables_of}

@@ -3,7 +3,7 @@ use Rattle.std.proofs.Common.{◌≡◌, refl, ap, subst, ◌↔◌, ℕ, zero, 
 use Rattle.alternating_theory.specs.Obligations.{Automaton}
 use Rattle.cdcl.specs.Answers.{IsRefutation}
 use Rattle.cdcl.specs.Evidence.{IsTidy}
-use Rattle.circuit_theory.specs.Sizes.{IsTooLarge}
+use Rattle.gates_theory.specs.Sizes.{IsTooLarge}
 use Rattle.clauses.proofs.Soundness.{no_model}
 use Rattle.clauses.specs.Literals.{clause_words}
 use Rattle.clauses.specs.Logs.{LogEntry, Refutes, log_words}

@@ -2,7 +2,7 @@
 use Rattle.std.proofs.Common.{◌≡◌, ◌∙◌, refl, ap, sym, subst, ◌↔◌, ◌≤◌, ℕ, ℤ, Bool as Truth, true, false, List}
 use Rattle.alternating_theory.specs.Obligations.{Automaton}
 use Rattle.cdcl.specs.Answers.{IsModelOf, IsRefutation}
-use Rattle.circuit_theory.specs.Sizes.{IsTooLarge}
+use Rattle.gates_theory.specs.Sizes.{IsTooLarge}
 use Rattle.clauses.specs.Literals.{clause_words}
 use Rattle.clauses.specs.Logs.{LogEntry}
 use Rattle.clauses.specs.Models.{IsModel}

@@ -20,7 +20,7 @@ use Rattle.psl_tree.specs.declared.directive.Directive.{Directive}
 use Rattle.psl_tree.specs.declared.letter.Letter.{Letter}
 use Rattle.psl_tree.specs.declared.letter.Letter.TheVariants.{Holds}
 use Rattle.owed.specs.Owed.{owed}
-use Rattle.search_theory.specs.Found.{run_size}
+use Rattle.bounded_theory.specs.Found.{run_size}
 use Rattle.prover.proofs.Turning.{loop-again, run-with, size-turned, size-with, turned, turned-last, turned-run, turned-same}
 use Rattle.prover.specs.Violating.{NoneBelow, Violates}
 use mathlib.Core.Path.{fun_ext}

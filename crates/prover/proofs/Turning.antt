@@ -7,7 +7,7 @@ use Rattle.netlist.specs.Design.{Design}
 use Rattle.netlist.specs.Runs.{IsRun, valuation_at, walk_of}
 use Rattle.netlist.specs.Valuations.{IsInitial, IsStep}
 use Rattle.netlist.specs.declared.run.Run.{Run}
-use Rattle.search_theory.specs.Found.{run_size}
+use Rattle.bounded_theory.specs.Found.{run_size}
 
 -- the loop begins with its second valuation, and ends with its first
 abbrev pub turned : Run → Run

@@ -2,11 +2,11 @@
 use Rattle.std.specs.Prelude.{◌≡◌, ◌≤◌, ℕ, suc, Bool as Truth, true, false, List}
 use Rattle.cdcl.specs.Answers.{IsSpent, IsFull}
 use Rattle.clauses.specs.declared.cnf.Cnf.{Cnf}
-use Rattle.circuit_theory.specs.Sizes.{IsTooLarge}
+use Rattle.gates_theory.specs.Sizes.{IsTooLarge}
 use Rattle.netlist.specs.Design.{Design}
 use Rattle.netlist.specs.declared.run.Run.{Run}
 use Rattle.psl_tree.specs.declared.directive.Directive.{Directive}
-use Rattle.search_theory.specs.Found.{run_size}
+use Rattle.bounded_theory.specs.Found.{run_size}
 use Rattle.reach.specs.declared.answer.Reached.{Reached}
 use Rattle.prover.specs.Ends.{AreEnds}
 use Rattle.prover.specs.Proving.{IsProved, IsProvedReach}

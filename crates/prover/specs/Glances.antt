@@ -1,7 +1,7 @@
 -- What is told of the runs of one size, and how far a search has come.
 use Rattle.std.specs.Prelude.{◌≡◌, ◌≤◌, ℕ, suc}
 use Rattle.netlist.specs.declared.run.Run.{Run}
-use Rattle.search_theory.specs.Found.{run_size}
+use Rattle.bounded_theory.specs.Found.{run_size}
 use Rattle.prover.specs.Stops.{NoneBelowFor, ViolatesFor}
 use Rattle.prover.specs.declared.glance.Glance.{Glance}
 use Rattle.prover.specs.declared.glance.Glance.TheVariants as glances

@@ -1,9 +1,9 @@
 -- What proves an assertion.
 use Rattle.std.specs.Prelude.{◌≡◌, ◌+◌, ◌<◌, ◌≤◌, ℕ, true, List, None}
 use Rattle.cdcl.specs.Evidence.{IsTidy}
-use Rattle.certificate.specs.declared.certificate.Certificate.{Certificate}
-use Rattle.certificate.specs.declared.certificate.InductiveCert.{InductiveCert}
-use Rattle.circuit_theory.specs.Sizes.{IsTooLarge}
+use Rattle.cert_theory.specs.declared.certificate.Certificate.{Certificate}
+use Rattle.cert_theory.specs.declared.certificate.InductiveCert.{InductiveCert}
+use Rattle.gates_theory.specs.Sizes.{IsTooLarge}
 use Rattle.clauses.specs.Literals.{clause_words}
 use Rattle.clauses.specs.Logs.{LogEntry, Refutes, lemmas, log_words}
 use Rattle.clauses.specs.declared.log.TheConstants.{MOST_LOG_WORDS}

@@ -4,7 +4,7 @@ use Rattle.psl_tree.specs.Atoms.{AtomsOfFormula}
 use Rattle.psl_tree.specs.Names.{AtomInRange}
 use Rattle.psl_tree.specs.Trees.{formula_of}
 use Rattle.owed.specs.Owed.{plain_owed}
-use Rattle.work_limits.specs.Sized.{IsSized}
+use Rattle.owed.specs.Sized.{IsSized}
 use Rattle.prover.specs.declared.task.Task.{Task}
 
 -- what is owed is within the limits, all that the text names are signals of the netlist, and the options are in their

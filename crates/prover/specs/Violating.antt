@@ -7,7 +7,7 @@ use Rattle.psl_tree.specs.Satisfaction.{Sat}
 use Rattle.psl_tree.specs.Trace.{trace_of}
 use Rattle.psl_tree.specs.declared.directive.Directive.{Directive}
 use Rattle.owed.specs.Owed.{owed}
-use Rattle.search_theory.specs.Found.{run_size}
+use Rattle.bounded_theory.specs.Found.{run_size}
 
 -- a run of the netlist whose word does not satisfy what is owed
 pub record Violates (design : Design) (unit : List Directive) (assertion : Directive) (run : Run) : Type 0 where

@@ -1,6 +1,6 @@
 // Whether a window is closed: no joint path is open there, of either kind.
 ghost use Rattle.std.specs.Prelude.{◌≡◌, ◌↔◌, IfOk, IfErr};
-ghost use Rattle.circuit_theory.specs.Sizes.{IsTooLarge};
+ghost use Rattle.gates_theory.specs.Sizes.{IsTooLarge};
 ghost use Rattle.clauses.specs.declared.flat.CnfFault.{CnfFault};
 ghost use Rattle.joint_theory.specs.Paths.{SomeOpen};
 ghost use Rattle.joint_theory.specs.Queries.{query, query_variables};
@@ -13,7 +13,7 @@ use crate::answering::Solved;
 use crate::context::Prover;
 use crate::finding::{Finding, OpenPath, Query};
 use crate::stop::Stop;
-use certificate::Certificate;
+use cert_theory::Certificate;
 use clauses::{Cnf, CnfFault, Log};
 use joint::Joint;
 use std::alloc::Global;

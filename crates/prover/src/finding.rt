@@ -1,7 +1,7 @@
 ghost use Rattle.std.specs.Prelude.{◌≡◌};
 ghost use Rattle.prover.specs.Findings as spec;
 
-use certificate::{Certificate, InductiveCert};
+use cert_theory::{Certificate, InductiveCert};
 use clauses::Log;
 use joint_theory::JointPath;
 use netlist::Run;

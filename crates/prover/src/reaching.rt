@@ -9,7 +9,7 @@ ghost use Rattle.reach.specs.Answers.{IsReached};
 use crate::context::Prover;
 use crate::finding::{Finding, Query, ReachEnds};
 use crate::stop::Stop;
-use certificate::InductiveCert;
+use cert_theory::InductiveCert;
 use joint::{Joint, joint};
 use psl_base::{Items, NoMemory};
 use reach::{Reached, Search};

@@ -4,6 +4,7 @@ pub mod Digits
 pub mod Packing
 pub mod Placing
 pub mod Putting
+pub mod Saved
 pub mod Scanning
 pub mod ShelfSteps
 pub mod Taking

@@ -7,6 +7,7 @@ pub mod MemShelfState
 pub mod Memory
 pub mod Packed
 pub mod Places
+pub mod Saves
 pub mod Shelf
 pub mod Sink
 pub mod Tokens

@@ -1,6 +1,6 @@
 //! What every layer of the product stands on: lists that contracts see as lists, places in a text, and the
 //! outside world as two traits; and what readers and writers of texts share: tokens between white space,
-//! decimal numbers, and texts that grow.
+//! decimal numbers, texts that grow, and files that are written in order.
 #![tactic(auto)]
 
 mod bytes;
@@ -13,8 +13,10 @@ mod outside;
 mod packed;
 mod place;
 mod reading;
+mod saving;
 mod streams;
 mod tokens;
+mod words;
 mod writing;
 
 pub use bytes::{is_digit, is_white};
@@ -27,6 +29,8 @@ pub use outside::{Failed, Shelf, Sink};
 pub use packed::{File, Files};
 pub use place::{FILE_LIMIT, Place, advance, place_of};
 pub use reading::{ReadAllFault, read_all};
+pub use saving::{Save, Saves, save_all};
 pub use streams::StdSink;
 pub use tokens::{Cursor, Token};
+pub use words::program_words;
 pub use writing::{add_bytes, add_number, put_all};

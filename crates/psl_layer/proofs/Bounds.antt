@@ -13,9 +13,9 @@ use Rattle.psl_tree.specs.Trees.{Formula, formula_of}
 use Rattle.psl_tree.specs.declared.directive.Directive.{Directive}
 use Rattle.psl_tree.specs.declared.name.Name.{Name}
 use Rattle.psl_layer_laws.proofs.RangedStatements.{atoms-in-range}
-use Rattle.psl_elaboration.specs.Answers.{Numbered, directive_of, numbered, is_too_large, first_too_large}
-use Rattle.psl_elaboration.specs.Directives.{Asked, kernel}
-use Rattle.psl_elaboration.specs.declared.fault.LayerFault.{LayerFault}
+use Rattle.psl_layer_theory.specs.Answers.{Numbered, directive_of, numbered, is_too_large, first_too_large}
+use Rattle.psl_layer_theory.specs.Directives.{Asked, kernel}
+use Rattle.psl_layer_theory.specs.declared.fault.LayerFault.{LayerFault}
 use Rattle.psl_layer.specs.Asked.{IsLonger}
 
 module _ (P : Formula → Type 0) where

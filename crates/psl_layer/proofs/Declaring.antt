@@ -8,7 +8,7 @@ use Rattle.std.specs.Option.{option_map, option_or}
 use Rattle.std.specs.Ordering.{nat_cmp}
 use Rattle.std.specs.Prelude.{if◌then◌else◌, is_some}
 use Rattle.std.specs.Str.{bytes_eq}
-use Rattle.psl_elaboration.specs.Kernel.{Meaning, Named, declared_meaning}
+use Rattle.psl_layer_theory.specs.Kernel.{Meaning, Named, declared_meaning}
 use Rattle.psl_layer.specs.Built.{Gives, GivesOption, Declared, IsScope, built_at, kind_in}
 use Rattle.psl_layer.specs.Declaring.{IsNamed}
 use Rattle.psl_layer.specs.declared.meaning.Meaning as code_meaning

@@ -14,17 +14,17 @@ use Rattle.psl_tree.specs.Trees.{Boolean, Sequence, Formula}
 use Rattle.psl_sugar.specs.Budget.{GivesBoolean}
 use Rattle.psl_tree.specs.declared.name.Name.{Name}
 use Rattle.psl_sugar.specs.declared.fault.SugarFault.{SugarFault}
-use Rattle.psl_elaboration.specs.Directives.{Asked, asked_by, asked_after, clock_by, default_clock, named_by}
-use Rattle.psl_elaboration.specs.FirstFlaw.{first_of, earlier}
-use Rattle.psl_elaboration.specs.Flaws.{statement_flaws, statements_flaws}
-use Rattle.psl_elaboration.specs.Kernel.{Meaning, OfSequence, OfProperty, Named, boolean_in, sequence_in, formula_in}
-use Rattle.psl_elaboration.specs.Kinds.{declared_kind}
-use Rattle.psl_elaboration.specs.Operators.{declaration_word}
-use Rattle.psl_elaboration.specs.declared.fault.Flaw.{Flaw}
-use Rattle.psl_elaboration.specs.declared.kind.ExpressionKind.{ExpressionKind}
-use Rattle.psl_elaboration.specs.declared.operator.DeclarationWord.{DeclarationWord}
-use Rattle.psl_elaboration.specs.declared.operator.DeclarationWord.TheVariants as declarations
-use Rattle.psl_elaboration.proofs.Firsts.{first_of-append}
+use Rattle.psl_layer_theory.specs.Directives.{Asked, asked_by, asked_after, clock_by, default_clock, named_by}
+use Rattle.psl_layer_theory.specs.FirstFlaw.{first_of, earlier}
+use Rattle.psl_layer_theory.specs.Flaws.{statement_flaws, statements_flaws}
+use Rattle.psl_layer_theory.specs.Kernel.{Meaning, OfSequence, OfProperty, Named, boolean_in, sequence_in, formula_in}
+use Rattle.psl_layer_theory.specs.Kinds.{declared_kind}
+use Rattle.psl_layer_theory.specs.Operators.{declaration_word}
+use Rattle.psl_layer_theory.specs.declared.fault.Flaw.{Flaw}
+use Rattle.psl_layer_theory.specs.declared.kind.ExpressionKind.{ExpressionKind}
+use Rattle.psl_layer_theory.specs.declared.operator.DeclarationWord.{DeclarationWord}
+use Rattle.psl_layer_theory.specs.declared.operator.DeclarationWord.TheVariants as declarations
+use Rattle.psl_layer_theory.proofs.Firsts.{first_of-append}
 use Rattle.psl_layer.specs.Asked.{AskAll, IsRead}
 use Rattle.psl_layer.specs.Built.{Declared, Gives, GivesClock, IsScope, built_at, kind_in}
 use Rattle.psl_layer.specs.Rows.{ReadBoolean, ReadFormula, ReadSequence}

@@ -7,10 +7,10 @@ use Rattle.psl_base.specs.declared.place.Place.{Place}
 use Rattle.psl_tree.specs.Trees.{Boolean}
 use Rattle.psl_tree.specs.declared.directive.Directive.{Directive}
 use Rattle.psl_sugar.specs.declared.fault.SugarFault.{SugarFault}
-use Rattle.psl_elaboration.specs.Answers.{Numbered, directive_of, numbered, is_too_large, first_too_large}
-use Rattle.psl_elaboration.specs.Directives.{Asked}
-use Rattle.psl_elaboration.specs.declared.fault.LayerFault.{LayerFault}
-use Rattle.psl_elaboration.specs.declared.fault.LayerFault.TheVariants as faults
+use Rattle.psl_layer_theory.specs.Answers.{Numbered, directive_of, numbered, is_too_large, first_too_large}
+use Rattle.psl_layer_theory.specs.Directives.{Asked}
+use Rattle.psl_layer_theory.specs.declared.fault.LayerFault.{LayerFault}
+use Rattle.psl_layer_theory.specs.declared.fault.LayerFault.TheVariants as faults
 use Rattle.psl_layer.specs.Asked.{Asks, AskAll, IsLonger}
 use Rattle.psl_layer.specs.Built.{GivesClock}
 use Rattle.psl_layer.specs.declared.asked.Asked as code_asked

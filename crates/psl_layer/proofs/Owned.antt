@@ -5,8 +5,8 @@ use Rattle.psl_grammar.specs.declared.tree.Expression as code_expression
 use Rattle.psl_grammar.specs.declared.tree.Expression.TheVariants as expressions
 use Rattle.psl_tree.specs.Trees.{Boolean}
 use Rattle.psl_tree.specs.declared.name.Name.{Name}
-use Rattle.psl_elaboration.specs.Directives.{asserted, under_clock, covered_under, cover_formula}
-use Rattle.psl_elaboration.specs.Kernel.{Meaning, Named, meaning_of}
+use Rattle.psl_layer_theory.specs.Directives.{asserted, under_clock, covered_under, cover_formula}
+use Rattle.psl_layer_theory.specs.Kernel.{Meaning, Named, meaning_of}
 
 -- the property is not of the form `e @ c`
 abbrev pub HasNoClock : code_expression.Expression → Type 0

@@ -9,15 +9,15 @@ use Rattle.psl_grammar.specs.declared.tree.VerificationUnit.{VerificationUnit}
 use Rattle.psl_tree.specs.Trees.{Boolean}
 use Rattle.psl_tree.specs.declared.name.Name.{Name}
 use Rattle.psl_sugar.specs.declared.fault.SugarFault.{SugarFault}
-use Rattle.psl_elaboration.specs.Directives.{Asked, asked_by, asked_after, asked_in, asked_in_units, declared_by, clock_by, clock_of, default_clock}
-use Rattle.psl_elaboration.specs.Flaws.{is_clock, declares_clock, statement_flaws, statements_flaws, units_flaws}
-use Rattle.psl_elaboration.specs.Kernel.{Meaning, Named, meaning_of}
-use Rattle.psl_elaboration.specs.Kinds.{declared_as, kind_declared_by}
-use Rattle.psl_elaboration.specs.Operators.{declaration_word}
-use Rattle.psl_elaboration.specs.declared.fault.Flaw.{Flaw}
-use Rattle.psl_elaboration.specs.declared.kind.ExpressionKind.{ExpressionKind}
-use Rattle.psl_elaboration.specs.declared.operator.DeclarationWord.{DeclarationWord}
-use Rattle.psl_elaboration.specs.declared.operator.DeclarationWord.TheVariants as declarations
+use Rattle.psl_layer_theory.specs.Directives.{Asked, asked_by, asked_after, asked_in, asked_in_units, declared_by, clock_by, clock_of, default_clock}
+use Rattle.psl_layer_theory.specs.Flaws.{is_clock, declares_clock, statement_flaws, statements_flaws, units_flaws}
+use Rattle.psl_layer_theory.specs.Kernel.{Meaning, Named, meaning_of}
+use Rattle.psl_layer_theory.specs.Kinds.{declared_as, kind_declared_by}
+use Rattle.psl_layer_theory.specs.Operators.{declaration_word}
+use Rattle.psl_layer_theory.specs.declared.fault.Flaw.{Flaw}
+use Rattle.psl_layer_theory.specs.declared.kind.ExpressionKind.{ExpressionKind}
+use Rattle.psl_layer_theory.specs.declared.operator.DeclarationWord.{DeclarationWord}
+use Rattle.psl_layer_theory.specs.declared.operator.DeclarationWord.TheVariants as declarations
 use Rattle.psl_layer.specs.Built.{GivesClock, IsScope, built_at, kind_in}
 use Rattle.psl_layer.specs.Scopes.{Stands, named_after, named_in}
 use Rattle.psl_layer.specs.declared.scope.Scope.{Scope}

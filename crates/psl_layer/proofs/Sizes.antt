@@ -10,9 +10,9 @@ use Rattle.psl_sugar.proofs.Sizes.{next_steps_size, until_size, next_event_holds
 use Rattle.psl_lexer.specs.declared.kind.TokenKind.{TokenKind}
 use Rattle.psl_grammar.specs.declared.tree.Count as code_count
 use Rattle.psl_grammar.specs.declared.tree.Count.TheVariants as counts
-use Rattle.psl_elaboration.specs.Kernel.{next_meaning, event_meaning}
-use Rattle.psl_elaboration.specs.Operators.{strength_of, quantifier_of}
-use Rattle.psl_elaboration.specs.Texts.{number_of}
+use Rattle.psl_layer_theory.specs.Kernel.{next_meaning, event_meaning}
+use Rattle.psl_layer_theory.specs.Operators.{strength_of, quantifier_of}
+use Rattle.psl_layer_theory.specs.Texts.{number_of}
 
 times_size : (strength : Strength) (count : ℕ) (part : Formula) → formula_size part ≤ formula_size (next_times strength count part)
 times_size strengths.Strong count part = omega (arith, next_steps_size count part)

@@ -11,16 +11,16 @@ use Rattle.psl_grammar.specs.declared.tree.VerificationUnit.{VerificationUnit}
 use Rattle.psl_tree.specs.Trees.{Boolean}
 use Rattle.psl_tree.specs.declared.directive.Directive.{Directive}
 use Rattle.psl_tree.specs.declared.name.Name.{Name}
-use Rattle.psl_elaboration.specs.Answers.{IsUnit, IsLayerFault}
-use Rattle.psl_elaboration.specs.Directives.{Asked, asked_after, asked_in, asked_in_units, default_clock, kernel}
-use Rattle.psl_elaboration.specs.FirstFlaw.{IsFirstFlaw, earlier, fault_as, fault_of, first_of}
-use Rattle.psl_elaboration.specs.Flaws.{statements_flaws, tree_flaws, units_flaws}
-use Rattle.psl_elaboration.specs.declared.fault.Cause.{Cause}
-use Rattle.psl_elaboration.specs.declared.fault.Cause.TheVariants as causes
-use Rattle.psl_elaboration.specs.declared.fault.Flaw.{Flaw}
-use Rattle.psl_elaboration.specs.declared.fault.LayerFault.{LayerFault}
-use Rattle.psl_elaboration.specs.declared.fault.LayerFault.TheVariants as faults
-use Rattle.psl_elaboration.proofs.Firsts.{first_of-append, first_of_is_first}
+use Rattle.psl_layer_theory.specs.Answers.{IsUnit, IsLayerFault}
+use Rattle.psl_layer_theory.specs.Directives.{Asked, asked_after, asked_in, asked_in_units, default_clock, kernel}
+use Rattle.psl_layer_theory.specs.FirstFlaw.{IsFirstFlaw, earlier, fault_as, fault_of, first_of}
+use Rattle.psl_layer_theory.specs.Flaws.{statements_flaws, tree_flaws, units_flaws}
+use Rattle.psl_layer_theory.specs.declared.fault.Cause.{Cause}
+use Rattle.psl_layer_theory.specs.declared.fault.Cause.TheVariants as causes
+use Rattle.psl_layer_theory.specs.declared.fault.Flaw.{Flaw}
+use Rattle.psl_layer_theory.specs.declared.fault.LayerFault.{LayerFault}
+use Rattle.psl_layer_theory.specs.declared.fault.LayerFault.TheVariants as faults
+use Rattle.psl_layer_theory.proofs.Firsts.{first_of-append, first_of_is_first}
 use Rattle.psl_layer.specs.Asked.{AskAll, IsLonger, IsRead}
 use Rattle.psl_layer.specs.Built.{GivesClock}
 use Rattle.psl_layer.specs.Outcomes.{IsOutcome}

@@ -7,13 +7,13 @@ use Rattle.psl_sugar.proofs.VectorSizes.{some_bit_size}
 use Rattle.psl_sugar.specs.Comparisons.{width_of, comparison_row}
 use Rattle.psl_sugar.specs.declared.comparison.Comparison.{Comparison}
 use Rattle.psl_sugar.specs.declared.operand.Operand.{Operand}
-use Rattle.psl_elaboration.specs.Kernel.{vector, bits_meaning}
-use Rattle.psl_elaboration.specs.LookUp.{is_index, distance, look_up, whole_of, bit_of, with_index, refers_to}
-use Rattle.psl_elaboration.specs.Texts.{indexed_text}
-use Rattle.psl_elaboration.specs.declared.found.Found.{Found}
-use Rattle.psl_elaboration.specs.declared.found.Found.TheVariants as finds
-use Rattle.psl_elaboration.specs.declared.found.Reference.{Reference}
-use Rattle.psl_elaboration.specs.declared.found.Reference.TheVariants as references
+use Rattle.psl_layer_theory.specs.Kernel.{vector, bits_meaning}
+use Rattle.psl_layer_theory.specs.LookUp.{is_index, distance, look_up, whole_of, bit_of, with_index, refers_to}
+use Rattle.psl_layer_theory.specs.Texts.{indexed_text}
+use Rattle.psl_layer_theory.specs.declared.found.Found.{Found}
+use Rattle.psl_layer_theory.specs.declared.found.Found.TheVariants as finds
+use Rattle.psl_layer_theory.specs.declared.found.Reference.{Reference}
+use Rattle.psl_layer_theory.specs.declared.found.Reference.TheVariants as references
 use Rattle.psl_layer.specs.Placed.{lowest_in, width_in}
 
 abbrev IsPlaced : Reference → Type 0

@@ -5,13 +5,13 @@ use Rattle.psl_tree.specs.declared.directive.Directive.{Directive}
 use Rattle.psl_tree.specs.declared.name.Name.{Name}
 use Rattle.psl_sugar.specs.Budget.{GivesFormula}
 use Rattle.psl_sugar.specs.declared.fault.SugarFault.{SugarFault}
-use Rattle.psl_elaboration.specs.Answers.{directive_of, numbered, first_too_large}
-use Rattle.psl_elaboration.specs.Directives as spec
-use Rattle.psl_elaboration.specs.FirstFlaw.{first_of}
-use Rattle.psl_elaboration.specs.Flaws.{statements_flaws}
-use Rattle.psl_elaboration.specs.Kernel.{Meaning}
-use Rattle.psl_elaboration.specs.declared.fault.LayerFault.{LayerFault}
-use Rattle.psl_elaboration.specs.declared.fault.LayerFault.TheVariants as faults
+use Rattle.psl_layer_theory.specs.Answers.{directive_of, numbered, first_too_large}
+use Rattle.psl_layer_theory.specs.Directives as spec
+use Rattle.psl_layer_theory.specs.FirstFlaw.{first_of}
+use Rattle.psl_layer_theory.specs.Flaws.{statements_flaws}
+use Rattle.psl_layer_theory.specs.Kernel.{Meaning}
+use Rattle.psl_layer_theory.specs.declared.fault.LayerFault.{LayerFault}
+use Rattle.psl_layer_theory.specs.declared.fault.LayerFault.TheVariants as faults
 use Rattle.psl_layer.specs.Built.{Gives, GivesClock}
 use Rattle.psl_layer.specs.Scopes.{Stands}
 use Rattle.psl_layer.specs.declared.asked.Asked.{Asked}

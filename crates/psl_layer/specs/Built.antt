@@ -11,9 +11,9 @@ use Rattle.psl_sugar.specs.Budget.{GivesBoolean, GivesSequence, GivesFormula}
 use Rattle.psl_sugar.specs.declared.fault.SugarFault.{SugarFault}
 use Rattle.psl_sugar.specs.declared.operand.Operand.{Operand}
 use Rattle.psl_sugar.specs.declared.operand.Operand.TheVariants as sides
-use Rattle.psl_elaboration.specs.Kernel.{Meaning, OfBoolean, OfSequence, OfProperty, Named, declared_meaning, bits_meaning, bits_operand, literal_meaning}
-use Rattle.psl_elaboration.specs.declared.kind.ExpressionKind.{ExpressionKind}
-use Rattle.psl_elaboration.specs.declared.kind.ExpressionKind.TheVariants as kinds
+use Rattle.psl_layer_theory.specs.Kernel.{Meaning, OfBoolean, OfSequence, OfProperty, Named, declared_meaning, bits_meaning, bits_operand, literal_meaning}
+use Rattle.psl_layer_theory.specs.declared.kind.ExpressionKind.{ExpressionKind}
+use Rattle.psl_layer_theory.specs.declared.kind.ExpressionKind.TheVariants as kinds
 use Rattle.psl_layer.specs.declared.elaborated.Elaborated.{Elaborated}
 use Rattle.psl_layer.specs.declared.elaborated.Sense as code_sense
 use Rattle.psl_layer.specs.declared.elaborated.Sense.TheVariants as senses

@@ -8,17 +8,17 @@ use Rattle.psl_grammar.specs.declared.tree.Expression as code_expression
 use Rattle.psl_grammar.specs.declared.tree.Statement as code_statement
 use Rattle.psl_tree.specs.declared.name.Name.{Name}
 use Rattle.psl_sugar.specs.declared.operand.Operand.TheVariants as operands
-use Rattle.psl_elaboration.specs.FirstFlaw.{first_of, earlier}
-use Rattle.psl_elaboration.specs.Flaws.{prefix_flaws, infix_flaws, side_flaws, side_of, literal_side, is_comparison, repeated_flaws, count_flaws, is_goto, clocked_flaws, grouped_flaws, wants_boolean, wants_sequence, reference_flaws, expression_flaws}
-use Rattle.psl_elaboration.specs.Kinds.{kind_of, place_of, kind_as, prefix_kind, infix_kind, clocked_kind, grouped_kind}
-use Rattle.psl_elaboration.specs.Operators.{prefix_operator, repetition_operator}
-use Rattle.psl_elaboration.specs.declared.fault.Flaw.{Flaw}
-use Rattle.psl_elaboration.specs.declared.found.Reference.{Reference}
-use Rattle.psl_elaboration.specs.declared.found.Reference.TheVariants.{Nothing}
-use Rattle.psl_elaboration.specs.declared.found.Side.TheVariants as sides
-use Rattle.psl_elaboration.specs.declared.kind.ExpressionKind.{ExpressionKind}
-use Rattle.psl_elaboration.specs.declared.kind.ExpressionKind.TheVariants as kinds
-use Rattle.psl_elaboration.specs.declared.operator.InfixOperator.{InfixOperator}
+use Rattle.psl_layer_theory.specs.FirstFlaw.{first_of, earlier}
+use Rattle.psl_layer_theory.specs.Flaws.{prefix_flaws, infix_flaws, side_flaws, side_of, literal_side, is_comparison, repeated_flaws, count_flaws, is_goto, clocked_flaws, grouped_flaws, wants_boolean, wants_sequence, reference_flaws, expression_flaws}
+use Rattle.psl_layer_theory.specs.Kinds.{kind_of, place_of, kind_as, prefix_kind, infix_kind, clocked_kind, grouped_kind}
+use Rattle.psl_layer_theory.specs.Operators.{prefix_operator, repetition_operator}
+use Rattle.psl_layer_theory.specs.declared.fault.Flaw.{Flaw}
+use Rattle.psl_layer_theory.specs.declared.found.Reference.{Reference}
+use Rattle.psl_layer_theory.specs.declared.found.Reference.TheVariants.{Nothing}
+use Rattle.psl_layer_theory.specs.declared.found.Side.TheVariants as sides
+use Rattle.psl_layer_theory.specs.declared.kind.ExpressionKind.{ExpressionKind}
+use Rattle.psl_layer_theory.specs.declared.kind.ExpressionKind.TheVariants as kinds
+use Rattle.psl_layer_theory.specs.declared.operator.InfixOperator.{InfixOperator}
 use Rattle.psl_layer.specs.Built.{BuiltPart, operand_in}
 use Rattle.psl_layer.specs.declared.elaborated.Checked.{Checked}
 

@@ -1,8 +1,8 @@
 -- What was found of a text.
 use Rattle.std.specs.Prelude.{◌≡◌, List, []}
-use Rattle.psl_elaboration.specs.Directives.{Asked}
-use Rattle.psl_elaboration.specs.FirstFlaw.{first_of}
-use Rattle.psl_elaboration.specs.declared.fault.Flaw.{Flaw}
+use Rattle.psl_layer_theory.specs.Directives.{Asked}
+use Rattle.psl_layer_theory.specs.FirstFlaw.{first_of}
+use Rattle.psl_layer_theory.specs.declared.fault.Flaw.{Flaw}
 use Rattle.psl_layer.specs.Asked.{IsLonger}
 use Rattle.psl_layer.specs.declared.texts.Outcome.{Outcome}
 

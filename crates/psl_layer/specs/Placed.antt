@@ -1,7 +1,7 @@
 -- Where the bits that a path stands for lie.
 use Rattle.std.specs.Prelude.{ℕ}
-use Rattle.psl_elaboration.specs.declared.found.Reference.{Reference}
-use Rattle.psl_elaboration.specs.declared.found.Reference.TheVariants as references
+use Rattle.psl_layer_theory.specs.declared.found.Reference.{Reference}
+use Rattle.psl_layer_theory.specs.declared.found.Reference.TheVariants as references
 
 -- how many there are; a path that stands for none counts as one
 abbrev pub width_in : Reference → ℕ

@@ -13,11 +13,11 @@ use Rattle.psl_sugar.specs.Sequences.{repeated, goto, goto_repeated, occurrences
 use Rattle.psl_sugar.specs.declared.count.Count.{Count}
 use Rattle.psl_sugar.specs.declared.fault.SugarFault.{SugarFault}
 use Rattle.psl_sugar.specs.declared.operator.Strength.{Strength}
-use Rattle.psl_elaboration.specs.Kernel.{Meaning, OfSequence, formula_in, repeated_meaning, optional_count, operand_of, operated}
-use Rattle.psl_elaboration.specs.Operators.{repetition_operator}
-use Rattle.psl_elaboration.specs.declared.operator.InfixOperator.{InfixOperator}
-use Rattle.psl_elaboration.specs.declared.operator.PrefixOperator.{PrefixOperator}
-use Rattle.psl_elaboration.specs.declared.operator.PrefixOperator.TheVariants as prefixes
+use Rattle.psl_layer_theory.specs.Kernel.{Meaning, OfSequence, formula_in, repeated_meaning, optional_count, operand_of, operated}
+use Rattle.psl_layer_theory.specs.Operators.{repetition_operator}
+use Rattle.psl_layer_theory.specs.declared.operator.InfixOperator.{InfixOperator}
+use Rattle.psl_layer_theory.specs.declared.operator.PrefixOperator.{PrefixOperator}
+use Rattle.psl_layer_theory.specs.declared.operator.PrefixOperator.TheVariants as prefixes
 use Rattle.psl_layer.specs.Built.{Gives, GivesSense, BuiltPart, GivesPart, operand_in}
 use Rattle.psl_layer.specs.declared.elaborated.Sense as code_sense
 use Rattle.psl_layer.specs.declared.meaning.Meaning as code_meaning

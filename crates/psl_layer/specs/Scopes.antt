@@ -6,9 +6,9 @@ use Rattle.psl_grammar.specs.declared.tree.Expression as code_expression
 use Rattle.psl_grammar.specs.declared.tree.Statement as code_statement
 use Rattle.psl_tree.specs.Trees.{Boolean}
 use Rattle.psl_tree.specs.declared.name.Name.{Name}
-use Rattle.psl_elaboration.specs.Directives.{declared_by, default_clock}
-use Rattle.psl_elaboration.specs.Kernel.{Meaning, OfBoolean, Named, meaning_or, meaning_of}
-use Rattle.psl_elaboration.specs.Kinds.{declared_as}
+use Rattle.psl_layer_theory.specs.Directives.{declared_by, default_clock}
+use Rattle.psl_layer_theory.specs.Kernel.{Meaning, OfBoolean, Named, meaning_or, meaning_of}
+use Rattle.psl_layer_theory.specs.Kinds.{declared_as}
 use Rattle.psl_layer.specs.Built.{IsScope, GivesClock, built_at, kind_in}
 use Rattle.psl_layer.specs.declared.scope.Scope.{Scope}
 

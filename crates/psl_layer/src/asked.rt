@@ -1,6 +1,6 @@
 // What was asked by directives, and the directives that are made of it once the default clock is known.
 ghost use Rattle.std.specs.Prelude.{◌≡◌, ◌≤◌, ◌∷◌, ◌++◌, [], suc, length, List, Option, IfErr, IfOk};
-ghost use Rattle.psl_elaboration.specs.Directives as spec;
+ghost use Rattle.psl_layer_theory.specs.Directives as spec;
 ghost use Rattle.psl_tree.specs.Trees.{Boolean};
 ghost use Rattle.psl_layer.specs.Asked.{Asks, AskAll, IsLonger};
 ghost use Rattle.psl_layer.specs.Built.{GivesClock};
@@ -8,7 +8,7 @@ ghost use Rattle.psl_layer.specs.Built.{GivesClock};
 use crate::directives::Form;
 use crate::scope::Clock;
 use psl_base::{NoMemory, Place, Text};
-use psl_elaboration::LayerFault;
+use psl_layer_theory::LayerFault;
 use psl_sugar::SugarFault;
 use psl_tree::{Directive, Kind, MOST_CONSTRUCTORS, Unit};
 use std::alloc::Global;

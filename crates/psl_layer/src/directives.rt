@@ -1,6 +1,6 @@
 // Directives, and their formulas under the default clock of their list.
 ghost use Rattle.std.specs.Prelude.{false, Option, IfOk};
-ghost use Rattle.psl_elaboration.specs.Directives as spec;
+ghost use Rattle.psl_layer_theory.specs.Directives as spec;
 ghost use Rattle.psl_tree.specs.Trees.{Boolean, Formula};
 ghost use Rattle.psl_tree.specs.declared.directive.Kind.TheVariants as kinds;
 ghost use Rattle.psl_layer.specs.Asked.{GivesForm, UnderRow};

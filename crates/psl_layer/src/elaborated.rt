@@ -2,7 +2,7 @@
 use crate::meaning::Meaning;
 use crate::referred::Referred;
 use psl_base::{NoMemory, Place};
-use psl_elaboration::{ExpressionKind, Flaw, Side};
+use psl_layer_theory::{ExpressionKind, Flaw, Side};
 use psl_lexer::TokenKind;
 
 /// What is known of an expression once it was gone through.

@@ -1,6 +1,6 @@
 // Expressions: their kind, their first fault and what they stand for, in one walk.
 ghost use Rattle.std.specs.Prelude.{◌≡◌, IfOk};
-ghost use Rattle.psl_elaboration.specs.Kernel.{operand_of};
+ghost use Rattle.psl_layer_theory.specs.Kernel.{operand_of};
 ghost use Rattle.psl_layer.specs.Built.{GivesPart, operand_in};
 ghost use Rattle.psl_layer.specs.CheckedBy.{IsChecked};
 ghost use Rattle.psl_layer.specs.Scopes.{Stands, meaning_after};

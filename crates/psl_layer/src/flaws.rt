@@ -1,16 +1,16 @@
 // Faults of kinds, of comparisons and of counts.
 ghost use Rattle.std.specs.Prelude.{◌≡◌, ◌^◌, nat_le, Some};
-ghost use Rattle.psl_elaboration.specs.FirstFlaw.{first_of};
-ghost use Rattle.psl_elaboration.specs.Flaws as spec;
+ghost use Rattle.psl_layer_theory.specs.FirstFlaw.{first_of};
+ghost use Rattle.psl_layer_theory.specs.Flaws as spec;
 ghost use Rattle.psl_layer.specs.CheckedBy.{own_flaws};
 
 use crate::elaborated::Checked;
 use crate::order::earlier;
 use psl_base::Place;
-use psl_elaboration::{
+use psl_grammar::Count;
+use psl_layer_theory::{
     Cause, ExpressionKind, Flaw, InfixOperator, PrefixOperator, Reference, RepetitionOperator, Side,
 };
-use psl_grammar::Count;
 use psl_lexer::{Token, TokenKind};
 use psl_names::{is_endless, literal_value, number_of};
 

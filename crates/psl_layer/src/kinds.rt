@@ -1,8 +1,8 @@
 // The kinds that operators give.
 ghost use Rattle.std.specs.Prelude.{◌≡◌};
-ghost use Rattle.psl_elaboration.specs.Kinds as spec;
+ghost use Rattle.psl_layer_theory.specs.Kinds as spec;
 
-use psl_elaboration::{ExpressionKind, InfixOperator, PrefixOperator};
+use psl_layer_theory::{ExpressionKind, InfixOperator, PrefixOperator};
 
 // Anything combined in a sere, and outside of one.
 fn combined(in_sere: bool) -> ExpressionKind

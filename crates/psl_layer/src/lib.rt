@@ -21,6 +21,6 @@ mod signals;
 mod statements;
 mod texts;
 
-pub use psl_elaboration::{Found, LayerFault};
+pub use psl_layer_theory::{Found, LayerFault};
 pub use psl_names::{NameIndex, look_up};
 pub use texts::resolve;

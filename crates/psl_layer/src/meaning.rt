@@ -1,11 +1,11 @@
 // What an expression stands for, and how it is read as another kind.
 ghost use Rattle.std.specs.Prelude.{◌≡◌, IfOk};
-ghost use Rattle.psl_elaboration.specs.Kernel as kernel;
+ghost use Rattle.psl_layer_theory.specs.Kernel as kernel;
 ghost use Rattle.psl_layer.specs.Built.{kind_in};
 ghost use Rattle.psl_layer.specs.Rows.{ReadBoolean, ReadSequence, ReadFormula};
 
 use psl_base::NoMemory;
-use psl_elaboration::ExpressionKind;
+use psl_layer_theory::ExpressionKind;
 use psl_sugar::{MeasuredBool, MeasuredFl, MeasuredSere, SugarFault};
 use std::alloc::Global;
 

@@ -1,9 +1,9 @@
 // What each form of an expression is, from what is known and built of its parts. None of these calls itself, and each has
 // a frame of its own: so what they need is not on the stack while the walk over an expression goes deeper.
 ghost use Rattle.std.specs.Prelude.{◌≡◌, IfOk};
-ghost use Rattle.psl_elaboration.specs.Kernel as kernel;
-ghost use Rattle.psl_elaboration.specs.Operators as words;
-ghost use Rattle.psl_elaboration.specs.Texts.{literal_value as spec_value};
+ghost use Rattle.psl_layer_theory.specs.Kernel as kernel;
+ghost use Rattle.psl_layer_theory.specs.Operators as words;
+ghost use Rattle.psl_layer_theory.specs.Texts.{literal_value as spec_value};
 ghost use Rattle.psl_layer.specs.Built.{Gives, GivesPart, operand_in};
 ghost use Rattle.psl_layer.specs.CheckedBy as spec;
 ghost use Rattle.psl_layer.specs.Rows as rows;
@@ -22,8 +22,8 @@ use crate::order::earlier;
 use crate::repetitions::{alone, optional_count, repeated};
 use crate::senses::operated;
 use psl_base::{Place, boxed};
-use psl_elaboration::{ExpressionKind, Flaw, Side};
 use psl_grammar::Count;
+use psl_layer_theory::{ExpressionKind, Flaw, Side};
 use psl_lexer::Token;
 use psl_names::{literal_value, prefix_operator, repetition_operator, strength_of};
 use std::alloc::Global;

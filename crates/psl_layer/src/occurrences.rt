@@ -1,8 +1,8 @@
 // Next forms and next events.
 ghost use Rattle.std.specs.Prelude.{◌≡◌};
-ghost use Rattle.psl_elaboration.specs.Kernel as kernel;
-ghost use Rattle.psl_elaboration.specs.Operators as operators;
-ghost use Rattle.psl_elaboration.specs.Texts as texts;
+ghost use Rattle.psl_layer_theory.specs.Kernel as kernel;
+ghost use Rattle.psl_layer_theory.specs.Operators as operators;
+ghost use Rattle.psl_layer_theory.specs.Texts as texts;
 ghost use Rattle.psl_sugar.specs.Rows.{FormulaRow, FormulaTestRow};
 
 use psl_grammar::Count;

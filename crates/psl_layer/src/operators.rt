@@ -1,12 +1,12 @@
 // Operators on anything.
-ghost use Rattle.psl_elaboration.specs.Kernel as kernel;
-ghost use Rattle.psl_elaboration.specs.declared.operator.PrefixOperator.TheVariants as prefixes;
+ghost use Rattle.psl_layer_theory.specs.Kernel as kernel;
+ghost use Rattle.psl_layer_theory.specs.declared.operator.PrefixOperator.TheVariants as prefixes;
 ghost use Rattle.psl_tree.specs.Trees.{Clocked, Not};
 ghost use Rattle.psl_sugar.specs.Rows.{BooleanRow, FormulaRow, FormulaTestRow, SequenceClockRow};
 ghost use Rattle.psl_layer.specs.Rows.{ClockRow, MeaningRow, MeaningsRow, ReadFormula, eventual_in, prefix_row};
 
 use crate::meaning::Meaning;
-use psl_elaboration::{InfixOperator, PrefixOperator};
+use psl_layer_theory::{InfixOperator, PrefixOperator};
 use psl_sugar::{
     AbortOperator, Connective, MeasuredBool, MeasuredFl, MeasuredSere, SequenceOperator, Strength,
     SuffixOperator, SugarFault, UntilOperator,

@@ -1,8 +1,8 @@
 // The order of faults.
 ghost use Rattle.std.specs.Prelude.{◌≡◌};
-ghost use Rattle.psl_elaboration.specs.FirstFlaw as spec;
+ghost use Rattle.psl_layer_theory.specs.FirstFlaw as spec;
 
-use psl_elaboration::{Cause, Flaw};
+use psl_layer_theory::{Cause, Flaw};
 
 // The number of a cause.
 fn cause_number(cause: Cause) -> u8

@@ -2,7 +2,7 @@
 ghost use Rattle.std.specs.Prelude.{◌≡◌, ◌≤◌, ◌-◌, min};
 ghost use Rattle.psl_layer.specs.Placed.{width_in, lowest_in};
 
-use psl_elaboration::Reference;
+use psl_layer_theory::Reference;
 
 /// What a path stands for as a signal: there is one bit at least, and several begin at the right end of their signal.
 #[derive(Clone, Copy, Debug)]

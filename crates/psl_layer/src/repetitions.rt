@@ -2,13 +2,13 @@
 ghost use Rattle.std.specs.Prelude.{◌≡◌};
 ghost use Rattle.psl_sugar.specs.Budget.{GivesSequence};
 ghost use Rattle.psl_sugar.specs.Sequences.{plus, any_letter};
-ghost use Rattle.psl_elaboration.specs.Kernel as kernel;
+ghost use Rattle.psl_layer_theory.specs.Kernel as kernel;
 ghost use Rattle.psl_sugar.specs.Rows.{LetterRow, SequenceRow};
 ghost use Rattle.psl_layer.specs.Rows.{ReadSequence, star_row, goto_row, occurrences_row};
 
 use crate::meaning::Meaning;
-use psl_elaboration::RepetitionOperator;
 use psl_grammar::Count as WrittenCount;
+use psl_layer_theory::RepetitionOperator;
 use psl_names::{is_endless, number_of};
 use psl_sugar::{Count, MeasuredBool, MeasuredSere, SugarFault};
 use std::alloc::Global;

@@ -2,7 +2,7 @@
 ghost use Rattle.std.specs.Prelude.{◌≡◌, ◌+◌, ◌-◌, ◌<◌, ◌≤◌, ◌^◌, min, IfOk, IfErr};
 ghost use Rattle.psl_sugar.specs.Budget.{GivesBoolean};
 ghost use Rattle.psl_sugar.specs.Comparisons.{HasPlaces, comparison_row, width_of};
-ghost use Rattle.psl_elaboration.specs.Kernel as kernel;
+ghost use Rattle.psl_layer_theory.specs.Kernel as kernel;
 ghost use Rattle.psl_layer.specs.Built.{operand_in};
 ghost use Rattle.psl_layer.specs.Rows.{OperatedRow, ReadSense};
 
@@ -10,7 +10,7 @@ use crate::elaborated::Sense;
 use crate::meaning::Meaning;
 use crate::operators::{Operation, aborted, connect, lasting, sequenced, suffixed};
 use crate::referred::Referred;
-use psl_elaboration::{InfixOperator, Reference};
+use psl_layer_theory::{InfixOperator, Reference};
 use psl_lexer::TokenKind;
 use psl_sugar::{Comparison, MeasuredBool, Operand, SugarFault, Vector};
 use psl_tree::MOST_CONSTRUCTORS;

@@ -1,10 +1,10 @@
 // Whole texts.
 ghost use Rattle.std.specs.Prelude.{◌≡◌, ◌≤◌, ◌++◌, [], All, List, IfOk, IfErr};
-ghost use Rattle.psl_elaboration.specs.Answers.{IsUnit, IsLayerFault};
-ghost use Rattle.psl_elaboration.specs.Directives as spec;
-ghost use Rattle.psl_elaboration.specs.FirstFlaw as flaws;
-ghost use Rattle.psl_elaboration.specs.Flaws.{statements_flaws, units_flaws, tree_flaws};
-ghost use Rattle.psl_elaboration.specs.declared.fault.Flaw.{Flaw as spec_flaw};
+ghost use Rattle.psl_layer_theory.specs.Answers.{IsUnit, IsLayerFault};
+ghost use Rattle.psl_layer_theory.specs.Directives as spec;
+ghost use Rattle.psl_layer_theory.specs.FirstFlaw as flaws;
+ghost use Rattle.psl_layer_theory.specs.Flaws.{statements_flaws, units_flaws, tree_flaws};
+ghost use Rattle.psl_layer_theory.specs.declared.fault.Flaw.{Flaw as spec_flaw};
 ghost use Rattle.psl_tree.specs.Atoms.{AtomsOfFormula};
 ghost use Rattle.psl_tree.specs.Counts.{formula_size};
 ghost use Rattle.psl_tree.specs.Names.{AreAlike, AtomInRange};
@@ -15,8 +15,8 @@ use crate::asked::with_list;
 use crate::order::earlier;
 use crate::statements::read_statements;
 use psl_base::{Items, NoMemory};
-use psl_elaboration::{Cause, Flaw, LayerFault};
 use psl_grammar::{Statement, UnitTree, VerificationUnit};
+use psl_layer_theory::{Cause, Flaw, LayerFault};
 use psl_names::NameIndex;
 use psl_tree::{Names, Unit};
 use std::alloc::Global;

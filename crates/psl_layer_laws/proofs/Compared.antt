@@ -16,17 +16,17 @@ use Rattle.psl_sugar.specs.Comparisons.{compared_width}
 use Rattle.psl_sugar.specs.Numbers.{FitsIn}
 use Rattle.psl_sugar.specs.declared.operand.Operand.{Operand}
 use Rattle.psl_sugar.specs.declared.operand.Operand.TheVariants as operands
-use Rattle.psl_elaboration.specs.Flaws.{flaw_where, is_declared, reference_flaws, literal_side, side_of, side_flaws, infix_flaws, is_comparison, expression_flaws}
-use Rattle.psl_elaboration.specs.Kernel.{vector, bits_operand, operand_of}
-use Rattle.psl_elaboration.specs.Kinds.{place_of, operator_before, kind_of}
-use Rattle.psl_elaboration.specs.LookUp.{reference}
-use Rattle.psl_elaboration.specs.Texts.{literal_value}
-use Rattle.psl_elaboration.specs.declared.fault.Cause.TheVariants as causes
-use Rattle.psl_elaboration.specs.declared.fault.Flaw.{Flaw}
-use Rattle.psl_elaboration.specs.declared.found.Reference.{Reference}
-use Rattle.psl_elaboration.specs.declared.found.Reference.TheVariants as references
-use Rattle.psl_elaboration.specs.declared.found.Side.{Side}
-use Rattle.psl_elaboration.specs.declared.found.Side.TheVariants.{Bits, Value, Neither}
+use Rattle.psl_layer_theory.specs.Flaws.{flaw_where, is_declared, reference_flaws, literal_side, side_of, side_flaws, infix_flaws, is_comparison, expression_flaws}
+use Rattle.psl_layer_theory.specs.Kernel.{vector, bits_operand, operand_of}
+use Rattle.psl_layer_theory.specs.Kinds.{place_of, operator_before, kind_of}
+use Rattle.psl_layer_theory.specs.LookUp.{reference}
+use Rattle.psl_layer_theory.specs.Texts.{literal_value}
+use Rattle.psl_layer_theory.specs.declared.fault.Cause.TheVariants as causes
+use Rattle.psl_layer_theory.specs.declared.fault.Flaw.{Flaw}
+use Rattle.psl_layer_theory.specs.declared.found.Reference.{Reference}
+use Rattle.psl_layer_theory.specs.declared.found.Reference.TheVariants as references
+use Rattle.psl_layer_theory.specs.declared.found.Side.{Side}
+use Rattle.psl_layer_theory.specs.declared.found.Side.TheVariants.{Bits, Value, Neither}
 use Rattle.psl_layer_laws.specs.Comparisons.{TextsCompareNumbers}
 
 -- neither of two lists has a fault where both together have none

@@ -8,15 +8,15 @@ use Rattle.psl_layer_laws.proofs.RangedLookUp.{AreBits, InRange, reference-has}
 use Rattle.psl_layer_laws.proofs.RangedOperators.{MeaningHas, NamedHave, boolean-has, sequence-has, formula-has, strong-has, prefix-has, connected-has, sequenced-has, suffixed-has, aborted-has, lasting-has, literal-has, repeated-has, alone-has, clocked-in-has, grouped-has, next-form-has, event-form-has, declared-has}
 use Rattle.psl_sugar.proofs.RangedComparisons.{OperandHas}
 use Rattle.psl_sugar.proofs.RowLaws.{comparison-row-has}
-use Rattle.psl_elaboration.specs.declared.found.Reference.{Reference}
-use Rattle.psl_elaboration.specs.declared.found.Reference.TheVariants as references
-use Rattle.psl_elaboration.specs.declared.operator.InfixOperator.{InfixOperator}
-use Rattle.psl_elaboration.specs.declared.operator.InfixOperator.TheVariants as operators
-use Rattle.psl_elaboration.specs.Kernel.{Meaning, Named, boolean_in, formula_in, vector, bits_meaning, bits_operand, operand_of, compared, operated, edge_meaning, optional_count, signal_meaning, meaning_of}
-use Rattle.psl_elaboration.specs.Kinds.{operator_before}
-use Rattle.psl_elaboration.specs.LookUp.{reference}
-use Rattle.psl_elaboration.specs.Operators.{prefix_operator, repetition_operator, strength_of, edge_of}
-use Rattle.psl_elaboration.specs.Texts.{path_text, literal_value}
+use Rattle.psl_layer_theory.specs.declared.found.Reference.{Reference}
+use Rattle.psl_layer_theory.specs.declared.found.Reference.TheVariants as references
+use Rattle.psl_layer_theory.specs.declared.operator.InfixOperator.{InfixOperator}
+use Rattle.psl_layer_theory.specs.declared.operator.InfixOperator.TheVariants as operators
+use Rattle.psl_layer_theory.specs.Kernel.{Meaning, Named, boolean_in, formula_in, vector, bits_meaning, bits_operand, operand_of, compared, operated, edge_meaning, optional_count, signal_meaning, meaning_of}
+use Rattle.psl_layer_theory.specs.Kinds.{operator_before}
+use Rattle.psl_layer_theory.specs.LookUp.{reference}
+use Rattle.psl_layer_theory.specs.Operators.{prefix_operator, repetition_operator, strength_of, edge_of}
+use Rattle.psl_layer_theory.specs.Texts.{path_text, literal_value}
 use Rattle.psl_sugar.specs.Booleans.{bit_at, bit_of as bit_of_vector}
 use Rattle.psl_sugar.specs.declared.comparison.Comparison.{Comparison}
 use Rattle.psl_sugar.specs.declared.operator.Strength.{Strength}

@@ -6,12 +6,12 @@ use Rattle.std.proofs.lemmas.Bool.{leb-true}
 use Rattle.std.proofs.lemmas.List.{get_or_default}
 use Rattle.std.proofs.lemmas.List.Elements.{All-filter, All-head}
 use Rattle.psl_lexer.specs.declared.token.Token.{Token}
-use Rattle.psl_elaboration.specs.LookUp.{is_named, ends_named, first_filled, matches, is_same_range, found_among, look_up, is_index, distance, whole_of, bit_of, with_index, refers_to, index_number, reference}
-use Rattle.psl_elaboration.specs.Texts.{path_text, indexed_text}
-use Rattle.psl_elaboration.specs.declared.found.Found.{Found}
-use Rattle.psl_elaboration.specs.declared.found.Found.TheVariants as finds
-use Rattle.psl_elaboration.specs.declared.found.Reference.{Reference}
-use Rattle.psl_elaboration.specs.declared.found.Reference.TheVariants as references
+use Rattle.psl_layer_theory.specs.LookUp.{is_named, ends_named, first_filled, matches, is_same_range, found_among, look_up, is_index, distance, whole_of, bit_of, with_index, refers_to, index_number, reference}
+use Rattle.psl_layer_theory.specs.Texts.{path_text, indexed_text}
+use Rattle.psl_layer_theory.specs.declared.found.Found.{Found}
+use Rattle.psl_layer_theory.specs.declared.found.Found.TheVariants as finds
+use Rattle.psl_layer_theory.specs.declared.found.Reference.{Reference}
+use Rattle.psl_layer_theory.specs.declared.found.Reference.TheVariants as references
 use Rattle.psl_tree.specs.Names.{indices, AreAlike}
 use Rattle.psl_tree.specs.declared.name.Name.{Name}
 

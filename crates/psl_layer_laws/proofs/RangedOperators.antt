@@ -11,13 +11,13 @@ use Rattle.psl_sugar.proofs.RangedBooleans as booleans
 use Rattle.psl_sugar.proofs.RangedProperties as properties
 use Rattle.psl_sugar.proofs.RowLaws as rows
 use Rattle.psl_sugar.proofs.RangedSequences as sequences
-use Rattle.psl_elaboration.specs.declared.operator.PrefixOperator.{PrefixOperator}
-use Rattle.psl_elaboration.specs.declared.operator.PrefixOperator.TheVariants as prefixes
-use Rattle.psl_elaboration.specs.declared.operator.RepetitionOperator.{RepetitionOperator}
-use Rattle.psl_elaboration.specs.declared.operator.RepetitionOperator.TheVariants as repetitions
-use Rattle.psl_elaboration.specs.Kernel.{Meaning, OfBoolean, OfSequence, OfProperty, Named, boolean_in, sequence_in, formula_in, strong_in, prefix_meaning, connected, sequenced, suffixed, aborted, lasting, literal_meaning, repeated_meaning, alone_meaning, clocked_meaning, clocked_in, grouped_meaning, next_meaning, event_meaning, declared_meaning, meaning_or}
-use Rattle.psl_elaboration.specs.Operators.{strength_of, quantifier_of}
-use Rattle.psl_elaboration.specs.Texts.{number_of}
+use Rattle.psl_layer_theory.specs.declared.operator.PrefixOperator.{PrefixOperator}
+use Rattle.psl_layer_theory.specs.declared.operator.PrefixOperator.TheVariants as prefixes
+use Rattle.psl_layer_theory.specs.declared.operator.RepetitionOperator.{RepetitionOperator}
+use Rattle.psl_layer_theory.specs.declared.operator.RepetitionOperator.TheVariants as repetitions
+use Rattle.psl_layer_theory.specs.Kernel.{Meaning, OfBoolean, OfSequence, OfProperty, Named, boolean_in, sequence_in, formula_in, strong_in, prefix_meaning, connected, sequenced, suffixed, aborted, lasting, literal_meaning, repeated_meaning, alone_meaning, clocked_meaning, clocked_in, grouped_meaning, next_meaning, event_meaning, declared_meaning, meaning_or}
+use Rattle.psl_layer_theory.specs.Operators.{strength_of, quantifier_of}
+use Rattle.psl_layer_theory.specs.Texts.{number_of}
 use Rattle.psl_sugar.specs.Sequences.{any_letter}
 use Rattle.psl_sugar.specs.declared.abort.AbortOperator.{AbortOperator}
 use Rattle.psl_sugar.specs.declared.connectives.Connective.{Connective}

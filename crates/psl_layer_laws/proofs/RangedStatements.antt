@@ -13,11 +13,11 @@ use Rattle.psl_grammar.specs.declared.tree.VerificationUnit.{VerificationUnit}
 use Rattle.psl_layer_laws.proofs.RangedExpressions.{meaning-has}
 use Rattle.psl_sugar.proofs.RangedProperties as properties
 use Rattle.psl_layer_laws.proofs.RangedOperators.{MeaningHas, NamedHave, boolean-has, sequence-has, formula-has, clocked-has}
-use Rattle.psl_elaboration.specs.declared.operator.DeclarationWord.{DeclarationWord}
-use Rattle.psl_elaboration.specs.declared.operator.DeclarationWord.TheVariants as declarations
-use Rattle.psl_elaboration.specs.Directives.{Asked, named_by, declared_by, clock_by, clock_of, default_clock, under_clock, asserted, covered_under, cover_formula, directive_formula, label_text, asked_by, asked_after, asked_in, asked_in_units, kernel}
-use Rattle.psl_elaboration.specs.Kernel.{Meaning, Named, OfSequence, OfProperty, boolean_in, sequence_in, formula_in, clocked_meaning, meaning_of}
-use Rattle.psl_elaboration.specs.Operators.{declaration_word, directive_kind_of}
+use Rattle.psl_layer_theory.specs.declared.operator.DeclarationWord.{DeclarationWord}
+use Rattle.psl_layer_theory.specs.declared.operator.DeclarationWord.TheVariants as declarations
+use Rattle.psl_layer_theory.specs.Directives.{Asked, named_by, declared_by, clock_by, clock_of, default_clock, under_clock, asserted, covered_under, cover_formula, directive_formula, label_text, asked_by, asked_after, asked_in, asked_in_units, kernel}
+use Rattle.psl_layer_theory.specs.Kernel.{Meaning, Named, OfSequence, OfProperty, boolean_in, sequence_in, formula_in, clocked_meaning, meaning_of}
+use Rattle.psl_layer_theory.specs.Operators.{declaration_word, directive_kind_of}
 use Rattle.psl_tree.specs.Atoms.{AtomsOfBoolean, AtomsOfFormula}
 use Rattle.psl_tree.specs.Names.{AtomInRange, AreAlike}
 use Rattle.psl_tree.specs.Trees.{Boolean}

@@ -14,15 +14,15 @@ use Rattle.psl_grammar.specs.Trees as nodes
 use Rattle.psl_grammar.specs.Trees.{Node}
 use Rattle.psl_layer_laws.proofs.Cleared.{clear, clear_statement, clear_all, read_statements, statements-read}
 use Rattle.psl_layer_laws.proofs.Unboxed.{place-clear, kind-clear, flaws-clear, meaning-clear, asserted-clear, cover-clear}
-use Rattle.psl_elaboration.specs.Directives.{Asked, named_by, declared_by, clock_by, clock_of, default_clock, asserted, directive_formula, asked_by, asked_after, asked_in, asked_in_units, kernel}
-use Rattle.psl_elaboration.specs.Flaws.{declares_clock, declaration_flaws, statement_flaws, statements_flaws, units_flaws, tree_flaws}
-use Rattle.psl_elaboration.specs.Kernel.{Named, meaning_of}
-use Rattle.psl_elaboration.specs.Kinds.{kind_declared_by, declared_as, place_of, kind_of}
-use Rattle.psl_elaboration.specs.Operators.{declaration_word, directive_kind_of}
-use Rattle.psl_elaboration.specs.declared.fault.Flaw.{Flaw}
-use Rattle.psl_elaboration.specs.declared.kind.ExpressionKind.{ExpressionKind}
-use Rattle.psl_elaboration.specs.declared.operator.DeclarationWord.{DeclarationWord}
-use Rattle.psl_elaboration.specs.declared.operator.DeclarationWord.TheVariants as declarations
+use Rattle.psl_layer_theory.specs.Directives.{Asked, named_by, declared_by, clock_by, clock_of, default_clock, asserted, directive_formula, asked_by, asked_after, asked_in, asked_in_units, kernel}
+use Rattle.psl_layer_theory.specs.Flaws.{declares_clock, declaration_flaws, statement_flaws, statements_flaws, units_flaws, tree_flaws}
+use Rattle.psl_layer_theory.specs.Kernel.{Named, meaning_of}
+use Rattle.psl_layer_theory.specs.Kinds.{kind_declared_by, declared_as, place_of, kind_of}
+use Rattle.psl_layer_theory.specs.Operators.{declaration_word, directive_kind_of}
+use Rattle.psl_layer_theory.specs.declared.fault.Flaw.{Flaw}
+use Rattle.psl_layer_theory.specs.declared.kind.ExpressionKind.{ExpressionKind}
+use Rattle.psl_layer_theory.specs.declared.operator.DeclarationWord.{DeclarationWord}
+use Rattle.psl_layer_theory.specs.declared.operator.DeclarationWord.TheVariants as declarations
 use Rattle.psl_tree.specs.Trees.{Boolean}
 use Rattle.psl_tree.specs.declared.directive.Kind as directive_kind
 use Rattle.psl_tree.specs.declared.directive.Kind.TheVariants as directives

@@ -8,16 +8,16 @@ use Rattle.psl_grammar.specs.declared.tree.Expression as code_expression
 use Rattle.psl_grammar.specs.declared.tree.Expression.TheVariants as expressions
 use Rattle.psl_grammar.specs.declared.tree.Statement as code_statement
 use Rattle.psl_layer_laws.proofs.Cleared.{clear}
-use Rattle.psl_elaboration.specs.Directives.{asserted, covered_under, cover_formula}
-use Rattle.psl_elaboration.specs.Flaws.{is_declared, side_of, expression_flaws}
-use Rattle.psl_elaboration.specs.Kernel.{Meaning, OfBoolean, Named, operand_of, compared, operated, meaning_of}
-use Rattle.psl_elaboration.specs.Kinds.{is_part, before_part, prefix_kind, clocked_kind, grouped_kind, place_of, operator_before, declared_as, kind_as, kind_of}
-use Rattle.psl_elaboration.specs.Operators.{infix_operator, prefix_operator, strength_of}
-use Rattle.psl_elaboration.specs.Texts.{path_text}
-use Rattle.psl_elaboration.specs.declared.fault.Flaw.{Flaw}
-use Rattle.psl_elaboration.specs.declared.kind.ExpressionKind.{ExpressionKind}
-use Rattle.psl_elaboration.specs.declared.operator.InfixOperator.{InfixOperator}
-use Rattle.psl_elaboration.specs.declared.operator.InfixOperator.TheVariants as operators
+use Rattle.psl_layer_theory.specs.Directives.{asserted, covered_under, cover_formula}
+use Rattle.psl_layer_theory.specs.Flaws.{is_declared, side_of, expression_flaws}
+use Rattle.psl_layer_theory.specs.Kernel.{Meaning, OfBoolean, Named, operand_of, compared, operated, meaning_of}
+use Rattle.psl_layer_theory.specs.Kinds.{is_part, before_part, prefix_kind, clocked_kind, grouped_kind, place_of, operator_before, declared_as, kind_as, kind_of}
+use Rattle.psl_layer_theory.specs.Operators.{infix_operator, prefix_operator, strength_of}
+use Rattle.psl_layer_theory.specs.Texts.{path_text}
+use Rattle.psl_layer_theory.specs.declared.fault.Flaw.{Flaw}
+use Rattle.psl_layer_theory.specs.declared.kind.ExpressionKind.{ExpressionKind}
+use Rattle.psl_layer_theory.specs.declared.operator.InfixOperator.{InfixOperator}
+use Rattle.psl_layer_theory.specs.declared.operator.InfixOperator.TheVariants as operators
 use Rattle.psl_sugar.specs.declared.comparison.Comparison.{Comparison}
 use Rattle.psl_sugar.specs.declared.operator.Strength.{Strength}
 use Rattle.psl_tree.specs.Trees.{Boolean}

@@ -11,10 +11,10 @@ use Rattle.psl_tree.specs.declared.letter.Letter.TheVariants.{Holds}
 use Rattle.psl_tree.specs.declared.name.Name.{Name}
 use Rattle.psl_sugar.specs.Numbers.{number_on, compares}
 use Rattle.psl_sugar.specs.declared.comparison.Comparison.{Comparison}
-use Rattle.psl_elaboration.specs.Flaws.{expression_flaws}
-use Rattle.psl_elaboration.specs.Kernel.{Named, boolean_in, operand_of, meaning_of}
-use Rattle.psl_elaboration.specs.Kinds.{operator_before}
-use Rattle.psl_elaboration.specs.declared.operator.InfixOperator.TheVariants as operators
+use Rattle.psl_layer_theory.specs.Flaws.{expression_flaws}
+use Rattle.psl_layer_theory.specs.Kernel.{Named, boolean_in, operand_of, meaning_of}
+use Rattle.psl_layer_theory.specs.Kinds.{operator_before}
+use Rattle.psl_layer_theory.specs.declared.operator.InfixOperator.TheVariants as operators
 
 -- where the program keeps the parts of a tree
 abbrev pub Boxed : Type 0

@@ -5,8 +5,8 @@
 ghost use Rattle.std.specs.Prelude.{◌≡◌, All, List};
 ghost use Rattle.psl_grammar.specs.declared.tree.UnitTree as code_tree;
 ghost use Rattle.psl_grammar.specs.Surface.{tree_node};
-ghost use Rattle.psl_elaboration.specs.Directives.{kernel};
-ghost use Rattle.psl_elaboration.specs.Flaws.{tree_flaws};
+ghost use Rattle.psl_layer_theory.specs.Directives.{kernel};
+ghost use Rattle.psl_layer_theory.specs.Flaws.{tree_flaws};
 ghost use Rattle.psl_tree.specs.Atoms.{AtomsOfFormula};
 ghost use Rattle.psl_tree.specs.Names.{AreAlike, AtomInRange};
 ghost use Rattle.psl_tree.specs.declared.name.Name.{Name};

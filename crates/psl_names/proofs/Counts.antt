@@ -4,7 +4,7 @@ use Rattle.std.proofs.lemmas.List.{length-map, length-drop, drop-drop, get_or_de
 use Rattle.std.specs.Prelude.{if◌then◌else◌}
 use Rattle.psl_tree.specs.declared.name.Name.{Name}
 use Rattle.psl_names.specs.Alike.{alike, alike_each, front_count}
-use Rattle.psl_elaboration.specs.LookUp.{is_same_range}
+use Rattle.psl_layer_theory.specs.LookUp.{is_same_range}
 use Rattle.psl_names.specs.Sorting.{names_of, found_in, found_with}
 use Rattle.psl_names.proofs.Refs.{from_place, names-from}
 

@@ -6,8 +6,8 @@ use Rattle.std.specs.List.{list_all, list_any}
 use Rattle.std.specs.List.Sorted.{IsPartitionedBy}
 use Rattle.std.specs.Prelude.{⊤, filter, if◌then◌else◌, ◌&&◌, ◌||◌}
 use Rattle.psl_tree.specs.declared.name.Name.{Name}
-use Rattle.psl_elaboration.specs.declared.found.Found.TheVariants.{Nothing, One, Several}
-use Rattle.psl_elaboration.specs.LookUp.{found_among, is_same_range}
+use Rattle.psl_layer_theory.specs.declared.found.Found.TheVariants.{Nothing, One, Several}
+use Rattle.psl_layer_theory.specs.LookUp.{found_among, is_same_range}
 use Rattle.psl_names.specs.Alike.{alike, first_passes, said}
 
 -- the names that pass a test stand before the others

@@ -10,9 +10,9 @@ use Rattle.std.specs.List.{list_all}
 use Rattle.std.specs.List.Sorted.{IsSortedBy, IsPartitionedBy}
 use Rattle.std.specs.Prelude.{filter, if◌then◌else◌}
 use Rattle.psl_tree.specs.declared.name.Name.{Name}
-use Rattle.psl_elaboration.specs.declared.found.Found.{Found}
-use Rattle.psl_elaboration.specs.declared.found.Found.TheVariants.{Nothing, One, Several}
-use Rattle.psl_elaboration.specs.LookUp.{found_among, first_filled, is_named, ends_named, is_same_range, look_up}
+use Rattle.psl_layer_theory.specs.declared.found.Found.{Found}
+use Rattle.psl_layer_theory.specs.declared.found.Found.TheVariants.{Nothing, One, Several}
+use Rattle.psl_layer_theory.specs.LookUp.{found_among, first_filled, is_named, ends_named, is_same_range, look_up}
 use Rattle.psl_names.specs.Alike.{alike, said, first_passes}
 use Rattle.psl_names.specs.Ends.{backward}
 use Rattle.psl_names.specs.Sorting.{is_before, IsSorting, IsPlaceOf, found_in}

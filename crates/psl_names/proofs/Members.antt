@@ -6,8 +6,8 @@ use Rattle.std.specs.Cmp.{first_so, second_so}
 use Rattle.std.specs.List.{list_all, list_any}
 use Rattle.std.specs.Prelude.{filter, if◌then◌else◌, ◌&&◌, ◌||◌, ◌==◌}
 use Rattle.psl_tree.specs.declared.name.Name.{Name}
-use Rattle.psl_elaboration.specs.declared.found.Found.TheVariants.{One, Several}
-use Rattle.psl_elaboration.specs.LookUp.{found_among, is_same_range}
+use Rattle.psl_layer_theory.specs.declared.found.Found.TheVariants.{One, Several}
+use Rattle.psl_layer_theory.specs.LookUp.{found_among, is_same_range}
 use Rattle.psl_names.specs.Alike.{HaveSameMembers}
 
 -- whether all pass, by whether any fails

@@ -2,9 +2,9 @@
 use Rattle.std.specs.List.{list_any}
 use Rattle.std.specs.Prelude.{◌≡◌, Bool as Truth, false, ℕ, suc, List, [], ◌∷◌, if◌then◌else◌}
 use Rattle.psl_tree.specs.declared.name.Name.{Name}
-use Rattle.psl_elaboration.specs.declared.found.Found.{Found}
-use Rattle.psl_elaboration.specs.declared.found.Found.TheVariants.{One, Several}
-use Rattle.psl_elaboration.specs.LookUp.{is_same_range}
+use Rattle.psl_layer_theory.specs.declared.found.Found.{Found}
+use Rattle.psl_layer_theory.specs.declared.found.Found.TheVariants.{One, Several}
+use Rattle.psl_layer_theory.specs.LookUp.{is_same_range}
 
 -- how many names at a list's front have the signal and the range of a name
 abbrev pub alike : Name → List Name → ℕ

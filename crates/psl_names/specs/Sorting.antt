@@ -4,9 +4,9 @@ use Rattle.std.specs.Borrow.{Bor}
 use Rattle.std.specs.List.Sorted.{IsSortedBy, IsPartitionPoint}
 use Rattle.std.specs.Ordering.{is_lt}
 use Rattle.psl_tree.specs.declared.name.Name.{Name}
-use Rattle.psl_elaboration.specs.declared.found.Found.{Found}
-use Rattle.psl_elaboration.specs.declared.found.Found.TheVariants.{Nothing}
-use Rattle.psl_elaboration.specs.LookUp.{is_named, ends_named}
+use Rattle.psl_layer_theory.specs.declared.found.Found.{Found}
+use Rattle.psl_layer_theory.specs.declared.found.Found.TheVariants.{Nothing}
+use Rattle.psl_layer_theory.specs.LookUp.{is_named, ends_named}
 use Rattle.psl_names.specs.Alike.{HaveSameMembers, alike, alike_each, first_passes, said}
 use Rattle.psl_names.specs.Ends.{compare_ends}
 

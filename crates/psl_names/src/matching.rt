@@ -1,6 +1,6 @@
 // Which entries of a list of names a text matches.
 ghost use Rattle.std.specs.Prelude.{◌≡◌, ◌+◌, ◌^◌, ◌<◌, ◌≤◌, drop, length, slice_index, IfOk};
-ghost use Rattle.psl_elaboration.specs.LookUp as spec;
+ghost use Rattle.psl_layer_theory.specs.LookUp as spec;
 ghost use Rattle.psl_names.specs.Alike.{alike_each, first_passes, said};
 ghost use Rattle.psl_names.specs.Sorting.{found_in, found_with, is_before, names_of, IsPlaceOf};
 ghost use Rattle.std.specs.List.Sorted.{IsSortedBy};
@@ -8,7 +8,7 @@ ghost use Rattle.std.specs.List.Sorted.{IsSortedBy};
 use crate::ends::compare_ends;
 use crate::sorting::{alike_counts, sorted_by_ends};
 use psl_base::NoMemory;
-use psl_elaboration::Found;
+use psl_layer_theory::Found;
 use psl_tree::{Name, Names};
 use std::alloc::Global;
 use std::marker::Model;

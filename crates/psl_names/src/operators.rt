@@ -1,8 +1,8 @@
 // What the words and marks of a tree ask for.
 ghost use Rattle.std.specs.Prelude.{◌≡◌};
-ghost use Rattle.psl_elaboration.specs.Operators as spec;
+ghost use Rattle.psl_layer_theory.specs.Operators as spec;
 
-use psl_elaboration::{DeclarationWord, InfixOperator, PrefixOperator, RepetitionOperator};
+use psl_layer_theory::{DeclarationWord, InfixOperator, PrefixOperator, RepetitionOperator};
 use psl_lexer::TokenKind;
 use psl_sugar::{
     AbortOperator, Comparison, Connective, Quantifier, SequenceOperator, Strength, SuffixOperator,

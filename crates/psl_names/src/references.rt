@@ -1,12 +1,12 @@
 // Which signal a path stands for.
 ghost use Rattle.std.specs.Prelude.{◌≡◌, ◌<◌, ◌^◌, IfOk, IsTrue};
-ghost use Rattle.psl_elaboration.specs.LookUp as spec;
+ghost use Rattle.psl_layer_theory.specs.LookUp as spec;
 
 use crate::matching::{NameIndex, look_up};
 use crate::texts::indexed_text;
 use crate::values::number_of;
 use psl_base::NoMemory;
-use psl_elaboration::{Found, Reference};
+use psl_layer_theory::{Found, Reference};
 use psl_lexer::Token;
 use std::alloc::Global;
 

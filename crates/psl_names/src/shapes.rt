@@ -1,10 +1,10 @@
 // Which operator a token is, by what stands behind it.
 ghost use Rattle.std.specs.Prelude.{◌≡◌};
-ghost use Rattle.psl_elaboration.specs.Kinds as spec;
+ghost use Rattle.psl_layer_theory.specs.Kinds as spec;
 
 use crate::operators::infix_operator;
-use psl_elaboration::InfixOperator;
 use psl_grammar::Expression;
+use psl_layer_theory::InfixOperator;
 use psl_lexer::TokenKind;
 use psl_sugar::{Connective, SequenceOperator};
 

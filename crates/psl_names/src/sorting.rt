@@ -1,7 +1,7 @@
 // Names in the order of their ends.
 ghost use Rattle.std.specs.Prelude.{◌≡◌, ◌+◌, ◌^◌, ◌<◌, ◌++◌, ◌∷◌, [], IfOk, OnOk};
 ghost use Rattle.psl_names.specs.Alike.{alike, alike_each, front_count};
-ghost use Rattle.psl_elaboration.specs.LookUp.{is_same_range};
+ghost use Rattle.psl_layer_theory.specs.LookUp.{is_same_range};
 ghost use Rattle.psl_names.specs.Sorting.{names_of, IsSorting};
 
 use crate::ends::compare_ends;

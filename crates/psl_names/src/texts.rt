@@ -1,6 +1,6 @@
 // The texts of paths.
 ghost use Rattle.std.specs.Prelude.{◌≡◌, ◌++◌, IfOk, OnOk};
-ghost use Rattle.psl_elaboration.specs.Texts as spec;
+ghost use Rattle.psl_layer_theory.specs.Texts as spec;
 
 use psl_base::{NoMemory, Text, add_bytes, add_number};
 use psl_lexer::Token;

@@ -1,6 +1,6 @@
 // What numbers and constants say.
 ghost use Rattle.std.specs.Prelude.{◌≡◌, ◌≤◌, ◌<◌, ◌==◌, length, position, IfSome};
-ghost use Rattle.psl_elaboration.specs.Texts as spec;
+ghost use Rattle.psl_layer_theory.specs.Texts as spec;
 ghost use Rattle.psl_lexer.specs.Values.{value_of as value_of_digits};
 
 use psl_lexer::{Token, TokenKind, base_of, value_of};

@@ -5,28 +5,8 @@ ghost use Rattle.std.specs.Prelude.{◌≡◌};
 ghost use Rattle.std.specs.Process.{exit_status};
 
 use commands::{Report, run};
-use psl_base::{DirShelf, NoMemory, StdSink};
-use std::env;
-use std::env::Env;
-use std::io::ErrorKind;
+use psl_base::{DirShelf, StdSink, program_words};
 use std::process::ExitCode;
-
-/// The words after the program's name; none where they are not all text.
-fn words(rt: &(impl Env + AllocGlobal)) -> Result<Vec<String>, NoMemory> {
-    let mut words = Vec::new(rt.alloc());
-    match env::args(rt) {
-        Ok(args) => {
-            for word in args.skip(1) {
-                if words.push(word).is_err() {
-                    return Err(NoMemory);
-                }
-            }
-            Ok(words)
-        }
-        Err(error) if error.kind() == ErrorKind::OutOfMemory => Err(NoMemory),
-        Err(_) => Ok(words),
-    }
-}
 
 /// What the process ends with: the status of the report.
 fn ended(report: &Report) -> ExitCode
@@ -36,7 +16,7 @@ fn ended(report: &Report) -> ExitCode
 }
 
 fn main(rt: HostRuntime) -> ExitCode {
-    let Ok(words) = words(&rt) else {
+    let Ok(words) = program_words(&rt) else {
         return ExitCode::from(8);
     };
     let mut files = DirShelf::new(&rt);

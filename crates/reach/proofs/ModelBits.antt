@@ -1,7 +1,7 @@
 -- The bits of a state among the values of a model.
 use Rattle.std.proofs.Common.{◌≡◌, sym, ap, ◌∙◌, ℕ, suc, ◌+◌, ◌-◌, ◌<◌, Bool as Truth, false, List, length, get_or, arith}
 use Rattle.std.proofs.lemmas.List.FromFn.{fill_by_all}
-use Rattle.circuit_theory.specs.Circuits.{AreSame}
+use Rattle.gates_theory.specs.Circuits.{AreSame}
 use Rattle.joint.specs.Slices.{bits_from}
 use Rattle.joint_selectors.specs.Missed.{values_from}
 use Rattle.run_terms.specs.Formulas.{values_of}

@@ -1,7 +1,7 @@
 -- A neighbour of a state in a cube, by the model of a query whose clauses say the state.
 use Rattle.std.proofs.Common.{◌≡◌, sym, ap, ◌∙◌, subst, ℕ, zero, suc, ◌+◌, ◌<◌, ℤ, pos, neg_ℤ, Bool as Truth, true, false, List, [], ◌∷◌, ◌++◌, arith}
 use Rattle.std.specs.Prelude.{IsTrue}
-use Rattle.circuit_theory.proofs.Within.{both_within}
+use Rattle.gates_theory.proofs.Within.{both_within}
 use Rattle.clauses.specs.Literals.{clause_within, clauses_within, is_within}
 use Rattle.joint.specs.Joined.{Joined}
 use Rattle.joint.specs.Slices.{bits_from}

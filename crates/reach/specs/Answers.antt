@@ -2,7 +2,7 @@
 use Rattle.std.specs.Prelude.{◌≡◌, ℕ, suc, ◌+◌, ◌≤◌, ℤ, List, length, IsTrue}
 use Rattle.cdcl.specs.Answers.{IsFull, IsSpent}
 use Rattle.cdcl.specs.Evidence.{IsTidy}
-use Rattle.circuit_theory.specs.Sizes.{IsTooLarge}
+use Rattle.gates_theory.specs.Sizes.{IsTooLarge}
 use Rattle.clauses.specs.Literals.{clause_words}
 use Rattle.clauses.specs.Logs.{LogEntry, Refutes, lemmas, log_words}
 use Rattle.clauses.specs.declared.cnf.Cnf.{Cnf}

@@ -1,6 +1,6 @@
 -- What the questions over a slice of the signals are asked of.
 use Rattle.std.specs.Prelude.{◌≡◌, ℕ, ℤ, Bool as Truth, List}
-use Rattle.circuit_theory.specs.Relations.{circuit_of}
+use Rattle.gates_theory.specs.Relations.{circuit_of}
 use Rattle.clauses.specs.declared.cnf.Cnf.{Cnf}
 use Rattle.joint.specs.Joined.{Joined}
 use Rattle.joint.specs.declared.slice.Slice.{Slice}

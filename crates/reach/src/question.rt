@@ -1,12 +1,12 @@
 // Queries as they are asked.
 ghost use Rattle.std.specs.Prelude.{◌≡◌, IfOk, IfErr};
-ghost use Rattle.circuit_theory.specs.Sizes.{IsTooLarge};
+ghost use Rattle.gates_theory.specs.Sizes.{IsTooLarge};
 ghost use Rattle.clauses.specs.declared.flat.CnfFault.{CnfFault};
 ghost use Rattle.reach.specs.Formulas.{clauses_of, variables_of, IsFormulaOf, IsWithin};
 ghost use Rattle.reach.specs.Questions.{query_of};
 
-use circuit_theory::Literals;
 use clauses::{Clauses, Cnf, CnfFault};
+use gates_theory::Literals;
 use joint::Joint;
 use psl_base::NoMemory;
 use reach_frames::ReachQuery;

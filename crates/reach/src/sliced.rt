@@ -2,8 +2,8 @@
 ghost use Rattle.std.specs.Prelude.{IfOk, IfSome};
 ghost use Rattle.reach.specs.Sliced.{IsSliced};
 
-use circuit_theory::Circuit;
 use clauses::{Cnf, CnfFault};
+use gates_theory::Circuit;
 use joint::{Joint, Slice};
 use psl_base::NoMemory;
 use std::alloc::Global;

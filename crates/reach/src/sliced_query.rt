@@ -1,6 +1,6 @@
 // The formula over a slice that looks for an entry into a cube.
 ghost use Rattle.std.specs.Prelude.{◌≡◌, ◌+◌, ◌≤◌, ◌++◌, ◌∷◌, [], IfOk, OnOk, IsTrue};
-ghost use Rattle.circuit_theory.specs.Unrolled.{units};
+ghost use Rattle.gates_theory.specs.Unrolled.{units};
 ghost use Rattle.clauses.specs.Literals.{clause_within, clauses_within};
 ghost use Rattle.joint_theory.specs.Bits.{joint_width};
 ghost use Rattle.joint_theory.specs.Reaching.{start_units};

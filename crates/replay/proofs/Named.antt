@@ -6,9 +6,9 @@ use Rattle.std.specs.Option.{IfSome}
 use Rattle.std.proofs.lemmas.List.Elements.{All-cons, All-filter, All-head, All-nil}
 use Rattle.std.proofs.lemmas.List.{get_or_default}
 use Rattle.netlist.specs.Design.{Design}
-use Rattle.psl_elaboration.specs.LookUp.{ends_named, first_filled, found_among, is_named, is_same_range, look_up, matches}
-use Rattle.psl_elaboration.specs.declared.found.Found.{Found}
-use Rattle.psl_elaboration.specs.declared.found.Found.TheVariants as finds
+use Rattle.psl_layer_theory.specs.LookUp.{ends_named, first_filled, found_among, is_named, is_same_range, look_up, matches}
+use Rattle.psl_layer_theory.specs.declared.found.Found.{Found}
+use Rattle.psl_layer_theory.specs.declared.found.Found.TheVariants as finds
 use Rattle.psl_tree.specs.Ranges.{index_count}
 use Rattle.psl_tree.specs.declared.name.Name.{Name}
 use Rattle.replay.specs.Numbered.{AreNamed}

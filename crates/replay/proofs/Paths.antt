@@ -18,7 +18,7 @@ use Rattle.netlist.specs.declared.latch.Init.TheVariants as inits
 use Rattle.netlist.specs.declared.latch.Latch.{Latch}
 use Rattle.netlist.specs.declared.run.Run.{Run}
 use Rattle.netlist.specs.declared.table.Table.{Table}
-use Rattle.psl_elaboration.specs.LookUp.{ends_named, first_filled, found_among, is_named}
+use Rattle.psl_layer_theory.specs.LookUp.{ends_named, first_filled, found_among, is_named}
 use Rattle.psl_tree.specs.declared.name.Name.{Name}
 use Rattle.replay.specs.Answers.{IsMissing, IsReplay, Tells}
 use Rattle.replay.specs.Leaving.{differ, differs_from, first_from, first_of, latch_leaves, leaves, leaving, lowest, output_leaves, table_leaves}

@@ -3,9 +3,9 @@ use Rattle.std.specs.Prelude.{ℕ, ◌<◌, ◌==◌, Bool as Truth, false, cond
 use Rattle.std.specs.List.{find}
 use Rattle.netlist.specs.Design.{Design, free_of}
 use Rattle.netlist.specs.Valuations.{IsFilled}
-use Rattle.psl_elaboration.specs.LookUp.{look_up}
-use Rattle.psl_elaboration.specs.declared.found.Found.{Found}
-use Rattle.psl_elaboration.specs.declared.found.Found.TheVariants as finds
+use Rattle.psl_layer_theory.specs.LookUp.{look_up}
+use Rattle.psl_layer_theory.specs.declared.found.Found.{Found}
+use Rattle.psl_layer_theory.specs.declared.found.Found.TheVariants as finds
 use Rattle.psl_tree.specs.Ranges.{index_count}
 use Rattle.trace.specs.Trace.{first_text}
 use Rattle.vcd_reader.specs.Sampled.{Sampled, bit_at}

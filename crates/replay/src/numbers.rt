@@ -7,7 +7,7 @@ ghost use Rattle.trace.specs.FirstPlaces.{TellsFirst};
 
 use netlist::{Latch, Netlist, soundness_law};
 use psl_base::NoMemory;
-use psl_elaboration::Found;
+use psl_layer_theory::Found;
 use psl_names::{NameIndex, look_up};
 use std::alloc::Global;
 use trace::first_text;

@@ -9,10 +9,10 @@ use Rattle.std.proofs.Math.Nat.{mul-le-mul_right}
 use Rattle.clauses.specs.declared.cnf.Cnf.{Cnf}
 use Rattle.clauses.specs.declared.flat.CnfFault.{CnfFault}
 use Rattle.clauses.specs.Literals.{clause_within, clause_words, is_within}
-use Rattle.circuit_theory.specs.Distinct.{following}
-use Rattle.circuit_theory.specs.Unrolled.{moved, units}
-use Rattle.circuit_theory.proofs.Literals.{within_from}
-use Rattle.circuit_theory.proofs.Sizes.{words-append}
+use Rattle.gates_theory.specs.Distinct.{following}
+use Rattle.gates_theory.specs.Unrolled.{moved, units}
+use Rattle.gates_theory.proofs.Literals.{within_from}
+use Rattle.gates_theory.proofs.Sizes.{words-append}
 use Rattle.run_formulas.specs.Adding.{Adds}
 
 abbrev pub Clauses : Type 0

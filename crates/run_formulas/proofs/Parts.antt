@@ -3,7 +3,7 @@ use Rattle.std.proofs.Common.{◌≡◌, ℕ, suc, ◌+◌, ◌-◌, ◌*◌, �
 use Rattle.std.specs.List.{range_with_len}
 use Rattle.clauses.specs.declared.flat.TheConstants.{MOST_WORDS}
 use Rattle.clauses.specs.Literals.{clause_words}
-use Rattle.circuit_theory.proofs.Sizes.{words-append}
+use Rattle.gates_theory.proofs.Sizes.{words-append}
 
 -- the first of the numbers that are left
 pub number-next : (f : ℕ → List ℤ) (n i : ℕ) → i < n → map f (range_with_len i (n - i)) ≡ (f i ∷ []) ++ map f (range_with_len (i + 1) (n - (i + 1)))

@@ -4,8 +4,8 @@ use Rattle.clauses.specs.declared.cnf.Cnf.{Cnf}
 use Rattle.clauses.specs.declared.flat.CnfFault.{CnfFault}
 use Rattle.clauses.specs.declared.flat.TheConstants.{MOST_WORDS}
 use Rattle.clauses.specs.Literals.{clause_words}
-use Rattle.circuit_theory.specs.declared.circuit.Circuit.{Circuit}
-use Rattle.circuit_theory.specs.Unrolled.{units, unrolled}
+use Rattle.gates_theory.specs.declared.circuit.Circuit.{Circuit}
+use Rattle.gates_theory.specs.Unrolled.{units, unrolled}
 
 -- the clauses were added behind the old ones; or there would be too many words; or memory was refused
 pub record Adds {A : Type 0} (old new : Cnf) (more : List (List ℤ)) (result : Result A CnfFault) : Type 0 where

@@ -1,10 +1,10 @@
 -- The formulas of a window, over a circuit in which a variable of a position says that the state there is bad.
 use Rattle.std.specs.Prelude.{ℕ, zero, suc, ◌*◌, ℤ, pos, neg_ℤ, List, [], ◌∷◌, ◌++◌, map, length}
 use Rattle.std.specs.List.{range_with_len}
-use Rattle.circuit_theory.specs.declared.circuit.Circuit.{Circuit}
-use Rattle.circuit_theory.specs.Distinct.{distinct}
-use Rattle.circuit_theory.specs.Sizes.{distinct_variables}
-use Rattle.circuit_theory.specs.Unrolled.{moved, units}
+use Rattle.gates_theory.specs.declared.circuit.Circuit.{Circuit}
+use Rattle.gates_theory.specs.Distinct.{distinct}
+use Rattle.gates_theory.specs.Sizes.{distinct_variables}
+use Rattle.gates_theory.specs.Unrolled.{moved, units}
 use Rattle.run_formulas.specs.Adding.{held_to}
 
 -- the state is bad at a position, where each has so many variables

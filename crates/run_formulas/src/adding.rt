@@ -2,12 +2,12 @@
 ghost use Rattle.std.specs.Prelude.{◌≡◌, ◌+◌, ◌*◌, ◌<◌, ◌≤◌, pos, [], ◌∷◌, map, IsTrue};
 ghost use Rattle.std.specs.List.{range_with_len};
 ghost use Rattle.clauses.specs.Literals.{clause_within, is_within};
-ghost use Rattle.circuit_theory.specs.Unrolled.{moved as higher, units};
+ghost use Rattle.gates_theory.specs.Unrolled.{moved as higher, units};
 ghost use Rattle.run_formulas.specs.Adding.{Adds};
 
 use crate::moved;
-use circuit_theory::Literals;
 use clauses::{Cnf, CnfFault};
+use gates_theory::Literals;
 use std::alloc::Global;
 
 /// A clause.

@@ -1,14 +1,14 @@
 // A circuit at so many positions, of which the last one is held too.
 ghost use Rattle.std.specs.Prelude.{◌≡◌, ◌*◌, ◌<◌, suc, length, IfErr, IfOk};
 ghost use Rattle.clauses.specs.declared.flat.CnfFault.{CnfFault};
-ghost use Rattle.circuit_theory.specs.Circuits.{IsSound};
-ghost use Rattle.circuit_theory.specs.Sizes.{IsTooLarge};
+ghost use Rattle.gates_theory.specs.Circuits.{IsSound};
+ghost use Rattle.gates_theory.specs.Sizes.{IsTooLarge};
 ghost use Rattle.run_formulas.specs.Adding as spec;
 
 use crate::add_units;
-use circuit_theory::Circuit;
 use clauses::{Cnf, CnfFault};
 use gates::unroll;
+use gates_theory::Circuit;
 use std::alloc::Global;
 
 /// A circuit at the positions up to the last one, where it is held too.

@@ -1,7 +1,7 @@
 ghost use Rattle.std.specs.Prelude.{◌≡◌, ◌+◌, ◌≤◌, IsTrue};
 ghost use Rattle.clauses.specs.declared.flat.TheConstants.{MOST_VARIABLES};
 ghost use Rattle.clauses.specs.Literals.{is_within};
-ghost use Rattle.circuit_theory.specs.Unrolled as spec;
+ghost use Rattle.gates_theory.specs.Unrolled as spec;
 
 /// A literal of a variable that is so much higher.
 pub fn moved(base: u32, literal: i32) -> i32

@@ -1,8 +1,8 @@
 ghost use Rattle.std.specs.Prelude.{◌≡◌, ◌+◌, ◌≤◌, IfOk};
 ghost use Rattle.clauses.specs.declared.flat.TheConstants.{MOST_VARIABLES};
-ghost use Rattle.circuit_theory.specs.Distinct as spec;
+ghost use Rattle.gates_theory.specs.Distinct as spec;
 
-use circuit_theory::Literals;
+use gates_theory::Literals;
 use psl_base::NoMemory;
 use std::alloc::Global;
 

@@ -3,17 +3,17 @@ ghost use Rattle.std.specs.Prelude.{◌≡◌, ◌+◌, ◌*◌, ◌^◌, ◌<�
 ghost use Rattle.clauses.specs.declared.flat.CnfFault.{CnfFault};
 ghost use Rattle.clauses.specs.declared.flat.TheConstants.{MOST_VARIABLES};
 ghost use Rattle.clauses.specs.Literals.{clause_within, variable_of};
-ghost use Rattle.circuit_theory.specs.Circuits.{IsSound};
-ghost use Rattle.circuit_theory.specs.Sizes.{IsTooLarge};
+ghost use Rattle.gates_theory.specs.Circuits.{IsSound};
+ghost use Rattle.gates_theory.specs.Sizes.{IsTooLarge};
 ghost use Rattle.run_formulas.specs.Adding.{Adds};
 ghost use Rattle.run_formulas.specs.Windows as spec;
 ghost use Rattle.run_formulas.specs.Windows.{bad_at, base_variables, good_clauses, induction_variables};
 
 use crate::adding::{add_clause, add_somewhere, add_unit, add_units};
 use crate::held::held_to;
-use circuit_theory::Circuit;
 use clauses::{Cnf, CnfFault};
 use gates::distinct;
+use gates_theory::Circuit;
 use std::alloc::Global;
 
 /// An initial state, of which these literals are true, and a bad one among so many positions as the window. The variable

@@ -3,10 +3,10 @@ use Rattle.std.proofs.Common.{◌≡◌, ℕ, zero, suc, ◌+◌, ◌-◌, ◌*�
 use Rattle.std.specs.Bool.{IsTrue}
 use Rattle.clauses.specs.declared.flat.CnfFault.{CnfFault}
 use Rattle.clauses.specs.Literals.{is_literal}
-use Rattle.circuit_theory.specs.declared.circuit.Gate.{Gate}
-use Rattle.circuit_theory.specs.Distinct.{following}
-use Rattle.circuit_theory.specs.Terms.{Term, Built, built, term_size}
-use Rattle.circuit_theory.specs.Terms.Term.{Literal}
+use Rattle.gates_theory.specs.declared.circuit.Gate.{Gate}
+use Rattle.gates_theory.specs.Distinct.{following}
+use Rattle.gates_theory.specs.Terms.{Term, Built, built, term_size}
+use Rattle.gates_theory.specs.Terms.Term.{Literal}
 use Rattle.run_gates.specs.Building.{Builds, digit_term}
 use Rattle.run_terms.specs.Numbers.{at_most}
 use Rattle.run_terms.proofs.NumberValues.{at_most-size}

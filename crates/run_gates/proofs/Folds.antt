@@ -6,9 +6,9 @@ use Rattle.std.proofs.lemmas.List.Folds.{fold-map}
 use Rattle.std.proofs.lemmas.List.Sums.{sum_by-cons}
 use Rattle.clauses.specs.declared.flat.CnfFault.{CnfFault}
 use Rattle.clauses.specs.Literals.{is_literal}
-use Rattle.circuit_theory.specs.declared.circuit.Gate.{Gate}
-use Rattle.circuit_theory.specs.Terms.{Term, Built, built, term_size, with_conjunction}
-use Rattle.circuit_theory.specs.Terms.Term.{Literal, Conjunction}
+use Rattle.gates_theory.specs.declared.circuit.Gate.{Gate}
+use Rattle.gates_theory.specs.Terms.{Term, Built, built, term_size, with_conjunction}
+use Rattle.gates_theory.specs.Terms.Term.{Literal, Conjunction}
 use Rattle.run_gates.specs.Building.{Builds, Joins, IsTooMany, join_size, with_either}
 use Rattle.run_terms.specs.Booleans.{constant, either}
 use Rattle.run_terms.specs.Sizes.{terms_size}

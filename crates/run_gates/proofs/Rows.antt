@@ -3,8 +3,8 @@ use Rattle.std.proofs.Common.{◌≡◌, ℕ, zero, suc, ◌+◌, ◌<◌, ℤ, 
 use Rattle.std.proofs.lemmas.List.{drop_more}
 use Rattle.netlist.specs.declared.rows.Mark.{Mark}
 use Rattle.netlist.specs.declared.rows.Mark.TheVariants as marks
-use Rattle.circuit_theory.specs.Terms.{Term}
-use Rattle.circuit_theory.specs.Terms.Term.{Literal}
+use Rattle.gates_theory.specs.Terms.{Term}
+use Rattle.gates_theory.specs.Terms.Term.{Literal}
 use Rattle.run_terms.specs.Tables.{all_of, mark_literals, row_literals}
 use Rattle.run_gates.specs.Marks.{marked}
 

@@ -7,9 +7,9 @@ use Rattle.std.proofs.lemmas.List.Sums.{sum_by-cons, sum_by-append}
 use Rattle.std.specs.Bool.{IsTrue}
 use Rattle.clauses.specs.Literals.{is_literal}
 use Rattle.clauses.specs.declared.flat.CnfFault.{CnfFault}
-use Rattle.circuit_theory.specs.declared.circuit.Gate.{Gate}
-use Rattle.circuit_theory.specs.Terms.{Term, Built, built, built_all, term_size}
-use Rattle.circuit_theory.specs.Terms.Term.{Literal}
+use Rattle.gates_theory.specs.declared.circuit.Gate.{Gate}
+use Rattle.gates_theory.specs.Terms.{Term, Built, built, built_all, term_size}
+use Rattle.gates_theory.specs.Terms.Term.{Literal}
 use Rattle.run_gates.specs.Building.{keep_at, kept, kept_all, join_size, Builds, BuildsAll, Holding, Holds}
 use Rattle.run_gates.proofs.Folds.{same_built, literal-builds}
 use Rattle.run_terms.specs.Sizes.{terms_size}

@@ -3,9 +3,9 @@ use Rattle.std.specs.Prelude.{◌≡◌, ℕ, suc, ◌+◌, ◌<◌, ℤ, pos, n
 use Rattle.clauses.specs.declared.flat.CnfFault.{CnfFault}
 use Rattle.clauses.specs.declared.flat.TheConstants.{MOST_VARIABLES}
 use Rattle.clauses.specs.Literals.{is_literal}
-use Rattle.circuit_theory.specs.declared.circuit.Gate.{Gate}
-use Rattle.circuit_theory.specs.Terms.{Term, Built, built, built_all, term_size, with_conjunction}
-use Rattle.circuit_theory.specs.Terms.Term.{Literal, Negation, Conjunction}
+use Rattle.gates_theory.specs.declared.circuit.Gate.{Gate}
+use Rattle.gates_theory.specs.Terms.{Term, Built, built, built_all, term_size, with_conjunction}
+use Rattle.gates_theory.specs.Terms.Term.{Literal, Negation, Conjunction}
 use Rattle.run_terms.specs.Booleans.{either}
 use Rattle.run_terms.specs.Sizes.{terms_size}
 use Rattle.run_terms.specs.Tables.{guarded}

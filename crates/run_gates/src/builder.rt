@@ -3,13 +3,13 @@ ghost use Rattle.std.specs.Prelude.{◌≡◌, ◌+◌, ◌<◌, ◌≤◌, [], 
 ghost use Rattle.clauses.specs.declared.flat.CnfFault.{CnfFault};
 ghost use Rattle.clauses.specs.declared.flat.TheConstants.{MOST_VARIABLES};
 ghost use Rattle.clauses.specs.Literals.{is_literal, is_within};
-ghost use Rattle.circuit_theory.specs.declared.circuit.Gate.{Gate};
-ghost use Rattle.circuit_theory.specs.declared.circuit.Gate.TheVariants.{Free, And};
-ghost use Rattle.circuit_theory.specs.Terms.{with_conjunction, with_equality};
+ghost use Rattle.gates_theory.specs.declared.circuit.Gate.{Gate};
+ghost use Rattle.gates_theory.specs.declared.circuit.Gate.TheVariants.{Free, And};
+ghost use Rattle.gates_theory.specs.Terms.{with_conjunction, with_equality};
 ghost use Rattle.run_gates.specs.Building.{IsTooMany};
 
-use circuit_theory::{Gate, Gates};
 use clauses::{CnfFault, MOST_VARIABLES};
+use gates_theory::{Gate, Gates};
 use psl_base::NoMemory;
 use std::alloc::Global;
 use std::marker::Model;
@@ -23,7 +23,7 @@ pub struct Builder {
 impl Model for Builder {
     ghost use Rattle.std.specs.Prelude.{◌≤◌, List, length};
     ghost use Rattle.clauses.specs.declared.flat.TheConstants.{MOST_VARIABLES};
-    ghost use Rattle.circuit_theory.specs.declared.circuit.Gate.{Gate};
+    ghost use Rattle.gates_theory.specs.declared.circuit.Gate.{Gate};
 
     ghost Value = { List Gate };
 

@@ -3,7 +3,7 @@ ghost use Rattle.std.specs.Prelude.{◌≡◌, ℕ, ◌+◌, ◌<◌, ◌≤◌}
 ghost use Rattle.alternating_theory.specs.Atoms.{AtomsOfPositive};
 ghost use Rattle.alternating.specs.Views.{positive_of};
 ghost use Rattle.alternating_theory.specs.Positive.{OwesWithin};
-ghost use Rattle.circuit_theory.specs.Terms.{Term};
+ghost use Rattle.gates_theory.specs.Terms.{Term};
 ghost use Rattle.clauses.specs.declared.flat.TheConstants.{MOST_VARIABLES};
 ghost use Rattle.run_gates.specs.Building.{Builds};
 ghost use Rattle.run_terms.specs.Combinations.{positive_term};

@@ -4,8 +4,8 @@ ghost use Rattle.clauses.specs.Literals.{is_literal};
 ghost use Rattle.run_gates.specs.Building.{Holds};
 
 use crate::Builder;
-use circuit_theory::Literals;
 use clauses::CnfFault;
+use gates_theory::Literals;
 use psl_base::NoMemory;
 use std::alloc::Global;
 use std::marker::Model;

@@ -1,7 +1,7 @@
 // Literals that are joined one behind another.
 ghost use Rattle.std.specs.Prelude.{IfSome, IsTrue};
 ghost use Rattle.clauses.specs.Literals.{is_literal};
-ghost use Rattle.circuit_theory.specs.Terms.{with_conjunction};
+ghost use Rattle.gates_theory.specs.Terms.{with_conjunction};
 ghost use Rattle.run_gates.specs.Building.{Joins, with_either};
 
 use crate::Builder;

@@ -2,8 +2,8 @@
 ghost use Rattle.std.specs.Prelude.{◌≡◌, ◌+◌, ◌<◌, ◌≤◌, pos, suc, IsTrue};
 ghost use Rattle.clauses.specs.declared.flat.TheConstants.{MOST_VARIABLES};
 ghost use Rattle.clauses.specs.Literals.{is_literal};
-ghost use Rattle.circuit_theory.specs.Distinct.{following};
-ghost use Rattle.circuit_theory.specs.Terms.{Conjunction, Literal, Negation};
+ghost use Rattle.gates_theory.specs.Distinct.{following};
+ghost use Rattle.gates_theory.specs.Terms.{Conjunction, Literal, Negation};
 ghost use Rattle.run_gates.specs.Building.{digit_term, less_term, more_term, Builds};
 ghost use Rattle.run_terms.specs.Numbers.{at_most};
 

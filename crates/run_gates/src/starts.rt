@@ -8,7 +8,7 @@ ghost use Rattle.run_terms.specs.Positions.{current, position_width};
 
 use crate::Position;
 use crate::builder::negated;
-use circuit_theory::Literals;
+use gates_theory::Literals;
 use netlist::{Init, Latch};
 use psl_base::NoMemory;
 use std::alloc::Global;

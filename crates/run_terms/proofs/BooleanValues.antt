@@ -5,7 +5,7 @@ use Rattle.std.specs.Bool.{IsTrue}
 use Rattle.std.proofs.lemmas.Bool.{and_from}
 use Rattle.clauses.specs.Literals.{is_within}
 use Rattle.clauses.specs.Models.{Assignment}
-use Rattle.circuit_theory.specs.Terms.{value, term_within, term_size}
+use Rattle.gates_theory.specs.Terms.{value, term_within, term_size}
 use Rattle.psl_tree.specs.Atoms.{AtomsOfBoolean}
 use Rattle.psl_tree.specs.Counts.{boolean_size}
 use Rattle.psl_tree.specs.Holds.{holds}

@@ -6,16 +6,16 @@ use Rattle.std.proofs.lemmas.Bool.{and_parts}
 use Rattle.std.proofs.lemmas.List.{length-replicate}
 use Rattle.std.proofs.lemmas.List.Sums.{sum_by-append, sum_by-cons}
 use Rattle.clauses.specs.Literals.{clause_words}
-use Rattle.circuit_theory.specs.declared.circuit.Gate.{Gate}
-use Rattle.circuit_theory.specs.declared.circuit.Gate.TheVariants.{Free, And}
-use Rattle.circuit_theory.specs.Relations.{circuit_of, variables_of, IsClosed, Relation}
-use Rattle.circuit_theory.specs.Sizes.{is_conjunction, unrolled_words}
-use Rattle.circuit_theory.specs.Terms.{Term, built, built_all, term_size, term_within}
-use Rattle.circuit_theory.specs.Terms.Term.{Literal, Negation, Conjunction, Equality}
-use Rattle.circuit_theory.specs.Unrolled.{moved, units, unrolled}
-use Rattle.circuit_theory.proofs.Chains.{relation-sound}
-use Rattle.circuit_theory.proofs.Sizes.{length-following, unrolled-words, words-append, words-cons}
-use Rattle.circuit_theory.proofs.TermValues.{term-built}
+use Rattle.gates_theory.specs.declared.circuit.Gate.{Gate}
+use Rattle.gates_theory.specs.declared.circuit.Gate.TheVariants.{Free, And}
+use Rattle.gates_theory.specs.Relations.{circuit_of, variables_of, IsClosed, Relation}
+use Rattle.gates_theory.specs.Sizes.{is_conjunction, unrolled_words}
+use Rattle.gates_theory.specs.Terms.{Term, built, built_all, term_size, term_within}
+use Rattle.gates_theory.specs.Terms.Term.{Literal, Negation, Conjunction, Equality}
+use Rattle.gates_theory.specs.Unrolled.{moved, units, unrolled}
+use Rattle.gates_theory.proofs.Chains.{relation-sound}
+use Rattle.gates_theory.proofs.Sizes.{length-following, unrolled-words, words-append, words-cons}
+use Rattle.gates_theory.proofs.TermValues.{term-built}
 use Rattle.netlist.specs.declared.latch.Init.{Init}
 use Rattle.netlist.specs.declared.latch.Init.TheVariants as inits
 use Rattle.netlist.specs.declared.latch.Latch.{Latch}

@@ -4,9 +4,9 @@ use Rattle.std.specs.Bool.{IsTrue}
 use Rattle.std.proofs.lemmas.Bool.{and_from}
 use Rattle.clauses.specs.Literals.{is_within}
 use Rattle.clauses.specs.Models.{Assignment, is_true}
-use Rattle.circuit_theory.specs.Circuits.{same}
-use Rattle.circuit_theory.specs.Terms.{Term, value, term_within}
-use Rattle.circuit_theory.proofs.Literals.{within_from}
+use Rattle.gates_theory.specs.Circuits.{same}
+use Rattle.gates_theory.specs.Terms.{Term, value, term_within}
+use Rattle.gates_theory.proofs.Literals.{within_from}
 use Rattle.run_terms.specs.Booleans.{constant, either, signed}
 use Rattle.run_terms.specs.Tables.{guarded}
 

@@ -8,9 +8,9 @@ use Rattle.std.proofs.lemmas.List.Folds.{list_all-append}
 use Rattle.std.proofs.lemmas.List.Elements.{All-head, All-tail}
 use Rattle.std.proofs.lemmas.List.Sums.{sum_by-cons, sum_by-append}
 use Rattle.clauses.specs.Literals.{is_within, clause_within}
-use Rattle.circuit_theory.specs.Terms.{term_within, term_size}
-use Rattle.circuit_theory.specs.Terms.Term.{Literal}
-use Rattle.circuit_theory.proofs.Within.{negated_within}
+use Rattle.gates_theory.specs.Terms.{term_within, term_size}
+use Rattle.gates_theory.specs.Terms.Term.{Literal}
+use Rattle.gates_theory.proofs.Within.{negated_within}
 use Rattle.netlist.specs.declared.latch.Init.{Init}
 use Rattle.netlist.specs.declared.latch.Init.TheVariants as inits
 use Rattle.netlist.specs.declared.latch.Latch.{Latch}

@@ -8,10 +8,10 @@ use Rattle.std.proofs.lemmas.List.{ext_get_or}
 use Rattle.std.proofs.lemmas.List.Folds.{list_all-append}
 use Rattle.std.proofs.lemmas.List.Elements.{All-nil, All-cons, All-head, All-tail}
 use Rattle.clauses.specs.Models.{Assignment, is_true}
-use Rattle.circuit_theory.specs.Terms.{value}
-use Rattle.circuit_theory.specs.Terms.Term.{Literal}
-use Rattle.circuit_theory.proofs.Literals.{not_not}
-use Rattle.circuit_theory.proofs.Parts.{same-is, same-from}
+use Rattle.gates_theory.specs.Terms.{value}
+use Rattle.gates_theory.specs.Terms.Term.{Literal}
+use Rattle.gates_theory.proofs.Literals.{not_not}
+use Rattle.gates_theory.proofs.Parts.{same-is, same-from}
 use Rattle.netlist.specs.declared.latch.Init.{Init}
 use Rattle.netlist.specs.declared.latch.Init.TheVariants as inits
 use Rattle.netlist.specs.declared.latch.Latch.{Latch}

@@ -5,7 +5,7 @@ use Rattle.std.specs.Bool.{IsTrue}
 use Rattle.std.specs.List.{list_all}
 use Rattle.clauses.specs.Models.{Assignment, is_true}
 use Rattle.clauses.specs.Literals.{clause_within}
-use Rattle.circuit_theory.specs.Terms.{value, term_within}
+use Rattle.gates_theory.specs.Terms.{value, term_within}
 use Rattle.netlist.specs.Design.{Design, marks_of}
 use Rattle.netlist.specs.Sound.{IsSound}
 use Rattle.netlist.specs.Valuations.{Agree, Begin, Move}

@@ -6,8 +6,8 @@ use Rattle.std.proofs.lemmas.Bool.Decides.{same_from_decides, Decides-like, Deci
 use Rattle.std.specs.Prelude.{Decides}
 use Rattle.clauses.specs.Literals.{is_within, clause_within}
 use Rattle.clauses.specs.Models.{Assignment, is_true}
-use Rattle.circuit_theory.specs.Terms.{Term, value, term_within, term_size}
-use Rattle.circuit_theory.specs.Terms.Term.{Literal, Negation, Conjunction}
+use Rattle.gates_theory.specs.Terms.{Term, value, term_within, term_size}
+use Rattle.gates_theory.specs.Terms.Term.{Literal, Negation, Conjunction}
 use Rattle.run_terms.specs.Booleans.{either}
 use Rattle.run_terms.specs.Numbers.{number_of, bits_of_number, at_most}
 use Rattle.run_terms.proofs.Logic.{either-value}

@@ -6,7 +6,7 @@ use Rattle.std.proofs.Math.Nat.{mul-one}
 use Rattle.alternating_theory.specs.Atoms.{AtomsOfPositive}
 use Rattle.alternating_theory.specs.Positive.{Positive, Const, Holds, Owed, And, Or, OwesWithin, met}
 use Rattle.clauses.specs.Models.{Assignment}
-use Rattle.circuit_theory.specs.Terms.{Term, value, term_within, term_size}
+use Rattle.gates_theory.specs.Terms.{Term, value, term_within, term_size}
 use Rattle.netlist.specs.Sound.{NamesBit}
 use Rattle.psl_tree.specs.Counts.{boolean_size}
 use Rattle.psl_tree.specs.Names.{AtomInRange}

@@ -9,9 +9,9 @@ use Rattle.std.proofs.lemmas.List.Folds.{list_all-append}
 use Rattle.std.proofs.lemmas.List.Elements.{All-head, All-tail}
 use Rattle.std.proofs.lemmas.List.Sums.{sum_by-cons}
 use Rattle.clauses.specs.Literals.{is_within, clause_within}
-use Rattle.circuit_theory.specs.Terms.{Term, term_within, term_size}
-use Rattle.circuit_theory.specs.Terms.Term.{Literal, Conjunction}
-use Rattle.circuit_theory.proofs.Within.{negated_within}
+use Rattle.gates_theory.specs.Terms.{Term, term_within, term_size}
+use Rattle.gates_theory.specs.Terms.Term.{Literal, Conjunction}
+use Rattle.gates_theory.proofs.Within.{negated_within}
 use Rattle.netlist.specs.declared.rows.Mark.{Mark}
 use Rattle.netlist.specs.declared.rows.Mark.TheVariants as marks
 use Rattle.netlist.specs.declared.table.Table.{Table}

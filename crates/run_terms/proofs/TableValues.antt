@@ -8,11 +8,11 @@ use Rattle.std.proofs.lemmas.List.Folds.{list_all-append}
 use Rattle.std.proofs.lemmas.List.Elements.{All-nil, All-cons, All-head, All-tail, All-map, All-weaker}
 use Rattle.clauses.specs.Literals.{is_within, variable_of}
 use Rattle.clauses.specs.Models.{Assignment, is_true}
-use Rattle.circuit_theory.specs.Circuits.{same}
-use Rattle.circuit_theory.specs.Terms.{Term, value}
-use Rattle.circuit_theory.specs.Terms.Term.{Literal, Conjunction}
-use Rattle.circuit_theory.proofs.Literals.{not_not, true-neg, within_is}
-use Rattle.circuit_theory.proofs.Parts.{same-is, same-from}
+use Rattle.gates_theory.specs.Circuits.{same}
+use Rattle.gates_theory.specs.Terms.{Term, value}
+use Rattle.gates_theory.specs.Terms.Term.{Literal, Conjunction}
+use Rattle.gates_theory.proofs.Literals.{not_not, true-neg, within_is}
+use Rattle.gates_theory.proofs.Parts.{same-is, same-from}
 use Rattle.netlist.specs.declared.rows.Mark.{Mark}
 use Rattle.netlist.specs.declared.rows.Mark.TheVariants as marks
 use Rattle.netlist.specs.declared.table.Table.{Table}

@@ -7,17 +7,17 @@ use Rattle.std.proofs.lemmas.Bool.{and_from, and_parts, cases_lt, eq-eqb, ne_eqb
 use Rattle.std.proofs.lemmas.List.{length-replicate}
 use Rattle.std.proofs.lemmas.List.Folds.{list_all-append}
 use Rattle.clauses.specs.Models.{Assignment, IsModel, is_true, meets}
-use Rattle.circuit_theory.specs.declared.circuit.Gate.{Gate}
-use Rattle.circuit_theory.specs.declared.circuit.Gate.TheVariants.{Free}
-use Rattle.circuit_theory.specs.Circuits.{AreSame, gates_hold, literal_values, IsPath}
-use Rattle.circuit_theory.specs.Distinct.{following}
-use Rattle.circuit_theory.specs.Relations.{Relation, IsChain, IsClosed, circuit_of, is_related, variables_of}
-use Rattle.circuit_theory.specs.Terms.{Term, built, built_all, term_within, value}
-use Rattle.circuit_theory.specs.Unrolled.{links, position_clauses, positions_of, units, unrolled, gates_clauses}
-use Rattle.circuit_theory.proofs.Chains.{path-chain, relation-sound, chain-model}
-use Rattle.circuit_theory.proofs.Models.{model-path}
-use Rattle.circuit_theory.proofs.Parts.{units-met}
-use Rattle.circuit_theory.proofs.TermValues.{term-built, term-value}
+use Rattle.gates_theory.specs.declared.circuit.Gate.{Gate}
+use Rattle.gates_theory.specs.declared.circuit.Gate.TheVariants.{Free}
+use Rattle.gates_theory.specs.Circuits.{AreSame, gates_hold, literal_values, IsPath}
+use Rattle.gates_theory.specs.Distinct.{following}
+use Rattle.gates_theory.specs.Relations.{Relation, IsChain, IsClosed, circuit_of, is_related, variables_of}
+use Rattle.gates_theory.specs.Terms.{Term, built, built_all, term_within, value}
+use Rattle.gates_theory.specs.Unrolled.{links, position_clauses, positions_of, units, unrolled, gates_clauses}
+use Rattle.gates_theory.proofs.Chains.{path-chain, relation-sound, chain-model}
+use Rattle.gates_theory.proofs.Models.{model-path}
+use Rattle.gates_theory.proofs.Parts.{units-met}
+use Rattle.gates_theory.proofs.TermValues.{term-built, term-value}
 use Rattle.run_terms.specs.Formulas.{whole}
 
 -- values over positions that are related at each of the first so many, each of which the one before gives

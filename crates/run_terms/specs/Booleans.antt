@@ -5,7 +5,7 @@ use Rattle.psl_tree.specs.Trees.{Boolean}
 use Rattle.psl_tree.specs.declared.atom.Atom.{Atom}
 use Rattle.psl_tree.specs.declared.atom.Edge.{Edge}
 use Rattle.psl_tree.specs.declared.atom.Edge.TheVariants.{Value, Rise, Fall}
-use Rattle.circuit_theory.specs.Terms.{Term, Literal, Negation, Conjunction}
+use Rattle.gates_theory.specs.Terms.{Term, Literal, Negation, Conjunction}
 use Rattle.run_terms.specs.Positions.{had, earlier, current}
 
 -- one of two terms

@@ -1,6 +1,6 @@
 -- Positive combinations as terms over the bits of a position and a term for each obligation at the next one.
 use Rattle.std.specs.Prelude.{ℕ}
-use Rattle.circuit_theory.specs.Terms.{Term, Conjunction}
+use Rattle.gates_theory.specs.Terms.{Term, Conjunction}
 use Rattle.alternating_theory.specs.Positive.{Positive, Const, Holds, Owed, And, Or}
 use Rattle.run_terms.specs.Booleans.{constant, either, boolean_term}
 

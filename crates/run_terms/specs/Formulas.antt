@@ -1,8 +1,8 @@
 -- Formulas of a relation at so many positions, and what it is for a formula to have a model.
 use Rattle.std.specs.Prelude.{◌≡◌, ℕ, suc, ◌-◌, ◌*◌, ℤ, Bool as Truth, false, List, ◌++◌, length, slice_index_or}
 use Rattle.clauses.specs.Models.{Assignment, IsModel}
-use Rattle.circuit_theory.specs.Relations.{Relation, circuit_of}
-use Rattle.circuit_theory.specs.Unrolled.{units, unrolled}
+use Rattle.gates_theory.specs.Relations.{Relation, circuit_of}
+use Rattle.gates_theory.specs.Unrolled.{units, unrolled}
 
 -- the terms of a relation are true at the positions up to the last one, and each state is the one that the position
 -- before it gives

@@ -1,7 +1,7 @@
 -- Moves from a position to the next one, and how the first one begins.
 use Rattle.std.specs.Prelude.{ℕ, ℤ, neg_ℤ, List, [], ◌∷◌, ◌++◌, map, flat_map}
 use Rattle.std.specs.List.{range_with_len}
-use Rattle.circuit_theory.specs.Terms.{Term, Literal, Equality}
+use Rattle.gates_theory.specs.Terms.{Term, Literal, Equality}
 use Rattle.netlist.specs.declared.latch.Init.{Init}
 use Rattle.netlist.specs.declared.latch.Init.TheVariants as inits
 use Rattle.netlist.specs.declared.latch.Latch.{Latch}

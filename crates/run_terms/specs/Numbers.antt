@@ -1,6 +1,6 @@
 -- Numbers as lists of bits, the lowest first, and their comparison as a term.
 use Rattle.std.specs.Prelude.{ℕ, zero, suc, ◌+◌, ◌*◌, ◌/◌, ◌%◌, ◌==◌, ℤ, Bool as Truth, cond, List, [], ◌∷◌}
-use Rattle.circuit_theory.specs.Terms.{Term, Literal, Negation, Conjunction}
+use Rattle.gates_theory.specs.Terms.{Term, Literal, Negation, Conjunction}
 use Rattle.run_terms.specs.Booleans.{either}
 
 -- the number that bits stand for

@@ -3,7 +3,7 @@ use Rattle.std.specs.Prelude.{ℕ, ◌+◌, List, sum_by}
 use Rattle.psl_tree.specs.Counts.{boolean_size}
 use Rattle.alternating_theory.specs.Obligations.{Automaton}
 use Rattle.alternating_theory.specs.Positive.{Positive, Const, Holds, Owed, And, Or}
-use Rattle.circuit_theory.specs.Terms.{Term, term_size}
+use Rattle.gates_theory.specs.Terms.{Term, term_size}
 use Rattle.netlist.specs.Design.{marks_of, Design}
 
 -- how many constructors a combination has, those of its Booleans among them

@@ -1,7 +1,7 @@
 -- Tables as terms over the bits of a valuation: a table says nothing where its output has the value that it should have,
 -- so each signal has a bit of its own and no table has to come before another.
 use Rattle.std.specs.Prelude.{ℕ, ℤ, neg_ℤ, false, true, List, [], ◌∷◌, ◌++◌, map, fold}
-use Rattle.circuit_theory.specs.Terms.{Term, Literal, Negation, Conjunction, Equality}
+use Rattle.gates_theory.specs.Terms.{Term, Literal, Negation, Conjunction, Equality}
 use Rattle.netlist.specs.declared.rows.Mark.{Mark}
 use Rattle.netlist.specs.declared.rows.Mark.TheVariants as marks
 use Rattle.netlist.specs.declared.table.Table.{Table}

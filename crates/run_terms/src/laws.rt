@@ -3,7 +3,7 @@ ghost use Rattle.std.specs.Prelude.{ℕ, suc, ◌+◌, ◌*◌, ◌<◌, ◌≤�
 ghost use Rattle.std.specs.List.{list_all};
 ghost use Rattle.alternating_theory.specs.Atoms.{AtomsOfPositive};
 ghost use Rattle.alternating_theory.specs.Positive.{Positive, OwesWithin, met};
-ghost use Rattle.circuit_theory.specs.Terms.{term_size, term_within, value, Term};
+ghost use Rattle.gates_theory.specs.Terms.{term_size, term_within, value, Term};
 ghost use Rattle.clauses.specs.Literals.{clause_within};
 ghost use Rattle.clauses.specs.Models.{is_true, Assignment};
 ghost use Rattle.alternating_theory.specs.Courses.{places, letter_at as letter_of_word};

@@ -4,8 +4,7 @@
 ghost use Rattle.std.specs.Prelude.{◌≡◌};
 ghost use Rattle.std.specs.Process.{exit_status};
 
-use program_words::words;
-use psl_base::{DirShelf, StdSink};
+use psl_base::{DirShelf, StdSink, program_words};
 use sat_command::{Report, run};
 use std::process::ExitCode;
 
@@ -17,7 +16,7 @@ fn ended(report: &Report) -> ExitCode
 }
 
 fn main(rt: HostRuntime) -> ExitCode {
-    let Ok(words) = words(&rt) else {
+    let Ok(words) = program_words(&rt) else {
         return ExitCode::from(1);
     };
     let mut files = DirShelf::new(&rt);

@@ -3,7 +3,7 @@ use Rattle.std.proofs.Common.{◌≡◌, ◌∙◌, ap, sym, refl, subst, ℕ, L
 use Rattle.psl_base.specs.Faults.{Rose}
 use Rattle.psl_base.specs.Shelf.{ShelfState, Tells, IsContent, OnlyReads, with_content}
 use Rattle.std.specs.Option.{option_map}
-use Rattle.log_lines.specs.Lines.{lines_of}
+use Rattle.clause_text.specs.Lines.{lines_of}
 use Rattle.cdcl.specs.declared.answer.Answer.{Answer}
 use Rattle.clauses.specs.Logs.{LogEntry}
 use Rattle.sat_command.specs.declared.report.Fault.{Fault}

@@ -7,9 +7,9 @@ use Rattle.psl_base.specs.declared.reading.ReadAllFault.{ReadAllFault}
 use Rattle.psl_base.specs.declared.reading.ReadAllFault.TheVariants as reading
 use Rattle.clauses.specs.declared.cnf.Cnf.{Cnf}
 use Rattle.clauses.specs.Logs.{LogEntry}
-use Rattle.log_lines.specs.Lines.{lines_of}
-use Rattle.dimacs.specs.Formulas.{StandsFor}
-use Rattle.dimacs.specs.Faults.{IsFirstFault}
+use Rattle.clause_text.specs.Lines.{lines_of}
+use Rattle.sat_dimacs.specs.Formulas.{StandsFor}
+use Rattle.sat_dimacs.specs.Faults.{IsFirstFault}
 use Rattle.cdcl.specs.declared.answer.Answer.{Answer}
 use Rattle.cdcl.specs.declared.answer.Answer.TheVariants as answers
 use Rattle.cdcl.specs.Answers.{IsAnswer}

@@ -2,8 +2,8 @@
 ghost use Rattle.std.specs.Prelude.{◌≡◌};
 
 use cdcl::Answer;
-use dimacs::DimacsFault;
 use psl_base::{NoMemory, ReadAllFault};
+use sat_dimacs::DimacsFault;
 use thiserror::Error;
 
 /// Why nothing was found out, or why it could not be told.

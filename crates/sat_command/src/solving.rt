@@ -2,7 +2,7 @@
 ghost use Rattle.std.specs.Prelude.{◌≡◌, ◌≤◌, length, IfOk, IfErr};
 ghost use Rattle.psl_base.specs.Places.{file_limit};
 ghost use Rattle.psl_base.specs.Shelf.{OnlyReads};
-ghost use Rattle.dimacs.specs.Formulas.{StandsFor};
+ghost use Rattle.sat_dimacs.specs.Formulas.{StandsFor};
 ghost use Rattle.sat_command.specs.Requests.{asked_by};
 ghost use Rattle.sat_command.specs.Running.{IsSolved, IsReadingFault, IsAnswerFor, IsTextFault, limit_of};
 
@@ -10,8 +10,8 @@ use crate::Fault;
 use crate::words::Request;
 use cdcl::{Answer, solve};
 use clauses::Cnf;
-use dimacs::{DimacsFault, read_dimacs};
 use psl_base::{Bytes, FILE_LIMIT, Shelf, read_all};
+use sat_dimacs::{DimacsFault, read_dimacs};
 use std::alloc::Global;
 
 /// Reads the formula that is asked for, and solves it.

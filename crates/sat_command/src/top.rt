@@ -14,8 +14,8 @@ use crate::solving::solved;
 use crate::words::{Request, request_of};
 use crate::{Fault, Report};
 use cdcl::Answer;
+use clause_text::print_log2;
 use clauses::Log;
-use log_lines::print_log2;
 use psl_base::{NoMemory, Shelf, Sink, add_bytes, put_all};
 use std::alloc::Global;
 

@@ -15,10 +15,10 @@ use Rattle.alternating_theory.specs.Atoms.{AtomsOfObligations, is_among}
 use Rattle.alternating.specs.Packed.{is_set, PacksLetter}
 use Rattle.alternating.specs.Stepped.{value_at, values_of}
 use Rattle.wave_judge.specs.Letter.{TellsLetter, TellColumns}
-use Rattle.block_step.proofs.Stepped.{have-lengths}
-use Rattle.block_step.specs.Block.{PacksBlock, letters_from}
-use Rattle.block_step.specs.Values.{HasLengths, AreValues, StepsAll, StepsTo, StepsBlock}
-use Rattle.block_step.specs.declared.values.Values.{Values}
+use Rattle.alternating_blocks.proofs.Stepped.{have-lengths}
+use Rattle.alternating_blocks.specs.Block.{PacksBlock, letters_from}
+use Rattle.alternating_blocks.specs.Values.{HasLengths, AreValues, StepsAll, StepsTo, StepsBlock}
+use Rattle.alternating_blocks.specs.declared.values.Values.{Values}
 use Rattle.wave_judge.specs.Values.{AreAnswers, AreValuesAt, IsStand, first_letters}
 use Rattle.wave_judge.specs.declared.pass.Answers.{Answers}
 use Rattle.wave_judge.specs.declared.pass.Stand.{Stand}

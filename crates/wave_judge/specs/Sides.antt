@@ -5,7 +5,7 @@ use Rattle.psl_tree.specs.declared.letter.Letter.{Letter}
 use Rattle.psl_tree.specs.Trees.{Formula}
 use Rattle.vcd_reader.specs.Sampled.{Sampled}
 use Rattle.alternating_theory.specs.Obligations.{Automaton, value_on}
-use Rattle.block_step.specs.declared.values.Values.{Values}
+use Rattle.alternating_blocks.specs.declared.values.Values.{Values}
 use Rattle.wave_judge.specs.Settled.{IsSettledAgainst, IsSettledFor}
 use Rattle.wave_judge.specs.Values.{IsStand, first_letters}
 use Rattle.wave_judge.specs.declared.search.Side.{Side}

@@ -4,8 +4,8 @@ use Rattle.psl_tree.specs.Followed.{Nothing, Tops, Bottoms}
 use Rattle.psl_tree.specs.declared.letter.Letter.{Letter}
 use Rattle.vcd_reader.specs.Sampled.{Sampled, letters_of}
 use Rattle.alternating_theory.specs.Obligations.{Automaton, value_on}
-use Rattle.block_step.specs.Values.{AreValues}
-use Rattle.block_step.specs.declared.values.Values.{Values}
+use Rattle.alternating_blocks.specs.Values.{AreValues}
+use Rattle.alternating_blocks.specs.declared.values.Values.{Values}
 use Rattle.wave_judge.specs.declared.pass.Answers.{Answers}
 use Rattle.wave_judge.specs.declared.pass.Stand.{Stand}
 

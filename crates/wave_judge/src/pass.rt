@@ -1,13 +1,13 @@
 ghost use Rattle.std.specs.Prelude.{◌≡◌, ◌*◌, ◌≤◌, ◌^◌, ◌<◌, length, All, IsTrue, IfOk};
 ghost use Rattle.alternating_theory.specs.Atoms.{AtomsOfObligations, is_among};
-ghost use Rattle.block_step.specs.Values.{HasLengths};
+ghost use Rattle.alternating_blocks.specs.Values.{HasLengths};
 ghost use Rattle.vcd_reader.specs.Sampled.{AtomInRange, letters_of};
 ghost use Rattle.wave_judge.specs.Values.{AreAnswers, AreValuesAt, IsStand};
 
 use crate::columns::pack_block;
 use crate::packing::pack;
 use alternating::{Alternating, Truths};
-use block_step::{Blocks, Letters, Values};
+use alternating_blocks::{Blocks, Letters, Values};
 use psl_base::NoMemory;
 use psl_tree::Atoms;
 use std::alloc::Global;

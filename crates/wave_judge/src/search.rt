@@ -6,7 +6,7 @@ ghost use Rattle.wave_judge.specs.Values.{IsStand, first_letters};
 
 use crate::pass::{Pass, Stand};
 use alternating::Truths;
-use block_step::{Blocks, Values};
+use alternating_blocks::{Blocks, Values};
 use psl_base::NoMemory;
 use std::alloc::Global;
 

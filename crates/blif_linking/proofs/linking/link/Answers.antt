@@ -1,7 +1,7 @@
 use Rattle.std.proofs.Common.{◌<◌, ◌^◌, sym, subst, length}
 use Rattle.std.specs.Prelude.{All}
-use Rattle.model_hierarchy.specs.First.{IsClosed}
-use Rattle.model_hierarchy.specs.Sums.{AreInForm}
+use Rattle.blif_hierarchy.specs.First.{IsClosed}
+use Rattle.blif_hierarchy.specs.Sums.{AreInForm}
 use Rattle.blif_linking.proofs.Closed.{linked-closed}
 use Rattle.blif_linking.proofs.Few.{texts-few, titles-small}
 use Rattle.blif_linking.proofs.Forming.{linked-form}

@@ -1,4 +1,4 @@
-use Rattle.hierarchy_laws.proofs.Hierarchies.{lists-instances, lists-names, names-all, runs, unfolds}
+use Rattle.blif_laws.proofs.Hierarchies.{lists-instances, lists-names, names-all, runs, unfolds}
 use Rattle.blif_reader.proofs.laws.hierarchy_law.Goals as goal
 
 pub returns : goal.returns

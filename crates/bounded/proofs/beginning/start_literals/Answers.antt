@@ -2,7 +2,7 @@ use Rattle.std.proofs.Common.{rules, ◌≡◌, ◌++◌, [], ◌∷◌, ◌∙�
 use mir.Val.{SFits}
 use Rattle.std.proofs.lemmas.Int.{to_z-of_z}
 use Rattle.run_terms.specs.Moves.{first_literals}
-use Rattle.search_theory.specs.Searches.{owed, search_width}
+use Rattle.bounded_theory.specs.Searches.{owed, search_width}
 use Rattle.bounded.proofs.Starts.{start-within}
 use Rattle.bounded.proofs.beginning.start_literals.Goals as goal
 

@@ -3,7 +3,7 @@ use Rattle.run_gates.specs.Building.{BuildsAll}
 use Rattle.run_gates.proofs.Terms.{all-then}
 use Rattle.run_terms.specs.Moves.{move_terms}
 use Rattle.run_terms.specs.Tables.{valuation_terms}
-use Rattle.search_theory.specs.Searches.{obligation_terms, search_width}
+use Rattle.bounded_theory.specs.Searches.{obligation_terms, search_width}
 use Rattle.bounded.proofs.SignalsOf.{obligations-signals}
 use Rattle.bounded.proofs.circuit.add_terms.Goals as goal
 

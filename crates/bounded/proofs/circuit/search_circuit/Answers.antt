@@ -1,10 +1,10 @@
 use Rattle.std.proofs.Common.{◌≡◌, ◌+◌, ap, ◌∙◌, length, arith}
 use Rattle.std.proofs.lemmas.Result.{err_from_is_err_and}
 use Rattle.std.proofs.lemmas.List.{length-replicate}
-use Rattle.circuit_theory.specs.declared.circuit.Gate.TheVariants.{Free}
-use Rattle.search_theory.specs.Searches.{search, search_width}
-use Rattle.search_theory.proofs.Closes.{search-closed}
-use Rattle.search_theory.proofs.Ranges.{relation-size}
+use Rattle.gates_theory.specs.declared.circuit.Gate.TheVariants.{Free}
+use Rattle.bounded_theory.specs.Searches.{search, search_width}
+use Rattle.bounded_theory.proofs.Closes.{search-closed}
+use Rattle.bounded_theory.proofs.Ranges.{relation-size}
 use Rattle.bounded.proofs.circuit.search_circuit.Goals as goal
 
 pub returns-in_err-add_terms-clause-large : goal.returns-in_err-add_terms-clause-large

@@ -1,6 +1,6 @@
 use Rattle.std.proofs.Common.{add-one}
 use Rattle.std.proofs.lemmas.Result.{err_from_is_err_and}
-use Rattle.search_theory.specs.Searches.{loop_clauses}
+use Rattle.bounded_theory.specs.Searches.{loop_clauses}
 use Rattle.bounded.proofs.Links.{lists-err, lists-next}
 use Rattle.bounded.proofs.closing.add_all_loops.Goals as goal
 

@@ -1,4 +1,4 @@
-use Rattle.search_theory.specs.Searches.{loop_clauses}
+use Rattle.bounded_theory.specs.Searches.{loop_clauses}
 use Rattle.bounded.proofs.Links.{ListsSoFar}
 use Rattle.bounded.proofs.closing.add_all_loops.Given as goal
 

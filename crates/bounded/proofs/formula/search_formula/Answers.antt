@@ -1,13 +1,13 @@
 use Rattle.std.proofs.Common.{◌≡◌, ◌++◌, ◌∙◌, ap, length, inl, inr, arith}
 use Rattle.std.proofs.lemmas.Result.{err_from_is_err_and}
 use Rattle.clauses.specs.Literals.{clause_words}
-use Rattle.circuit_theory.specs.declared.circuit.Circuit.{Circuit}
-use Rattle.circuit_theory.proofs.Chains.{relation-sound}
+use Rattle.gates_theory.specs.declared.circuit.Circuit.{Circuit}
+use Rattle.gates_theory.proofs.Chains.{relation-sound}
 use Rattle.run_terms.specs.Formulas.{whole}
-use Rattle.search_theory.specs.Searches.{first_clauses, loops_clauses, search, search_clauses, search_size, search_variables, search_width}
-use Rattle.search_theory.proofs.Closes.{search-closed}
-use Rattle.search_theory.proofs.Models.{models-runs}
-use Rattle.search_theory.proofs.Sizes.{variables-most, words-most}
+use Rattle.bounded_theory.specs.Searches.{first_clauses, loops_clauses, search, search_clauses, search_size, search_variables, search_width}
+use Rattle.bounded_theory.proofs.Closes.{search-closed}
+use Rattle.bounded_theory.proofs.Models.{models-runs}
+use Rattle.bounded_theory.proofs.Sizes.{variables-most, words-most}
 use Rattle.bounded.proofs.Larges.{back-large, front-large, middle-large, size-fits, wide-large, width-fits}
 use Rattle.bounded.proofs.formula.search_formula.Goals as goal
 

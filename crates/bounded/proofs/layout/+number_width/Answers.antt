@@ -1,5 +1,5 @@
 use Rattle.std.proofs.Common.{◌<◌, sym, ap, ◌∙◌, suc, add-one, arith}
-use Rattle.search_theory.proofs.Digits.{width-most, width-next}
+use Rattle.bounded_theory.proofs.Digits.{width-most, width-next}
 use Rattle.bounded.proofs.layout.+number_width.Goals as goal
 
 pub returns-else-number-eq0-clause-is : goal.returns-else-number-eq0-clause-is

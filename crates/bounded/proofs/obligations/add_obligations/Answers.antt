@@ -3,8 +3,8 @@ use mir.Val.{SFits}
 use Rattle.std.proofs.lemmas.Int.{to_z-of_z}
 use Rattle.std.proofs.lemmas.Result.{err_from_is_err_and}
 use Rattle.std.specs.List.{range_with_len}
-use Rattle.search_theory.specs.Searches.{obligation_term, obligation_terms}
-use Rattle.search_theory.proofs.Closes.{atoms-of}
+use Rattle.bounded_theory.specs.Searches.{obligation_term, obligation_terms}
+use Rattle.bounded_theory.proofs.Closes.{atoms-of}
 use Rattle.run_gates.proofs.Terms.{held-hold, held-step, held-term, number-next}
 use Rattle.bounded.proofs.obligations.add_obligations.Goals as goal
 

@@ -1,6 +1,6 @@
 use Rattle.std.proofs.Common.{◌-◌, map}
 use Rattle.std.specs.List.{range_with_len}
-use Rattle.search_theory.specs.Searches.{obligation_term, obligation_terms}
+use Rattle.bounded_theory.specs.Searches.{obligation_term, obligation_terms}
 use Rattle.run_gates.proofs.Terms.{HeldSoFar}
 use Rattle.bounded.proofs.obligations.add_obligations.Given as goal
 

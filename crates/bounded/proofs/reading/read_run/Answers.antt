@@ -1,8 +1,8 @@
 use Rattle.std.proofs.Common.{◌≡◌, ◌∙◌, refl, length, arith}
 use Rattle.run_terms.specs.Formulas.{values_of}
-use Rattle.search_theory.specs.Found.{loop_place}
-use Rattle.search_theory.specs.Searches.{search_size, search_width}
-use Rattle.search_theory.proofs.Models.{model-run}
+use Rattle.bounded_theory.specs.Found.{loop_place}
+use Rattle.bounded_theory.specs.Searches.{search_size, search_width}
+use Rattle.bounded_theory.proofs.Models.{model-run}
 use Rattle.bounded.proofs.Larges.{size-is, width-fits}
 use Rattle.bounded.proofs.reading.read_run.Goals as goal
 

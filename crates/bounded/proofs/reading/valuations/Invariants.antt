@@ -1,6 +1,6 @@
 use Rattle.std.proofs.Common.{◌≡◌}
 use Rattle.run_terms.specs.Formulas.{values_of}
-use Rattle.search_theory.specs.Found.{valuations_of}
+use Rattle.bounded_theory.specs.Found.{valuations_of}
 use Rattle.bounded.proofs.reading.valuations.Given as goal
 
 abbrev pub invariant-loop-step : goal.invariant-loop-step

@@ -1,5 +1,5 @@
 use Rattle.std.proofs.Common.{◌≡◌, ◌++◌, map, take}
-use Rattle.trail.specs.Literals.{signed}
+use Rattle.cdcl_trail.specs.Literals.{signed}
 use Rattle.cdcl.proofs.learn.add_signed.Given as goal
 
 abbrev pub invariant-loop-literal : goal.invariant-loop-literal

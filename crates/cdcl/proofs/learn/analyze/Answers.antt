@@ -1,9 +1,9 @@
 use Rattle.std.proofs.Common.{ℕ, ap, ◌∙◌, subst}
 use Rattle.std.proofs.lemmas.Result.{on_ok_weaker}
 use Rattle.clauses.specs.Live.{Numbered}
-use Rattle.trail.specs.Path.{Path}
-use Rattle.conflict_theory.specs.Trails.{Steps, HasEnded}
-use Rattle.conflict_theory.specs.Lemmas.{IsLearned}
+use Rattle.cdcl_trail.specs.Path.{Path}
+use Rattle.cdcl_conflict_theory.specs.Trails.{Steps, HasEnded}
+use Rattle.cdcl_conflict_theory.specs.Lemmas.{IsLearned}
 use Rattle.cdcl.specs.Turns.{steps_at}
 use Rattle.cdcl.proofs.Trails.{trail_of, ended_of, conflict_of, steps_same}
 use Rattle.cdcl.proofs.learn.analyze.Goals as goal

@@ -1,6 +1,6 @@
 use Rattle.std.proofs.Common.{◌≡◌, ◌*◌, ◌<◌, map, take}
 use Rattle.std.specs.List.{All}
-use Rattle.trail.specs.Literals.{signed}
+use Rattle.cdcl_trail.specs.Literals.{signed}
 use Rattle.cdcl.proofs.load.read_literals.Given as goal
 
 abbrev pub invariant-loop-literal : goal.invariant-loop-literal

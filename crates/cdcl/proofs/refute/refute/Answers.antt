@@ -1,7 +1,7 @@
 use Rattle.std.proofs.Common.{◌≡◌, ◌+◌, ◌∷◌, ◌++◌, [], ◌<◌, ◌≤◌, refl, ap, ◌∙◌, arith}
 use Rattle.std.proofs.lemmas.List.Elements.{All-weaker}
 use Rattle.clauses.specs.Literals.{clause_words}
-use Rattle.trail.specs.Path.{Path}
+use Rattle.cdcl_trail.specs.Path.{Path}
 use Rattle.cdcl.proofs.Stepping.{numbers_fit}
 use Rattle.cdcl.proofs.Loading.{place_few}
 use Rattle.cdcl.proofs.Refuting.{refuted_at, at_once_live, at_once_few, refutation_at}

@@ -1,8 +1,8 @@
 use Rattle.std.proofs.Common.{◌≡◌, sym, subst}
 use Rattle.std.proofs.lemmas.Result.{err_from_is_err_and}
-use Rattle.certificate.specs.declared.answer.CertAnswer.{CertAnswer}
-use Rattle.certificate.specs.declared.answer.CertAnswer.TheVariants.{Passed}
-use Rattle.certificate.specs.Texts.{IsAnswer}
+use Rattle.cert_theory.specs.declared.answer.CertAnswer.{CertAnswer}
+use Rattle.cert_theory.specs.declared.answer.CertAnswer.TheVariants.{Passed}
+use Rattle.cert_theory.specs.Texts.{IsAnswer}
 use Rattle.psl_tree.specs.Atoms.{AtomsOfFormula}
 use Rattle.psl_tree.specs.Names.{AtomInRange}
 use Rattle.psl_tree.specs.Trees.{formula_of}

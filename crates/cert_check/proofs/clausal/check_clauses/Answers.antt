@@ -2,8 +2,8 @@ use Rattle.std.proofs.Common.{ap, inl, sym, subst, []}
 use Rattle.std.specs.Bool.{IsTrue}
 use Rattle.std.proofs.lemmas.Result.{err_from_is_err_and}
 use Rattle.clauses.specs.Literals.{clauses_within}
-use Rattle.certificate.specs.Phases.Phase.{InSection}
-use Rattle.certificate.specs.declared.header.Section.TheVariants.{Initial}
+use Rattle.cert_theory.specs.Phases.Phase.{InSection}
+use Rattle.cert_theory.specs.declared.header.Section.TheVariants.{Initial}
 use Rattle.joint.specs.Joined.{Joined}
 use Rattle.joint_theory.specs.Bits.{joint_width}
 use Rattle.cert_check.specs.Claims.{AnswersAt}

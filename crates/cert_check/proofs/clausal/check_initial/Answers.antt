@@ -1,7 +1,7 @@
 use Rattle.std.specs.Option.{IfSome}
 use Rattle.std.proofs.lemmas.Result.{err_from_is_err_and}
-use Rattle.certificate.specs.declared.header.Section.TheVariants.{Initial}
-use Rattle.certificate.specs.Sections.{Query}
+use Rattle.cert_theory.specs.declared.header.Section.TheVariants.{Initial}
+use Rattle.cert_theory.specs.Sections.{Query}
 use Rattle.cert_lines.specs.Sections.{IsRefusedIn}
 use Rattle.std.proofs.Common.{sym, subst}
 use Rattle.cert_check.specs.Claims.{initial_query}

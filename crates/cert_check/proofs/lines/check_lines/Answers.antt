@@ -1,7 +1,7 @@
 use Rattle.std.proofs.Common.{sym, subst}
 use Rattle.std.specs.Result.{IfErr, IfOk, OnOk}
-use Rattle.certificate.specs.declared.header.Form.{Form}
-use Rattle.certificate.specs.Phases.{behind_form}
+use Rattle.cert_theory.specs.declared.header.Form.{Form}
+use Rattle.cert_theory.specs.Phases.{behind_form}
 use Rattle.cert_check.specs.Claims.{AnswersAt}
 use Rattle.cert_check.specs.Limits.{IsFormulaFault, IsLargeFrom, IsSmallFrom}
 use Rattle.cert_check.proofs.lines.check_lines.Goals as goal

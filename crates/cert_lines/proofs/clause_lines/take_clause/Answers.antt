@@ -1,5 +1,5 @@
 use Rattle.std.proofs.Common.{◌∙◌, ap, Err}
-use Rattle.certificate.specs.Lines.{IsClauseLine}
+use Rattle.cert_theory.specs.Lines.{IsClauseLine}
 use Rattle.cert_lines.proofs.Clausing.{clause_long, never_large}
 use Rattle.cert_lines.proofs.clause_lines.take_clause.Goals as goal
 

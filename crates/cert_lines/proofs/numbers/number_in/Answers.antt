@@ -1,7 +1,7 @@
 use Rattle.std.proofs.Common.{◌≡◌, ◌++◌, ◌∷◌, ◌∙◌, ap, ℕ, List, Some, None, arith}
 use Rattle.psl_base.specs.Decimals.{plain_upto}
-use Rattle.certificate.specs.Headers.{most_of}
-use Rattle.certificate.specs.Lines.{word_of}
+use Rattle.cert_theory.specs.Headers.{most_of}
+use Rattle.cert_theory.specs.Lines.{word_of}
 use Rattle.cert_lines.proofs.NumberLines.{none_read, number_says, too_small}
 use Rattle.cert_lines.proofs.numbers.number_in.Goals as goal
 

@@ -1,4 +1,4 @@
-use Rattle.psl_elaboration.specs.Answers.{IsUnit, IsLayerFault}
+use Rattle.psl_layer_theory.specs.Answers.{IsUnit, IsLayerFault}
 use Rattle.commands.proofs.Reasons.{layer-text}
 use Rattle.commands.proofs.Staging.{told-fails}
 use Rattle.commands.proofs.directives.directives.Goals as goal

@@ -1,5 +1,5 @@
-use Rattle.certificate.specs.Printed.{cert_text, inductive_text}
-use Rattle.certificate.specs.declared.header.Version.TheVariants.{Two}
+use Rattle.cert_theory.specs.Printed.{cert_text, inductive_text}
+use Rattle.cert_theory.specs.declared.header.Version.TheVariants.{Two}
 use Rattle.commands.proofs.Written.{written-passes}
 use Rattle.commands.proofs.laws.written_law.Goals as goal
 

@@ -1,7 +1,7 @@
 use Rattle.std.proofs.Common.{map, string_bytes}
 use Rattle.std.specs.Prelude.{◌⊎◌}
 use Rattle.psl_base.specs.Faults.{Rose}
-use Rattle.saving.specs.Saves.{SavesPart, file_of}
+use Rattle.psl_base.specs.Saves.{SavesPart, file_of}
 use Rattle.commands.proofs.Completing.{completes, no-cause, run-explained}
 use Rattle.commands.proofs.Ending.{prints-weaker, had-to-tell, run-named, run-unread, run-command, run-outcome, run-nothing, run-counted}
 use Rattle.commands.proofs.Saving.{fails-planned, run-saved}

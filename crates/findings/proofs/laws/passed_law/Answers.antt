@@ -1,4 +1,4 @@
-use Rattle.certificate.specs.Printed.{cert_text, inductive_text}
+use Rattle.cert_theory.specs.Printed.{cert_text, inductive_text}
 use Rattle.findings.proofs.Certified.{result-passed}
 use Rattle.findings.proofs.laws.passed_law.Goals as goal
 

@@ -1,6 +1,6 @@
 use Rattle.std.proofs.Common.{◌≤◌, arith}
-use Rattle.certificate.specs.declared.certificate.Certificate.{Certificate}
-use Rattle.certificate.specs.declared.certificate.InductiveCert.{InductiveCert}
+use Rattle.cert_theory.specs.declared.certificate.Certificate.{Certificate}
+use Rattle.cert_theory.specs.declared.certificate.InductiveCert.{InductiveCert}
 use Rattle.findings.proofs.Certified.{passed-for}
 use Rattle.findings.proofs.Clausal.{passed-reach}
 use Rattle.findings.proofs.Recordable.{recordable}

@@ -1,9 +1,9 @@
 use Rattle.std.proofs.Common.{rules, ◌≡◌, ◌≤◌, ◌++◌, arith}
 use Rattle.std.proofs.lemmas.Grind.{common_steps}
-use Rattle.circuit_theory.specs.Distinct.{distinct}
-use Rattle.circuit_theory.specs.Sizes.{distinct_variables}
-use Rattle.circuit_theory.proofs.Filling.{distinct-models, distinct-extends}
-use Rattle.circuit_theory.proofs.Within.{both_within, wider_all, distinct-all_within}
+use Rattle.gates_theory.specs.Distinct.{distinct}
+use Rattle.gates_theory.specs.Sizes.{distinct_variables}
+use Rattle.gates_theory.proofs.Filling.{distinct-models, distinct-extends}
+use Rattle.gates_theory.proofs.Within.{both_within, wider_all, distinct-all_within}
 use Rattle.gates.proofs.distinctness.distinct.Goals as goal
 
 pub invariant_of-cnf-2 : goal.invariant_of-cnf-2

@@ -1,6 +1,6 @@
 use Rattle.std.proofs.Common.{drop, IsTrue}
-use Rattle.circuit_theory.specs.Circuits.{gates_within}
-use Rattle.circuit_theory.specs.Unrolled.{gates_clauses}
+use Rattle.gates_theory.specs.Circuits.{gates_within}
+use Rattle.gates_theory.specs.Unrolled.{gates_clauses}
 use Rattle.gates.proofs.Additions.{AddsSoFar}
 use Rattle.gates.proofs.parts.add_gates.Given as goal
 

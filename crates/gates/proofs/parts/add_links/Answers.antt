@@ -1,7 +1,7 @@
 use Rattle.std.proofs.Common.{rules, ◌≡◌, suc, ◌+◌, ◌<◌, pos, ◌++◌, length, drop, get_or, add-one, arith, w32}
 use mir.Val.{SFits}
 use Rattle.std.proofs.lemmas.Int.{to_z-of_z}
-use Rattle.circuit_theory.specs.Unrolled.{equality, links, moved}
+use Rattle.gates_theory.specs.Unrolled.{equality, links, moved}
 use Rattle.gates.proofs.Additions.{Clauses, so_far-step}
 use Rattle.gates.proofs.Drops.{links-drop, within-next}
 use Rattle.gates.proofs.parts.add_links.Goals as goal

@@ -1,4 +1,4 @@
-use Rattle.circuit_theory.proofs.Models.{now_within}
+use Rattle.gates_theory.proofs.Models.{now_within}
 use Rattle.gates.proofs.parts.add_next.Goals as goal
 
 pub add_links-requires-clause-within : goal.add_links-requires-clause-within

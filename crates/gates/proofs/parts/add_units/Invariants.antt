@@ -1,6 +1,6 @@
 use Rattle.std.proofs.Common.{drop, IsTrue}
 use Rattle.clauses.specs.Literals.{clause_within}
-use Rattle.circuit_theory.specs.Unrolled.{units}
+use Rattle.gates_theory.specs.Unrolled.{units}
 use Rattle.gates.proofs.Additions.{AddsSoFar}
 use Rattle.gates.proofs.parts.add_units.Given as goal
 

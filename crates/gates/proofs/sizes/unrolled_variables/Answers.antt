@@ -1,5 +1,5 @@
 use Rattle.std.proofs.Common.{inr, arith}
-use Rattle.circuit_theory.proofs.Sizes.{unrolled-words}
+use Rattle.gates_theory.proofs.Sizes.{unrolled-words}
 use Rattle.gates.proofs.sizes.unrolled_variables.Goals as goal
 
 pub returns-then-unrolled_words-clause-large : goal.returns-then-unrolled_words-clause-large

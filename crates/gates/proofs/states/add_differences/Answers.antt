@@ -1,8 +1,8 @@
 use Rattle.std.proofs.Common.{rules, ◌≡◌, suc, ◌+◌, ◌<◌, pos, ◌++◌, length, drop, get_or, add-one, arith, w32}
 use mir.Val.{SFits}
 use Rattle.std.proofs.lemmas.Int.{to_z-of_z}
-use Rattle.circuit_theory.specs.Distinct.{difference, differences}
-use Rattle.circuit_theory.specs.Unrolled.{moved}
+use Rattle.gates_theory.specs.Distinct.{difference, differences}
+use Rattle.gates_theory.specs.Unrolled.{moved}
 use Rattle.gates.proofs.Additions.{Clauses, so_far-step}
 use Rattle.gates.proofs.Drops.{differences-drop, within-next}
 use Rattle.gates.proofs.states.add_differences.Goals as goal

@@ -1,6 +1,6 @@
 use Rattle.std.proofs.Common.{◌+◌, drop, IsTrue}
 use Rattle.clauses.specs.Literals.{clause_within}
-use Rattle.circuit_theory.specs.Distinct.{differences}
+use Rattle.gates_theory.specs.Distinct.{differences}
 use Rattle.gates.proofs.Additions.{AddsSoFar}
 use Rattle.gates.proofs.states.add_differences.Given as goal
 

@@ -1,7 +1,7 @@
 use Rattle.std.proofs.Common.{length, arith}
 use Rattle.clauses.specs.declared.flat.TheConstants.{MOST_VARIABLES}
-use Rattle.circuit_theory.proofs.Models.{now_within}
-use Rattle.circuit_theory.proofs.Within.{following-within}
+use Rattle.gates_theory.proofs.Models.{now_within}
+use Rattle.gates_theory.proofs.Within.{following-within}
 use Rattle.gates.proofs.states.add_pair.Goals as goal
 
 pub add_differences-requires-clause-within : goal.add_differences-requires-clause-within

@@ -1,6 +1,6 @@
 use Rattle.std.proofs.Common.{◌*◌, arith}
 use Rattle.std.proofs.lemmas.Result.{err_from_is_err_and}
-use Rattle.circuit_theory.specs.Distinct.{pair_clauses, row_clauses, variables_before}
+use Rattle.gates_theory.specs.Distinct.{pair_clauses, row_clauses, variables_before}
 use Rattle.gates.specs.Adding.{pair_of}
 use Rattle.gates.proofs.Additions.{list-fits, list-err}
 use Rattle.gates.proofs.states.add_row.Goals as goal

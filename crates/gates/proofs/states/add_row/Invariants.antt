@@ -1,5 +1,5 @@
 use Rattle.std.proofs.Common.{◌≡◌, ◌++◌, length}
-use Rattle.circuit_theory.specs.Distinct.{row_clauses, variables_before}
+use Rattle.gates_theory.specs.Distinct.{row_clauses, variables_before}
 use Rattle.gates.proofs.states.add_row.Given as goal
 
 abbrev pub invariant-loop-earlier : goal.invariant-loop-earlier

@@ -1,6 +1,6 @@
 use Rattle.std.proofs.Common.{arith}
 use Rattle.std.proofs.lemmas.Result.{err_from_is_err_and}
-use Rattle.circuit_theory.specs.Distinct.{distinct, row_clauses}
+use Rattle.gates_theory.specs.Distinct.{distinct, row_clauses}
 use Rattle.gates.proofs.Additions.{list-fits, list-err}
 use Rattle.gates.proofs.Rows.{rows-more}
 use Rattle.gates.proofs.states.add_states.Goals as goal

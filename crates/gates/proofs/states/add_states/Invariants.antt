@@ -1,5 +1,5 @@
 use Rattle.std.proofs.Common.{◌≡◌, ◌++◌, length}
-use Rattle.circuit_theory.specs.Distinct.{distinct}
+use Rattle.gates_theory.specs.Distinct.{distinct}
 use Rattle.gates.proofs.states.add_states.Given as goal
 
 abbrev pub invariant-loop-later : goal.invariant-loop-later

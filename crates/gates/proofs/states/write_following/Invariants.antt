@@ -1,5 +1,5 @@
 use Rattle.std.proofs.Common.{◌≡◌, ◌++◌, drop}
-use Rattle.circuit_theory.specs.Distinct.{following}
+use Rattle.gates_theory.specs.Distinct.{following}
 use Rattle.gates.proofs.states.write_following.Given as goal
 
 abbrev pub invariant-loop-i : goal.invariant-loop-i

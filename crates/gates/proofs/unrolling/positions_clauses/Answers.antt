@@ -1,5 +1,5 @@
 use Rattle.std.proofs.Common.{arith}
-use Rattle.circuit_theory.specs.Unrolled.{position_clauses}
+use Rattle.gates_theory.specs.Unrolled.{position_clauses}
 use Rattle.gates.proofs.Words.{fits-next}
 use Rattle.gates.proofs.unrolling.positions_clauses.Goals as goal
 

@@ -1,5 +1,5 @@
 use Rattle.std.proofs.Common.{◌≡◌}
-use Rattle.circuit_theory.specs.Unrolled.{unrolled}
+use Rattle.gates_theory.specs.Unrolled.{unrolled}
 use Rattle.gates.proofs.unrolling.positions_clauses.Given as goal
 
 abbrev pub invariant-loop-position : goal.invariant-loop-position

@@ -1,6 +1,6 @@
 use Rattle.std.proofs.Common.{arith}
-use Rattle.circuit_theory.proofs.Models.{model-path, path-model}
-use Rattle.circuit_theory.proofs.Within.{unrolled-within}
+use Rattle.gates_theory.proofs.Models.{model-path, path-model}
+use Rattle.gates_theory.proofs.Within.{unrolled-within}
 use Rattle.gates.proofs.unrolling.unroll.Goals as goal
 
 pub invariant_of-result : goal.invariant_of-result

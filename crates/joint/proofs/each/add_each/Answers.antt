@@ -3,7 +3,7 @@ use mir.Val.{SFits}
 use Rattle.std.specs.List.{range_with_len}
 use Rattle.std.proofs.lemmas.Int.{to_z-of_z}
 use Rattle.std.proofs.lemmas.Result.{err_from_is_err_and}
-use Rattle.circuit_theory.specs.Terms.{Term}
+use Rattle.gates_theory.specs.Terms.{Term}
 use Rattle.run_gates.proofs.Terms.{held-hold, held-step, held-term, number-next}
 use Rattle.joint.proofs.each.add_each.Goals as goal
 

@@ -1,7 +1,7 @@
 use Rattle.std.proofs.Common.{◌≡◌, ℕ, ◌+◌, ◌<◌, ◌++◌, [], ◌∷◌, List, Bool, arith, ap, sym, subst, get_or, length, take, length-append}
 use Rattle.std.specs.Prelude.{IsTrue}
-use Rattle.circuit_theory.specs.Circuits.{gate_within, gates_hold}
-use Rattle.circuit_theory.specs.declared.circuit.Gate.TheVariants.{Free}
+use Rattle.gates_theory.specs.Circuits.{gate_within, gates_hold}
+use Rattle.gates_theory.specs.declared.circuit.Gate.TheVariants.{Free}
 use Rattle.run_terms.specs.Formulas.{values_of}
 use Rattle.joint.proofs.Evaluated.{gate-at, holds-more}
 use Rattle.joint.proofs.evaluating.values_of_gates.Goals as goal

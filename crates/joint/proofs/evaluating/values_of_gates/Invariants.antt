@@ -1,6 +1,6 @@
 use Rattle.std.proofs.Common.{◌≡◌, length, take}
 use Rattle.std.specs.Prelude.{IsTrue}
-use Rattle.circuit_theory.specs.Circuits.{gates_hold}
+use Rattle.gates_theory.specs.Circuits.{gates_hold}
 use Rattle.run_terms.specs.Formulas.{values_of}
 use Rattle.joint.proofs.evaluating.values_of_gates.Given as goal
 

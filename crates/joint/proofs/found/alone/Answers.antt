@@ -1,5 +1,5 @@
 use Rattle.std.proofs.Common.{◌+◌, arith}
-use Rattle.circuit_theory.proofs.Within.{wider_all}
+use Rattle.gates_theory.proofs.Within.{wider_all}
 use Rattle.joint.proofs.found.alone.Goals as goal
 
 pub invariant_of-cnf : goal.invariant_of-cnf

@@ -1,5 +1,5 @@
 use Rattle.std.proofs.Common.{◌≤◌, length, arith}
-use Rattle.circuit_theory.specs.Relations.{variables_of}
+use Rattle.gates_theory.specs.Relations.{variables_of}
 use Rattle.joint_theory.specs.Reaching.{two_states}
 use Rattle.joint_theory.proofs.Pairs.{two-closed}
 use Rattle.joint.proofs.OnePosition.{alone-sound, alone-wide}

@@ -1,6 +1,6 @@
 use Rattle.std.proofs.Common.{ℕ, List, ◌∙◌, ap, flat_map, subst}
 use Rattle.std.specs.List.{range_with_len}
-use Rattle.circuit_theory.specs.Terms.{Term}
+use Rattle.gates_theory.specs.Terms.{Term}
 use Rattle.joint_theory.specs.Sliced.{kept_by, shift_term}
 use Rattle.run_gates.specs.Building.{BuildsAll}
 use Rattle.joint.specs.Kept.{kept_term}

@@ -1,7 +1,7 @@
 use Rattle.std.proofs.Common.{ℕ, List, length, ◌∙◌, ap, flat_map, subst}
 use Rattle.std.specs.Prelude.{slice_get}
 use Rattle.std.specs.List.{range_with_len}
-use Rattle.circuit_theory.specs.Terms.{Term}
+use Rattle.gates_theory.specs.Terms.{Term}
 use Rattle.joint_theory.specs.Sliced.{kept_by}
 use Rattle.netlist.specs.declared.table.Table.{Table}
 use Rattle.run_gates.specs.Building.{BuildsAll}

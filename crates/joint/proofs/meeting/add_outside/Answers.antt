@@ -1,4 +1,4 @@
-use Rattle.circuit_theory.proofs.Within.{wider}
+use Rattle.gates_theory.proofs.Within.{wider}
 use Rattle.clauses.specs.declared.flat.TheConstants.{MOST_VARIABLES}
 use Rattle.joint.proofs.Additions.{opposite-within}
 use Rattle.joint.proofs.meeting.add_outside.Goals as goal

@@ -1,5 +1,5 @@
 use Rattle.std.proofs.Common.{arith}
-use Rattle.circuit_theory.proofs.Within.{following-within}
+use Rattle.gates_theory.proofs.Within.{following-within}
 use Rattle.joint.proofs.missing.add_missed.Goals as goal
 
 pub add_clause-requires : goal.add_clause-requires

@@ -2,7 +2,7 @@ use Rattle.std.proofs.Common.{rules, ◌≡◌, suc, ◌<◌, pos, negsuc, neg_�
 use mir.Val.{SFits}
 use Rattle.std.proofs.lemmas.Int.{to_z-of_z}
 use Rattle.std.proofs.lemmas.Result.{err_from_is_err_and}
-use Rattle.circuit_theory.specs.Unrolled.{moved}
+use Rattle.gates_theory.specs.Unrolled.{moved}
 use Rattle.joint_selectors.specs.Missed.{missed}
 use Rattle.run_formulas.proofs.Additions.{so_far-err, so_far-step}
 use Rattle.joint.proofs.Adding.{missed-drop, within-next}

@@ -1,8 +1,8 @@
 use Rattle.std.proofs.Common.{◌≡◌, ◌∙◌, ◌+◌, ◌<◌, List, ℤ, ℕ, false, length, get_or, arith, sym, subst}
 use Rattle.std.specs.Prelude.{IsTrue}
 use Rattle.std.specs.List.{list_all}
-use Rattle.circuit_theory.specs.declared.circuit.Gate.{Gate}
-use Rattle.circuit_theory.specs.Circuits.{gates_hold, gates_within}
+use Rattle.gates_theory.specs.declared.circuit.Gate.{Gate}
+use Rattle.gates_theory.specs.Circuits.{gates_hold, gates_within}
 use Rattle.clauses.specs.Models.{is_true}
 use Rattle.run_terms.specs.Formulas.{values_of}
 use Rattle.joint_theory.specs.Bits.{joint_width}

@@ -1,8 +1,8 @@
 use Rattle.std.proofs.Common.{refl, ◌∙◌, ◌++◌, List, ap, replicate, arith}
 use Rattle.std.proofs.lemmas.Result.{err_from_is_err_and}
-use Rattle.circuit_theory.specs.declared.circuit.Gate.{Gate}
-use Rattle.circuit_theory.specs.declared.circuit.Gate.TheVariants.{Free}
-use Rattle.circuit_theory.specs.Relations.{variables_of}
+use Rattle.gates_theory.specs.declared.circuit.Gate.{Gate}
+use Rattle.gates_theory.specs.declared.circuit.Gate.TheVariants.{Free}
+use Rattle.gates_theory.specs.Relations.{variables_of}
 use Rattle.joint_theory.specs.Reaching.{one_state}
 use Rattle.joint_theory.specs.Relation.{state_terms}
 use Rattle.joint.proofs.OnePosition.{terms-large}

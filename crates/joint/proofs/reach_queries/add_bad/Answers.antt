@@ -1,4 +1,4 @@
-use Rattle.circuit_theory.proofs.Within.{wider_all}
+use Rattle.gates_theory.proofs.Within.{wider_all}
 use Rattle.joint.proofs.reach_queries.add_bad.Goals as goal
 
 pub add_met_clauses-requires : goal.add_met_clauses-requires

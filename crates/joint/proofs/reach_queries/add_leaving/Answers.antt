@@ -1,5 +1,5 @@
 use Rattle.std.proofs.Common.{arith}
-use Rattle.circuit_theory.proofs.Within.{wider_all}
+use Rattle.gates_theory.proofs.Within.{wider_all}
 use Rattle.joint.proofs.reach_queries.add_leaving.Goals as goal
 
 pub add_met_clauses-requires : goal.add_met_clauses-requires

@@ -1,6 +1,6 @@
 use Rattle.std.proofs.Common.{refl, ◌+◌, ◌∙◌, ◌++◌, ◌-◌, ap, sym, length, arith}
 use Rattle.std.proofs.lemmas.Result.{err_from_is_err_and}
-use Rattle.circuit_theory.specs.Unrolled.{units}
+use Rattle.gates_theory.specs.Unrolled.{units}
 use Rattle.joint_selectors.specs.Missed.{some_missed}
 use Rattle.joint_theory.specs.Queries.{start_literals}
 use Rattle.joint_theory.specs.Reaching.{initial_variables, one_size, one_state, query_initial}

@@ -1,6 +1,6 @@
 use Rattle.std.proofs.Common.{refl, ◌+◌, ◌∙◌, ◌++◌, [], ◌∷◌, map, neg_ℤ, ap, sym, append_assoc, arith}
 use Rattle.std.proofs.lemmas.Result.{err_from_is_err_and}
-use Rattle.circuit_theory.specs.Unrolled.{units}
+use Rattle.gates_theory.specs.Unrolled.{units}
 use Rattle.joint_theory.specs.Reaching.{query_relative, relative_variables, start_units, two_size, two_states}
 use Rattle.run_terms.specs.Formulas.{whole}
 use Rattle.joint.proofs.Additions.{large-front, large-last, Clauses}

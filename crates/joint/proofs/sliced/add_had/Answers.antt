@@ -1,7 +1,7 @@
 use Rattle.std.proofs.Common.{rules, ◌∙◌, ℤ, ap, w32, subst, [], ◌∷◌}
 use mir.Val.{SFits}
 use Rattle.std.proofs.lemmas.Int.{to_z-of_z}
-use Rattle.circuit_theory.specs.Terms.Term.{Literal}
+use Rattle.gates_theory.specs.Terms.Term.{Literal}
 use Rattle.run_gates.specs.Building.{BuildsAll}
 use Rattle.run_gates.proofs.Terms.{held-literal}
 use Rattle.run_terms.specs.Positions.{had}

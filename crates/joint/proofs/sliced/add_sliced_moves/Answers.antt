@@ -1,5 +1,5 @@
 use Rattle.std.proofs.Common.{◌++◌, [], ◌∷◌, Ok, map}
-use Rattle.circuit_theory.specs.Terms.Term.{Literal}
+use Rattle.gates_theory.specs.Terms.Term.{Literal}
 use Rattle.joint_theory.specs.Sliced.{kept_by, kept_latches, kept_signals, shift_term}
 use Rattle.run_gates.proofs.Terms.{all-then}
 use Rattle.run_terms.specs.Moves.{latch_term}

@@ -1,9 +1,9 @@
 use Rattle.std.proofs.Common.{ℕ, ◌+◌, ◌∙◌, ◌++◌, List, ap, replicate, arith}
 use Rattle.std.proofs.lemmas.Result.{err_from_is_err_and}
-use Rattle.circuit_theory.specs.declared.circuit.Gate.{Gate}
-use Rattle.circuit_theory.specs.declared.circuit.Gate.TheVariants.{Free}
-use Rattle.circuit_theory.specs.Relations.{variables_of}
-use Rattle.circuit_theory.specs.Terms.{Term}
+use Rattle.gates_theory.specs.declared.circuit.Gate.{Gate}
+use Rattle.gates_theory.specs.declared.circuit.Gate.TheVariants.{Free}
+use Rattle.gates_theory.specs.Relations.{variables_of}
+use Rattle.gates_theory.specs.Terms.{Term}
 use Rattle.joint_theory.specs.Bits.{joint_width}
 use Rattle.joint_theory.specs.Sliced.{kept_by, sliced_first, sliced_next, sliced_pair, sliced_step}
 use Rattle.joint.proofs.OnePosition.{terms-large}

@@ -1,5 +1,5 @@
 use Rattle.std.proofs.Common.{◌≤◌, length, arith}
-use Rattle.circuit_theory.specs.Relations.{variables_of}
+use Rattle.gates_theory.specs.Relations.{variables_of}
 use Rattle.joint_theory.specs.Sliced.{kept_by, sliced_pair}
 use Rattle.joint_theory.proofs.Sliced.{sliced-closed}
 use Rattle.joint.proofs.OnePosition.{alone-sound, alone-wide}

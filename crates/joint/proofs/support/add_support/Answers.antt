@@ -1,6 +1,6 @@
 use Rattle.std.proofs.Common.{ℕ, Ok, map, subst}
 use Rattle.std.specs.List.{range_with_len}
-use Rattle.circuit_theory.specs.Terms.{Term}
+use Rattle.gates_theory.specs.Terms.{Term}
 use Rattle.joint_theory.specs.Bits.{numbers_of}
 use Rattle.joint_theory.specs.Relation.{not_all_of, unasked_owed, unasked_pending}
 use Rattle.run_gates.specs.Building.{BuildsAll}

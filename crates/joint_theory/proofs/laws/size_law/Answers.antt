@@ -1,4 +1,4 @@
-use Rattle.circuit_theory.proofs.Chains.{relation-sound}
+use Rattle.gates_theory.proofs.Chains.{relation-sound}
 use Rattle.joint_theory.specs.Relation.{joint}
 use Rattle.joint_theory.proofs.Queries.{query-few, query-within, query-words}
 use Rattle.joint_theory.proofs.Within.{joint-closed}

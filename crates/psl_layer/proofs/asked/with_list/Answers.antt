@@ -1,6 +1,6 @@
 use Rattle.std.proofs.Common.{[], Result, List, subst}
 use Rattle.psl_tree.specs.declared.directive.Directive.{Directive}
-use Rattle.psl_elaboration.specs.declared.fault.LayerFault.{LayerFault}
+use Rattle.psl_layer_theory.specs.declared.fault.LayerFault.{LayerFault}
 use Rattle.psl_layer.specs.Asked.{IsLonger}
 use Rattle.psl_layer.proofs.Longer.{list_more, longer_err}
 use Rattle.psl_layer.proofs.asked.with_list.Goals as goal

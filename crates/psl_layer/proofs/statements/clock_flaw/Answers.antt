@@ -1,7 +1,7 @@
 use Rattle.std.proofs.Common.{Bool, ap, ◌∙◌}
-use Rattle.psl_elaboration.specs.FirstFlaw.{first_of}
-use Rattle.psl_elaboration.specs.Flaws.{flaw_where}
-use Rattle.psl_elaboration.specs.declared.fault.Cause.TheVariants as causes
+use Rattle.psl_layer_theory.specs.FirstFlaw.{first_of}
+use Rattle.psl_layer_theory.specs.Flaws.{flaw_where}
+use Rattle.psl_layer_theory.specs.declared.fault.Cause.TheVariants as causes
 use Rattle.psl_layer.proofs.Scopes.{stands_clock}
 use Rattle.psl_layer.proofs.statements.clock_flaw.Goals as goal
 

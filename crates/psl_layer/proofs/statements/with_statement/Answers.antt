@@ -1,7 +1,7 @@
 use Rattle.std.proofs.Common.{List, [], ◌++◌, refl, sym, subst, ◌∙◌}
 use Rattle.std.proofs.lemmas.List.{append-nil}
 use Rattle.psl_grammar.specs.declared.tree.Statement.TheVariants as statements
-use Rattle.psl_elaboration.specs.Directives.{Asked, asked_after, asked_by}
+use Rattle.psl_layer_theory.specs.Directives.{Asked, asked_after, asked_by}
 use Rattle.psl_layer.specs.Asked.{AskAll}
 use Rattle.psl_layer.specs.Scopes.{named_in}
 use Rattle.psl_layer.specs.declared.asked.Asked as code_asked

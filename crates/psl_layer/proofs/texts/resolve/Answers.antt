@@ -1,5 +1,5 @@
 use Rattle.std.proofs.Common.{sym, subst}
-use Rattle.psl_elaboration.specs.Answers.{IsLayerFault}
+use Rattle.psl_layer_theory.specs.Answers.{IsLayerFault}
 use Rattle.psl_layer.proofs.Bounds.{ranged, small}
 use Rattle.psl_layer.proofs.Whole.{fault_is, flaw_is, no_flaw, unit_is}
 use Rattle.psl_layer.proofs.texts.resolve.Goals as goal

@@ -1,6 +1,6 @@
 use Rattle.std.proofs.Common.{take}
-use Rattle.psl_elaboration.specs.Directives.{asked_in_units}
-use Rattle.psl_elaboration.specs.Flaws.{units_flaws}
+use Rattle.psl_layer_theory.specs.Directives.{asked_in_units}
+use Rattle.psl_layer_theory.specs.Flaws.{units_flaws}
 use Rattle.psl_layer.proofs.Whole.{unit_found}
 use Rattle.psl_layer.proofs.texts.units_outcome.Goals as goal
 

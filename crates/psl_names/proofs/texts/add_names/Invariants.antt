@@ -1,5 +1,5 @@
 use Rattle.std.proofs.Common.{◌≡◌, ◌++◌, drop}
-use Rattle.psl_elaboration.specs.Texts.{dotted}
+use Rattle.psl_layer_theory.specs.Texts.{dotted}
 use Rattle.psl_names.proofs.texts.add_names.Given as goal
 
 abbrev pub invariant-loop-name : goal.invariant-loop-name

@@ -1,5 +1,5 @@
 use Rattle.std.proofs.Common.{arith}
-use Rattle.circuit_theory.proofs.Within.{wider_all}
+use Rattle.gates_theory.proofs.Within.{wider_all}
 use Rattle.clauses.specs.declared.flat.TheConstants.{MOST_VARIABLES}
 use Rattle.joint_theory.specs.Bits.{joint_width}
 use Rattle.reach_frames.specs.Levels.{frames_of}

@@ -1,6 +1,6 @@
 use Rattle.std.proofs.Common.{sym, subst, ◌∙◌, ℤ, List, arith}
 use Rattle.std.specs.Prelude.{IsTrue}
-use Rattle.circuit_theory.proofs.Within.{wider}
+use Rattle.gates_theory.proofs.Within.{wider}
 use Rattle.clauses.specs.Literals.{clause_within}
 use Rattle.clauses.specs.declared.flat.TheConstants.{MOST_VARIABLES}
 use Rattle.joint_theory.proofs.Within.{start-within}

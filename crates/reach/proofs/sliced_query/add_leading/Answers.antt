@@ -1,5 +1,5 @@
 use Rattle.std.proofs.Common.{sym, subst, ◌∙◌}
-use Rattle.circuit_theory.proofs.Within.{wider, wider_all}
+use Rattle.gates_theory.proofs.Within.{wider, wider_all}
 use Rattle.clauses.specs.declared.flat.TheConstants.{MOST_VARIABLES}
 use Rattle.reach_frames.proofs.Negations.{negated_within}
 use Rattle.reach.proofs.sliced_query.add_leading.Goals as goal

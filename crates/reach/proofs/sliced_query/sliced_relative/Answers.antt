@@ -1,5 +1,5 @@
 use Rattle.std.proofs.Common.{sym, ap, ◌∙◌, ◌++◌, ℤ, List, [], ◌∷◌}
-use Rattle.circuit_theory.specs.Unrolled.{units}
+use Rattle.gates_theory.specs.Unrolled.{units}
 use Rattle.joint_theory.specs.Bits.{joint_width}
 use Rattle.joint_theory.specs.Reaching.{start_units}
 use Rattle.reach_frames.specs.Cubes.{negated}

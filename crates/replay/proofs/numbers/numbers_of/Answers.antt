@@ -1,7 +1,7 @@
 use Rattle.std.proofs.Common.{◌≡◌, ap, sym, ◌∙◌, ◌++◌, ◌∷◌, [], ℕ, List, Option, map, arith}
 use Rattle.std.specs.List.{range_with_len}
 use Rattle.std.proofs.lemmas.List.FromFn.{map-range_with_len_more}
-use Rattle.psl_elaboration.specs.declared.found.Found.{Found}
+use Rattle.psl_layer_theory.specs.declared.found.Found.{Found}
 use Rattle.replay.proofs.numbers.numbers_of.Goals as goal
 use Rattle.replay.specs.Recorded.{bit_found, recorded}
 

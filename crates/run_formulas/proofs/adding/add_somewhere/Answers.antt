@@ -1,7 +1,7 @@
 use Rattle.std.proofs.Common.{◌≡◌, ◌+◌, ◌*◌, pos, refl, arith, w32}
 use Rattle.std.proofs.lemmas.Int.{to_z_pos}
 use Rattle.std.proofs.lemmas.List.FromFn.{map-range_with_len_more}
-use Rattle.circuit_theory.specs.Unrolled.{moved}
+use Rattle.gates_theory.specs.Unrolled.{moved}
 use Rattle.run_formulas.proofs.Additions.{higher-below, higher-within, row-within}
 use Rattle.run_formulas.proofs.adding.add_somewhere.Goals as goal
 

@@ -1,6 +1,6 @@
 use Rattle.std.proofs.Common.{◌≡◌, ◌*◌, pos, map}
 use Rattle.std.specs.List.{range_with_len}
-use Rattle.circuit_theory.specs.Unrolled.{moved}
+use Rattle.gates_theory.specs.Unrolled.{moved}
 use Rattle.run_formulas.proofs.adding.add_somewhere.Given as goal
 
 abbrev pub invariant-loop-position : goal.invariant-loop-position

@@ -2,7 +2,7 @@ use Rattle.std.proofs.Common.{rules, ◌≡◌, suc, ◌<◌, pos, [], ◌∷◌
 use mir.Val.{SFits}
 use Rattle.std.proofs.lemmas.Int.{to_z-of_z}
 use Rattle.std.proofs.lemmas.Result.{err_from_is_err_and}
-use Rattle.circuit_theory.specs.Unrolled.{moved, units}
+use Rattle.gates_theory.specs.Unrolled.{moved, units}
 use Rattle.run_formulas.proofs.Additions.{so_far-err, units-drop}
 use Rattle.run_formulas.proofs.adding.add_units.Goals as goal
 

@@ -1,8 +1,8 @@
 use Rattle.std.proofs.Common.{◌≡◌, ◌*◌, suc, length, inr, refl, arith, ap, ◌∙◌}
 use Rattle.std.proofs.lemmas.Result.{err_from_is_err_and}
 use Rattle.clauses.specs.Literals.{clause_words}
-use Rattle.circuit_theory.specs.Unrolled.{units, unrolled}
-use Rattle.circuit_theory.proofs.Sizes.{words-append}
+use Rattle.gates_theory.specs.Unrolled.{units, unrolled}
+use Rattle.gates_theory.proofs.Sizes.{words-append}
 use Rattle.run_formulas.proofs.held.held_to.Goals as goal
 
 pub returns-in_err-add_units-clause-large : goal.returns-in_err-add_units-clause-large

@@ -1,5 +1,5 @@
 use Rattle.std.proofs.Common.{◌≡◌}
-use Rattle.circuit_theory.specs.Distinct.{following}
+use Rattle.gates_theory.specs.Distinct.{following}
 use Rattle.run_formulas.proofs.variables.following.Given as goal
 
 abbrev pub invariant-loop-k : goal.invariant-loop-k

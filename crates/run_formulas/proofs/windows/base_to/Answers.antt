@@ -3,7 +3,7 @@ use Rattle.std.specs.List.{range_with_len}
 use Rattle.std.proofs.lemmas.Result.{err_from_is_err_and}
 use Rattle.clauses.specs.declared.flat.TheConstants.{MOST_WORDS}
 use Rattle.clauses.specs.Literals.{clause_words}
-use Rattle.circuit_theory.specs.Unrolled.{units}
+use Rattle.gates_theory.specs.Unrolled.{units}
 use Rattle.run_formulas.specs.Adding.{held_to}
 use Rattle.run_formulas.proofs.Parts.{late-second, Clauses}
 use Rattle.run_formulas.specs.Windows.{bad_at}

@@ -2,7 +2,7 @@ use Rattle.std.proofs.Common.{rules, ◌≡◌, ◌*◌, ◌++◌, ◌∷◌, []
 use mir.Val.{SFits}
 use Rattle.std.proofs.lemmas.Int.{to_z-of_z}
 use Rattle.std.proofs.lemmas.Result.{err_from_is_err_and}
-use Rattle.circuit_theory.specs.Distinct.{distinct}
+use Rattle.gates_theory.specs.Distinct.{distinct}
 use Rattle.run_formulas.specs.Adding.{held_to}
 use Rattle.run_formulas.specs.Windows.{bad_at, good_clauses}
 use Rattle.run_formulas.proofs.Parts.{late-first_of, late-second_of}

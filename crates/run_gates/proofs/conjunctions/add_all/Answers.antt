@@ -2,8 +2,8 @@ use Rattle.std.proofs.Common.{rules, ◌≡◌, ◌+◌, ◌<◌, arith, true, �
 use mir.Val.{SFits}
 use Rattle.std.proofs.lemmas.Int.{to_z-of_z}
 use Rattle.std.proofs.lemmas.List.{drop_more}
-use Rattle.circuit_theory.specs.Terms.{with_conjunction}
-use Rattle.circuit_theory.specs.Terms.Term.{Literal, Conjunction}
+use Rattle.gates_theory.specs.Terms.{with_conjunction}
+use Rattle.gates_theory.specs.Terms.Term.{Literal, Conjunction}
 use Rattle.run_terms.specs.Booleans.{constant}
 use Rattle.run_gates.proofs.Folds.{conjunction-join, literal-builds, so_far-step}
 use Rattle.run_gates.proofs.conjunctions.add_all.Goals as goal

@@ -1,6 +1,6 @@
 use Rattle.std.proofs.Common.{drop, map, true}
-use Rattle.circuit_theory.specs.Terms.{with_conjunction}
-use Rattle.circuit_theory.specs.Terms.Term.{Literal, Conjunction}
+use Rattle.gates_theory.specs.Terms.{with_conjunction}
+use Rattle.gates_theory.specs.Terms.Term.{Literal, Conjunction}
 use Rattle.run_terms.specs.Booleans.{constant}
 use Rattle.run_gates.proofs.Folds.{JoinedSoFar}
 use Rattle.run_gates.proofs.conjunctions.add_all.Given as goal

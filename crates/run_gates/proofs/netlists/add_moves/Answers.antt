@@ -1,7 +1,7 @@
 use Rattle.std.proofs.Common.{rules, ◌++◌, [], ◌∷◌, map, w32}
 use mir.Val.{SFits}
 use Rattle.std.proofs.lemmas.Int.{to_z-of_z}
-use Rattle.circuit_theory.specs.Terms.Term.{Literal}
+use Rattle.gates_theory.specs.Terms.Term.{Literal}
 use Rattle.run_terms.specs.Moves.{latch_term, shift_terms}
 use Rattle.run_terms.specs.Positions.{had}
 use Rattle.run_gates.proofs.Terms.{all-then, held-literal}

@@ -2,7 +2,7 @@ use Rattle.std.proofs.Common.{rules, ℕ, ◌+◌, ◌-◌, ◌<◌, arith, Ok, 
 use mir.Val.{SFits}
 use Rattle.std.specs.List.{range_with_len}
 use Rattle.std.proofs.lemmas.Int.{to_z-of_z}
-use Rattle.circuit_theory.specs.Terms.{Term}
+use Rattle.gates_theory.specs.Terms.{Term}
 use Rattle.run_terms.specs.Moves.{same_term, shift_terms}
 use Rattle.run_terms.specs.Positions.{earlier, current}
 use Rattle.run_gates.specs.Building.{Builds}

@@ -1,8 +1,8 @@
 use Rattle.std.proofs.Common.{rules, ◌≡◌, ◌+◌, ◌<◌, ◌∙◌, sym, arith, true, Some, None, map, drop, length, get_or, w32}
 use mir.Val.{SFits}
 use Rattle.std.proofs.lemmas.Int.{to_z-of_z}
-use Rattle.circuit_theory.specs.Terms.{with_conjunction}
-use Rattle.circuit_theory.specs.Terms.Term.{Literal, Conjunction}
+use Rattle.gates_theory.specs.Terms.{with_conjunction}
+use Rattle.gates_theory.specs.Terms.Term.{Literal, Conjunction}
 use Rattle.netlist.specs.declared.rows.Mark.TheVariants as marks
 use Rattle.run_terms.specs.Booleans.{constant}
 use Rattle.run_terms.specs.Tables.{row_literals}

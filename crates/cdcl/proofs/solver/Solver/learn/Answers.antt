@@ -1,11 +1,11 @@
 use Rattle.std.proofs.Common.{◌≡◌, ◌<◌, ◌≤◌, List, [], ◌∷◌, ◌++◌, length, map, refl, sym, ap, ◌∙◌, arith}
 use Rattle.std.proofs.lemmas.Bool.{eqb-true, eqb-false}
 use Rattle.std.proofs.lemmas.List.{nil_from_length}
-use Rattle.trail.specs.Path.{Path}
+use Rattle.cdcl_trail.specs.Path.{Path}
 use Rattle.clauses.specs.Literals.{clause_words}
 use Rattle.clauses.specs.Logs.LogEntry.{Lemma}
-use Rattle.trail.specs.Literals.{signed}
-use Rattle.conflict_theory.specs.Lemmas.{IsLearned, IsRefuted}
+use Rattle.cdcl_trail.specs.Literals.{signed}
+use Rattle.cdcl_conflict_theory.specs.Lemmas.{IsLearned, IsRefuted}
 use Rattle.cdcl.specs.Turns.{steps_at}
 use Rattle.cdcl.proofs.Logging.{AreWithin}
 use Rattle.cdcl.proofs.Stepping.{IsOutcome, outcome, literals_fit, hints_fit, words_fit, attach_fits, logged_push, refutes_end, tidy_end, end_fits}

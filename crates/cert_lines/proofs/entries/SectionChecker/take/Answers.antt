@@ -1,7 +1,7 @@
 use Rattle.std.proofs.Common.{◌∙◌, ap, sym, Bool, length, arith, refl}
 use Rattle.clauses.specs.Entries.{entry_of}
-use Rattle.log_lines.specs.Lines.{has_line}
-use Rattle.certificate.specs.Sections.{IsEntryLine}
+use Rattle.clause_text.specs.Lines.{has_line}
+use Rattle.cert_theory.specs.Sections.{IsEntryLine}
 use Rattle.cert_lines.specs.declared.entries.SectionChecker.{SectionChecker}
 use Rattle.cert_lines.proofs.Becoming.{becomes_taken}
 use Rattle.cert_lines.proofs.Holding.{bytes_after, line_long}

@@ -1,6 +1,6 @@
 use Rattle.std.proofs.Common.{◌≡◌, subst, false}
 use Rattle.std.specs.Prelude.{IfOk, IfErr}
-use Rattle.circuit_theory.specs.Sizes.{IsTooLarge}
+use Rattle.gates_theory.specs.Sizes.{IsTooLarge}
 use Rattle.clauses.specs.declared.flat.CnfFault.{CnfFault}
 use Rattle.joint.specs.Joined.{Joined}
 use Rattle.joint_theory.specs.Paths.{SomeOpen}

@@ -1,7 +1,7 @@
 use Rattle.std.proofs.Common.{rules, ◌∙◌, sym, List, subst, w32}
 use mir.Val.{SFits}
 use Rattle.std.proofs.lemmas.Int.{to_z-of_z}
-use Rattle.circuit_theory.specs.Terms.{Term}
+use Rattle.gates_theory.specs.Terms.{Term}
 use Rattle.joint_theory.specs.Sliced.{kept_by}
 use Rattle.netlist.specs.declared.latch.Latch.{Latch}
 use Rattle.run_gates.specs.Building.{BuildsAll}

@@ -1,5 +1,5 @@
 use Rattle.std.proofs.Common.{◌∙◌, sym, List, subst}
-use Rattle.circuit_theory.specs.Terms.{Term}
+use Rattle.gates_theory.specs.Terms.{Term}
 use Rattle.joint_theory.specs.Sliced.{kept_by}
 use Rattle.netlist.specs.declared.table.Table.{Table}
 use Rattle.run_gates.specs.Building.{BuildsAll}

@@ -7,7 +7,7 @@ use Rattle.prover.proofs.context.Prover.search_for.Goals as goal
 use Rattle.prover.specs.Stops.{IsSolved, ViolatesFor}
 use Rattle.prover.specs.declared.answering.Solved.{Solved}
 use Rattle.prover.specs.declared.finding.Query.TheVariants.{Search}
-use Rattle.search_theory.specs.Found.{run_size}
+use Rattle.bounded_theory.specs.Found.{run_size}
 
 pub returns-in-Err-clause-stop : goal.returns-in-Err-clause-stop
 returns-in-Err-clause-stop c = stops c.args.self.task (Search c.args.size) c.in-Err.fault c.without.result c.without.ensures

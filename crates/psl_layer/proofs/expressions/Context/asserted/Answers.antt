@@ -1,5 +1,5 @@
 use Rattle.std.proofs.Common.{sym, false}
-use Rattle.psl_elaboration.specs.Kernel.{meaning_of}
+use Rattle.psl_layer_theory.specs.Kernel.{meaning_of}
 use Rattle.psl_layer.specs.Scopes.{named_in}
 use Rattle.psl_layer.proofs.Owned.{unowned-asserted}
 use Rattle.psl_layer.proofs.expressions.Context.asserted.Goals as goal

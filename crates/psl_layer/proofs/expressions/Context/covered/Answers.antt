@@ -1,8 +1,8 @@
 use Rattle.std.proofs.Common.{sym, subst, false, Some}
 use Rattle.psl_grammar.specs.declared.tree.Expression as code_expression
 use Rattle.psl_sugar.specs.Budget.{GivesFormula}
-use Rattle.psl_elaboration.specs.Directives.{cover_formula}
-use Rattle.psl_elaboration.specs.Kernel.{boolean_in, meaning_of}
+use Rattle.psl_layer_theory.specs.Directives.{cover_formula}
+use Rattle.psl_layer_theory.specs.Kernel.{boolean_in, meaning_of}
 use Rattle.psl_layer.specs.Scopes.{named_in}
 use Rattle.psl_layer.proofs.Owned.{unowned-covered}
 use Rattle.psl_layer.proofs.expressions.Context.covered.Goals as goal

@@ -3,7 +3,7 @@ use Rattle.std.specs.Prelude.{Contains}
 use Rattle.clauses.specs.declared.flat.TheConstants.{MOST_VARIABLES}
 use Rattle.joint_theory.specs.Bits.{joint_width}
 use Rattle.reach_frames.specs.Cubes.{negated, IsFrame}
-use Rattle.circuit_theory.proofs.Within.{wider}
+use Rattle.gates_theory.proofs.Within.{wider}
 use Rattle.reach.proofs.Asked.{begun-none, begun-some}
 use Rattle.reach.proofs.NoneApart.{none-apart}
 use Rattle.reach.proofs.Plain.{one-frame}

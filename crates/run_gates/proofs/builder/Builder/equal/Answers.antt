@@ -1,7 +1,7 @@
 use Rattle.std.proofs.Common.{rules, ◌≡◌, ◌∙◌, ap, length, neg_ℤ, negsuc, suc, arith, w32}
 use mir.Val.{SFits}
 use Rattle.std.proofs.lemmas.Int.{to_z-of_z}
-use Rattle.circuit_theory.specs.declared.circuit.Gate.TheVariants.{And}
+use Rattle.gates_theory.specs.declared.circuit.Gate.TheVariants.{And}
 use Rattle.run_gates.proofs.Appends.{three_gates}
 use Rattle.run_gates.proofs.builder.Builder.equal.Goals as goal
 

@@ -1,5 +1,5 @@
 use Rattle.std.proofs.Common.{◌≡◌, ◌≤◌, ◌++◌, replicate}
-use Rattle.circuit_theory.specs.declared.circuit.Gate.TheVariants.{Free}
+use Rattle.gates_theory.specs.declared.circuit.Gate.TheVariants.{Free}
 use Rattle.run_gates.proofs.builder.Builder.free.Given as goal
 
 abbrev pub invariant-loop : goal.invariant-loop

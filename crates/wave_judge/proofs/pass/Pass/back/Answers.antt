@@ -1,8 +1,8 @@
 use Rattle.std.proofs.Common.{◌≡◌, ℕ, ◌+◌, ◌-◌, ◌*◌, length, refl, sym, ap, ◌∙◌, subst, arith, length-append, length-drop}
 use Rattle.std.proofs.Math.ListN.{length-take}
 use Rattle.alternating_theory.specs.Obligations.{Automaton}
-use Rattle.block_step.specs.Values.{HasLengths, StepsBlock}
-use Rattle.block_step.specs.declared.values.Values.{Values}
+use Rattle.alternating_blocks.specs.Values.{HasLengths, StepsBlock}
+use Rattle.alternating_blocks.specs.declared.values.Values.{Values}
 use Rattle.wave_judge.proofs.Samples.{goes_block, have-lengths-at}
 use Rattle.wave_judge.proofs.pass.Pass.back.Goals as goal
 use Rattle.wave_judge.specs.Values.{AreValuesAt}

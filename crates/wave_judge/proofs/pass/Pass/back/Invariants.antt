@@ -1,5 +1,5 @@
 use Rattle.std.proofs.Common.{◌≡◌, ◌*◌, ◌≤◌, length}
-use Rattle.block_step.specs.Values.{HasLengths}
+use Rattle.alternating_blocks.specs.Values.{HasLengths}
 use Rattle.wave_judge.proofs.pass.Pass.back.Given as goal
 use Rattle.wave_judge.specs.Values.{AreValuesAt}
 

@@ -1,8 +1,8 @@
 use Rattle.std.proofs.Common.{◌≡◌, ◌+◌, ◌-◌, ◌<◌, length, sym, ap, ◌∙◌, subst, arith, length-append, length-drop}
 use Rattle.std.proofs.Math.ListN.{length-take}
 use Rattle.std.proofs.lemmas.List.{length-replicate}
-use Rattle.block_step.proofs.Stepped.{have-lengths}
-use Rattle.block_step.specs.declared.values.Values.{Values}
+use Rattle.alternating_blocks.proofs.Stepped.{have-lengths}
+use Rattle.alternating_blocks.specs.declared.values.Values.{Values}
 use Rattle.wave_judge.proofs.Samples.{StandsAt, at_the_end, goes_back, are_at}
 use Rattle.wave_judge.proofs.pass.Pass.last_samples.Goals as goal
 

@@ -1,5 +1,0 @@
-use Rattle.block_step.proofs.order.all_visits.Given as goal
-use Rattle.block_step.specs.Order.{VisitsWithin}
-
-abbrev pub invariant-loop-number : goal.invariant-loop-number
-invariant-loop-number l = VisitsWithin l.count l.visits.items

@@ -1,6 +1,0 @@
-use Rattle.std.proofs.Common.{◌≡◌, length}
-use Rattle.block_step.proofs.order.owed_of_each.Given as goal
-use Rattle.block_step.specs.Order.{AreWithin}
-
-abbrev pub invariant-loop-number : goal.invariant-loop-number
-invariant-loop-number l = record { count : length l.owed.items ≡ l.number; within : AreWithin (length l.automaton.obligations) l.owed.items }

@@ -1,6 +1,0 @@
-use Rattle.std.proofs.Common.{◌≡◌, length}
-use Rattle.block_step.proofs.order.owers_of.Given as goal
-use Rattle.block_step.specs.Order.{AreWithin}
-
-abbrev pub invariant-loop-turn : goal.invariant-loop-turn
-invariant-loop-turn l = record { count : length l.owers.items ≡ length l.owed; within : AreWithin l.turn l.owers.items }

@@ -1,9 +1,0 @@
-use Rattle.std.proofs.Common.{◌≡◌, length}
-use Rattle.block_step.proofs.plan.Plan.new.Given as goal
-use Rattle.block_step.specs.Plan.{StandFor}
-
-abbrev pub invariant-loop-number : goal.invariant-loop-number
-invariant-loop-number l = record {
-  count : length l.deltas.items ≡ l.number;
-  deltas : StandFor l.automaton l.tests.items l.deltas.items;
-}

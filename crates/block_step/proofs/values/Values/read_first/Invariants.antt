@@ -1,5 +1,0 @@
-use Rattle.block_step.proofs.values.Values.read_first.Given as goal
-use Rattle.block_step.specs.Values.{HasCounts, ShowAt}
-
-abbrev pub invariant-loop-number : goal.invariant-loop-number
-invariant-loop-number l = record { counts : HasCounts l.count l.self; shown : ShowAt 0 l.number l.words l.self }

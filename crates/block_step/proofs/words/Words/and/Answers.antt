@@ -1,9 +1,0 @@
-use Rattle.block_step.proofs.Bits.{bit-and}
-use Rattle.block_step.proofs.words.Words.and.Goals as goal
-
-pub returns : goal.returns
-returns c = record {
-  weak = λ place. bit-and c.args.self.weak c.args.other.weak place;
-  neutral = λ place. bit-and c.args.self.neutral c.args.other.neutral place;
-  strong = λ place. bit-and c.args.self.strong c.args.other.strong place;
-}

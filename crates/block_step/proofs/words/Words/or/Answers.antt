@@ -1,9 +1,0 @@
-use Rattle.block_step.proofs.Bits.{bit-or}
-use Rattle.block_step.proofs.words.Words.or.Goals as goal
-
-pub returns : goal.returns
-returns c = record {
-  weak = λ place. bit-or c.args.self.weak c.args.other.weak place;
-  neutral = λ place. bit-or c.args.self.neutral c.args.other.neutral place;
-  strong = λ place. bit-or c.args.self.strong c.args.other.strong place;
-}

@@ -1,6 +1,0 @@
-use Rattle.std.proofs.Common.{◌∙◌, sym}
-use Rattle.block_step.proofs.Bits.{bit-all}
-use Rattle.block_step.proofs.words.filled.Goals as goal
-
-pub returns-then-value : goal.returns-then-value
-returns-then-value c = λ place h. bit-all place h ∙ sym c.if-value.true

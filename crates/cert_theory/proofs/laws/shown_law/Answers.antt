@@ -1,0 +1,5 @@
+use Rattle.cert_theory.proofs.Passed.{shown}
+use Rattle.cert_theory.proofs.laws.shown_law.Goals as goal
+
+pub returns : goal.returns
+returns c = record { shown = λ asked queries text passed. shown asked queries text passed }

@@ -1,3 +1,0 @@
-pub use Rattle.certificate.specs.Printed
-pub mod Evidence
-pub mod Examples

@@ -1,5 +1,0 @@
-use Rattle.circuit_theory.proofs.Filling.{distinct-models, distinct-extends}
-use Rattle.circuit_theory.proofs.laws.distinct_law.Goals as goal
-
-pub returns : goal.returns
-returns c = record { models = distinct-models; extends = distinct-extends }

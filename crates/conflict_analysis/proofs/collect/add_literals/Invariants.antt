@@ -1,7 +1,0 @@
-use Rattle.std.proofs.Common.{◌≡◌, ◌++◌, length, take, reverse}
-use Rattle.conflict_analysis.specs.Standings.{literals_at}
-use Rattle.conflict_analysis.proofs.collect.add_literals.Given as goal
-
-abbrev pub invariant-loop-place : goal.invariant-loop-place
-invariant-loop-place l =
-    l.lemma.items ≡ l.fn.lemma.items ++ literals_at l.standings l.literals (take (length l.yielded) (reverse l.places))

@@ -1,4 +1,0 @@
-use Rattle.conflict_analysis.proofs.implied.+follows.Given as goal
-
-abbrev pub decreases-follows : goal.decreases-follows
-decreases-follows l = l.depth

@@ -1,5 +1,0 @@
-use Rattle.conflict_theory.proofs.Learning.{learned}
-use Rattle.conflict_theory.proofs.laws.learning_law.Goals as goal
-
-pub returns : goal.returns
-returns c = learned

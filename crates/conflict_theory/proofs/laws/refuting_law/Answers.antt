@@ -1,5 +1,0 @@
-use Rattle.conflict_theory.proofs.Learning.{refuted}
-use Rattle.conflict_theory.proofs.laws.refuting_law.Goals as goal
-
-pub returns : goal.returns
-returns c = refuted

@@ -1,6 +1,0 @@
-use Rattle.std.proofs.Common.{◌≡◌, ◌++◌, map, take}
-use Rattle.flat_netlist.specs.Inputs.{number_in}
-use Rattle.flat_netlist.proofs.flat.add_inputs.Given as goal
-
-abbrev pub invariant-loop-name : goal.invariant-loop-name
-invariant-loop-name l = l.inputs ≡ l.initial.inputs ++ map (number_in l.numbers) (take l.name-index l.names)

@@ -1,7 +1,0 @@
-use Rattle.std.proofs.Common.{◌≡◌, map, take}
-use Rattle.flattening.specs.Walks.{line_view}
-use Rattle.flat_netlist.specs.Listing.{parts_in}
-use Rattle.flat_netlist.proofs.parts.parts_of.Given as goal
-
-abbrev pub invariant-loop-line : goal.invariant-loop-line
-invariant-loop-line l = l.parts ≡ parts_in (map (line_view l.models) (take l.line-index l.lines))

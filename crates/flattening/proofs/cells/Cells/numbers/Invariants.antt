@@ -1,7 +1,0 @@
-use Rattle.std.proofs.Common.{◌≡◌, map, take}
-use Rattle.flattening.specs.Cells.{signal_in}
-use Rattle.flattening.specs.Listing.{number_in_list}
-use Rattle.flattening.proofs.cells.Cells.numbers.Given as goal
-
-abbrev pub invariant-loop-cell : goal.invariant-loop-cell
-invariant-loop-cell l = l.numbers ≡ map (λ cell. number_in_list l.self.seen (signal_in l.self.owners cell)) (take l.cell-index l.cells)

@@ -1,5 +1,0 @@
-use Rattle.hierarchy_laws.proofs.Hierarchies.{are-sound}
-use Rattle.hierarchy_laws.proofs.laws.driving_law.Goals as goal
-
-pub returns : goal.returns
-returns c text models texts is = are-sound text models texts is

@@ -1,6 +1,0 @@
-use Rattle.std.proofs.Common.{◌≡◌, true, take}
-use Rattle.log_lines.specs.Lines.{lacks}
-use Rattle.log_lines.proofs.words.length_before.Given as goal
-
-abbrev pub invariant-loop-place : goal.invariant-loop-place
-invariant-loop-place l = lacks l.mark (take l.place l.text) ≡ true

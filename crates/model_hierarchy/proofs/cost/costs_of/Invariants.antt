@@ -1,5 +1,0 @@
-use Rattle.model_hierarchy.specs.Sums.{HasCosts}
-use Rattle.model_hierarchy.proofs.cost.costs_of.Given as goal
-
-abbrev pub invariant-loop-round : goal.invariant-loop-round
-invariant-loop-round g l = HasCosts l.models l.cap l.round l.costs.items

@@ -1,6 +1,0 @@
-use Rattle.std.proofs.Common.{◌≡◌, map, take}
-use Rattle.model_hierarchy.specs.Depth.{depths_after}
-use Rattle.model_hierarchy.proofs.depth.deeper.Given as goal
-
-abbrev pub invariant-loop-model : goal.invariant-loop-model
-invariant-loop-model g l = l.next.items ≡ map (depths_after l.depths) (take l.model-index l.models)

@@ -1,5 +1,0 @@
-use Rattle.model_hierarchy.specs.Recursion.{IsItself}
-use Rattle.model_hierarchy.proofs.recursion.each_itself.Given as goal
-
-abbrev pub invariant-loop-number : goal.invariant-loop-number
-invariant-loop-number l = IsItself l.number l.numbers.items

@@ -1,9 +1,0 @@
-use Rattle.std.proofs.Common.{◌≡◌, ◌++◌, map, drop}
-use Rattle.flattening.specs.declared.model.Placement.{Placement}
-use Rattle.flattening.specs.Hierarchy.{placements_in}
-use Rattle.model_hierarchy.proofs.recursion.placed_in.Given as goal
-
-abbrev pub invariant-loop-item : goal.invariant-loop-item
-invariant-loop-item g l =
-    l.placed ++ map (λ (placement : Placement). placement.model) (placements_in (drop l.item-index l.items))
-    ≡ map (λ (placement : Placement). placement.model) (placements_in l.items)

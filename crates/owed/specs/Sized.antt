@@ -1,0 +1,34 @@
+-- Which assertions are within the limits of the formulas for a netlist.
+use Rattle.std.specs.Prelude.{ℕ, suc, ◌+◌, ◌*◌, ◌<◌, ◌≤◌}
+use Rattle.alternating.specs.Limits.{HasLargeSequence}
+use Rattle.netlist.specs.Design.{Design, marks_of}
+use Rattle.psl_tree.specs.Counts.{formula_size, obligations_of}
+use Rattle.psl_tree.specs.Trees.{Formula}
+use Rattle.psl_tree.specs.declared.counts.TheConstants.{MOST_OBLIGATIONS}
+use Rattle.gates.specs.declared.limits.TheConstants.{MOST_WORK}
+use Rattle.owed.specs.declared.limits.LimitFault.{LimitFault}
+use Rattle.owed.specs.declared.limits.LimitFault.TheVariants.{SereTooLarge, AutomatonTooLarge, UnrollTooLarge, NoMemory}
+
+-- how much of a netlist and a formula stands at each position
+abbrev pub bulk_of : Design → Formula → ℕ
+bulk_of design formula =
+    design.signals + marks_of design.tables + obligations_of formula * obligations_of formula + formula_size formula
+
+-- what formulas up to a depth or a window, which have one position more, take, as it is limited
+abbrev pub work_of : Design → ℕ → Formula → ℕ
+work_of design depth formula = suc depth * suc depth * bulk_of design formula
+
+-- a formula is within the limits up to a depth or a window
+pub record IsSized (design : Design) (depth : ℕ) (formula : Formula) : Type 0 where
+  pub sequences : HasLargeSequence formula → ⊥
+  pub obligations : obligations_of formula ≤ MOST_OBLIGATIONS
+  pub unrolled : work_of design depth formula ≤ MOST_WORK
+
+-- the first of these limits that it passes
+abbrev pub IsRefused : Design → ℕ → Formula → LimitFault → Type 0
+IsRefused design depth formula SereTooLarge = HasLargeSequence formula
+IsRefused design depth formula AutomatonTooLarge =
+    (HasLargeSequence formula → ⊥) × (MOST_OBLIGATIONS < obligations_of formula)
+IsRefused design depth formula UnrollTooLarge =
+    (HasLargeSequence formula → ⊥) × (obligations_of formula ≤ MOST_OBLIGATIONS) × (MOST_WORK < work_of design depth formula)
+IsRefused design depth formula NoMemory = Unit {0}

@@ -1,0 +1,92 @@
+// Which assertions are within the limits of the formulas for a netlist.
+ghost use Rattle.std.specs.Prelude.{◌≡◌, ◌-◌, ◌^◌, ◌<◌, ◌≤◌, nat_lt, List, OnOk, IfErr};
+ghost use Rattle.gates.specs.declared.limits.TheConstants.{MOST_WORK};
+ghost use Rattle.owed.specs.Owed.{plain_assumed, plain_owed};
+ghost use Rattle.owed.specs.Sizes.{AreSizesOf, IsSizeOf};
+ghost use Rattle.owed.specs.Sized.{IsSized, IsRefused, work_of};
+ghost use Rattle.psl_tree.specs.declared.counts.TheConstants.{MOST_OBLIGATIONS};
+ghost use Rattle.psl_tree.specs.Trees.{Formula};
+ghost use Rattle.psl_tree.specs.declared.directive.Directive.{Directive};
+
+use crate::size::{Size, owed_size};
+use gates::fits;
+use netlist::Netlist;
+use psl_base::NoMemory;
+use psl_tree::{Directive, MOST_OBLIGATIONS};
+use std::alloc::Global;
+use thiserror::Error;
+
+/// Which limit an assertion passes.
+#[derive(Clone, Copy, Debug, PartialEq, Eq, Drop, Error)]
+pub enum LimitFault {
+    /// A sequence of what is owed counts more than 1,024 states.
+    #[error("a sequence counts more than 1024 states")]
+    SereTooLarge,
+    /// What is owed counts more than 2,048 obligations.
+    #[error("the formula counts more than 2048 obligations")]
+    AutomatonTooLarge,
+    /// The netlist and what is owed are too large for so many positions.
+    #[error("too large to be unrolled")]
+    UnrollTooLarge,
+    /// The allocator refused memory.
+    #[error("out of memory")]
+    NoMemory,
+}
+
+impl From<NoMemory> for LimitFault {
+    ghost use Rattle.std.specs.Prelude.{◌≡◌};
+    ghost use Rattle.owed.specs.declared.limits.LimitFault.{LimitFault};
+
+    ghost from_gives = { λ refused fault. fault ≡ LimitFault.NoMemory };
+
+    fn from(_refused: NoMemory) -> LimitFault {
+        LimitFault::NoMemory
+    }
+}
+
+/// Whether what is owed of an assertion is within the limits of formulas up to a depth or a window, which have one position
+/// more, where `assumed_size` has told how large what its text assumes is. Nothing of it is built but one formula at a
+/// time.
+///
+/// # Errors
+///
+/// The first of the limits that it passes, in the order of the faults; and `NoMemory` if memory is refused.
+pub fn check_sizes(
+    alloc: Global,
+    assertion: &Directive,
+    assumed: Option<Size>,
+    netlist: &Netlist,
+    depth: u32,
+) -> Result<(), LimitFault>
+    requires { depth < 2 ^ 32 - 1 }
+    ensures sized { OnOk result ((unit : List Directive) → AreSizesOf assumed (plain_assumed unit)
+        → IsSized netlist.now depth (plain_owed unit assertion.now)) }
+    ensures fault { IfErr result (λ fault. (unit : List Directive) → AreSizesOf assumed (plain_assumed unit)
+        → IsRefused netlist.now depth (plain_owed unit assertion.now) fault) }
+{
+    let size = owed_size(alloc, assertion, assumed)?;
+    if size.has_large_sequence {
+        return Err(LimitFault::SereTooLarge);
+    }
+    if size.obligations > MOST_OBLIGATIONS {
+        return Err(LimitFault::AutomatonTooLarge);
+    }
+    if is_bulky(netlist, size, depth) {
+        return Err(LimitFault::UnrollTooLarge);
+    }
+    Ok(())
+}
+
+// Whether what is owed, of such a size, and the netlist are too large for one position more than the depth.
+fn is_bulky(netlist: &Netlist, size: Size, depth: u32) -> bool
+    requires depth { depth < 2 ^ 32 - 1 }
+    requires obligations { size.obligations ≤ MOST_OBLIGATIONS }
+    ensures { (formula : Formula) → IsSizeOf size formula → result ≡ nat_lt MOST_WORK (work_of netlist.now depth formula) }
+{
+    let square = size.obligations * size.obligations;
+    let bulk = netlist
+        .bulk()
+        .saturating_add(square)
+        .saturating_add(size.constructors);
+    !fits(depth + 1, bulk)
+}

@@ -1,7 +1,0 @@
-use Rattle.std.proofs.Common.{◌≡◌, false, take}
-use Rattle.std.specs.List.{list_any}
-use Rattle.reach_examples.specs.Tables.{leads_into}
-use Rattle.reach_examples.proofs.table.TableMachine.entry.Given as goal
-
-abbrev pub invariant-loop-place : goal.invariant-loop-place
-invariant-loop-place l = list_any (leads_into l.self.start l.frame l.initial' l.cube) (take l.place l.self.steps) ≡ false

@@ -1,5 +1,0 @@
-use Rattle.std.proofs.Common.{length}
-use Rattle.solver_examples.proofs.solving.has_drop.Given as goal
-
-abbrev pub decreases-loop-entry : goal.decreases-loop-entry
-decreases-loop-entry l = length l.entries

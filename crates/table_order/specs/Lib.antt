@@ -1,4 +1,0 @@
-pub mod Graph
-pub mod Wires
-pub mod State
-pub mod Sound
