@@ -6,6 +6,8 @@ mod checking;
 #[cfg(test)]
 mod conflicts;
 #[cfg(test)]
+mod pools;
+#[cfg(test)]
 mod propagators;
 #[cfg(test)]
 mod solving;

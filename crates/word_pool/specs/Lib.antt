@@ -1,0 +1,5 @@
+pub mod Free
+pub mod Inside
+pub mod Layout
+pub mod Marks
+pub mod Region
