@@ -109,3 +109,8 @@ come-to task visits ends begun search come is = subst (λ (n : ℕ). HaveCome ta
   each_end = come.each_end;
   begun = is;
 })
+
+-- a number of visits that is sought: clauses are sought, and it is no more than the most visits
+pub is-sought : (reach : Truth) (most visits : ℕ) → visits < (if reach then suc most else 0) → (reach ≡ true) × (visits ≤ most)
+is-sought true most visits less = (refl, omega (arith, less))
+is-sought false most visits less = absurd (omega (arith, less))

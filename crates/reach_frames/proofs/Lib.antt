@@ -4,11 +4,13 @@ pub mod Counts
 pub mod Cubes
 pub mod Leading
 pub mod LevelFrames
+pub mod Dropping
 pub mod Ending
 pub mod Insertions
 pub mod Narrowing
 pub mod Negations
 pub mod Parts
+pub mod Pooling
 pub mod Sifting
 pub mod Staying
 pub mod Turning

@@ -1,9 +1,11 @@
 pub mod Bits
 pub mod Cubes
 pub mod Entries
+pub mod Inside
 pub mod Levels
 pub mod Marks
 pub mod Paths
+pub mod Pooled
 pub mod Searches
 pub mod Steps
 pub mod Systems

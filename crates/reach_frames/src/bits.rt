@@ -119,22 +119,3 @@ fn literal_at(state: &Bits, place: usize) -> i32
     }
     -variable
 }
-
-/// Whether a literal is one of some.
-fn is_among(literals: &[i32], literal: i32) -> bool
-    ensures { result ≡ marks.is_among literals.now literal }
-{
-    literals.iter().any(|other| *other == literal)
-}
-
-/// Whether the literals of a list all stand in another.
-pub(crate) fn is_part(part: &[i32], whole: &[i32]) -> bool
-    ensures { result ≡ marks.is_part part.now whole.now }
-{
-    for literal in part {
-        if !is_among(whole, *literal) {
-            return false;
-        }
-    }
-    true
-}

@@ -1,23 +1,33 @@
 // The frames of a search.
-ghost use Rattle.std.specs.Prelude.{◌≡◌, ◌<◌, ◌+◌, [], ◌∷◌, ◌++◌, length, slice_get, slice_index_or, slice_set, Some, IsTrue, IfOk, OnOk, OnErr};
-ghost use Rattle.std.specs.List.{list_any, remove};
+ghost use Rattle.std.specs.Prelude.{◌≡◌, ◌<◌, ◌≤◌, ◌+◌, ◌-◌, ◌^◌, [], ◌∷◌, ◌++◌};
+ghost use Rattle.std.specs.Prelude.{length, slice_get, slice_index_or, slice_set, Some, IsTrue, IfOk, OnOk, OnErr};
+ghost use Rattle.std.specs.List.{remove};
 ghost use Rattle.clauses.specs.declared.flat.TheConstants.{MOST_VARIABLES};
 ghost use Rattle.clauses.specs.Literals.{clauses_within};
+ghost use Rattle.word_pool.specs.Region.{list_of, live_ids, used_words, IsLive};
 ghost use Rattle.reach_frames.specs.Levels.{clauses_of};
+ghost use Rattle.reach_frames.specs.Pooled.{clause_in, literals_of as literals, TakesOut};
 ghost use Rattle.reach_frames.specs.Searches.{frame_in, frame_before};
 ghost use Rattle.reach_frames.specs.declared.level.KeptClause.{KeptClause};
 
-use crate::Entry;
-use crate::level::{KeptClause, Level};
-use clauses::{Clauses, CnfFault};
+use crate::level::{KeptClause, Level, Pooled};
+use crate::words::{add_clause, literals_of, words_of};
+use crate::{Entry, Literals};
+use clauses::Clauses;
 use psl_base::NoMemory;
 use std::alloc::Global;
 use std::marker::Model;
+use word_pool::{MOST_WORDS, Pool};
 
 /// The frames of a search: frame i is the clauses of level i, and then those of the levels above it.
+///
+/// The literals of all clauses lie in one pool. A clause that moves to another level keeps its place there, and the
+/// words of one that is dropped are used again.
 #[derive(Debug, Drop)]
 pub struct Frames {
-    pub(crate) levels: Vec<Level>,
+    // A list for each clause.
+    pool: Pool,
+    levels: Vec<Level>,
 }
 
 impl Model for Frames {
@@ -26,7 +36,11 @@ impl Model for Frames {
 
     ghost Value = { List (List KeptClause) };
 
-    ghost view = { λ frames. frames.levels.items };
+    ghost use Rattle.reach_frames.specs.Inside.{levels_in, ArePooled};
+
+    ghost view = { levels_in };
+
+    ghost invariant = { ArePooled };
 }
 
 impl Frames {
@@ -35,6 +49,7 @@ impl Frames {
         ensures { result ≡ [] }
     {
         Frames {
+            pool: Pool::new(alloc),
             levels: Vec::new(alloc),
         }
     }
@@ -51,6 +66,7 @@ impl Frames {
         ensures ok { OnOk result (self.new ≡ self.old ++ [] ∷ []) }
         ensures err { OnErr result (self.new ≡ self.old) }
     {
+        self.pool.compact();
         self.levels.push(Level::new(alloc))?;
         Ok(())
     }
@@ -66,8 +82,9 @@ impl Frames {
         ensures { IfOk result (λ clauses. clauses ≡ frame_in self.now place) }
     {
         let mut clauses = Clauses::new(alloc);
-        for at in place..self.levels.len() {
-            add_level(&mut clauses, self.levels[at].as_slice())?;
+        let mut space = Vec::new(alloc);
+        for at in place..self.len() {
+            self.add_level(&mut clauses, &mut space, at)?;
         }
         Ok(clauses)
     }
@@ -83,6 +100,23 @@ impl Frames {
         self.frame(alloc, place - 1)
     }
 
+    /// Adds the clauses of a level at the end.
+    fn add_level(
+        &self,
+        clauses: &mut Clauses,
+        space: &mut Vec<i32>,
+        place: usize,
+    ) -> Result<(), NoMemory>
+        requires place { place < length self.now }
+        requires within { IsTrue (clauses_within MOST_VARIABLES (clauses_of (slice_index_or self.now place []))) }
+        ensures { OnOk result (clauses.new ≡ clauses.old ++ clauses_of (slice_index_or self.now place [])) }
+    {
+        for index in 0..self.count_at(place) {
+            add_clause(clauses, space, self.words_at(place, index))?;
+        }
+        Ok(())
+    }
+
     /// How many clauses are kept at a level.
     pub(crate) fn count_at(&self, place: usize) -> usize
         requires { place < length self.now }
@@ -91,13 +125,38 @@ impl Frames {
         self.levels[place].as_slice().len()
     }
 
-    /// A clause of a level.
-    pub(crate) fn kept_at(&self, place: usize, index: usize) -> &KeptClause
+    /// The words of a clause of a level.
+    pub(crate) fn words_at(&self, place: usize, index: usize) -> &[u32]
         requires place { place < length self.now }
         requires index { index < length (slice_index_or self.now place []) }
-        ensures { slice_get (slice_index_or self.now place []) index ≡ Some result.now }
+        ensures { literals result.now ≡ clause_in self.now place index }
     {
-        &self.levels[place].as_slice()[index]
+        let pooled = &self.levels[place].as_slice()[index];
+        self.pool.get(pooled.id)
+    }
+
+    /// A clause of a level.
+    pub(crate) fn clause_at(
+        &self,
+        alloc: Global,
+        place: usize,
+        index: usize,
+    ) -> Result<Literals, NoMemory>
+        requires place { place < length self.now }
+        requires index { index < length (slice_index_or self.now place []) }
+        ensures { IfOk result (λ clause. clause ≡ clause_in self.now place index) }
+    {
+        literals_of(alloc, self.words_at(place, index))
+    }
+
+    /// The witness of a clause of a level.
+    pub(crate) fn witness_at(&self, place: usize, index: usize) -> &Option<Entry>
+        requires place { place < length self.now }
+        requires index { index < length (slice_index_or self.now place []) }
+        ensures { (kept : KeptClause) × (slice_get (slice_index_or self.now place []) index ≡ Some kept)
+            × (kept.witness ≡ result.now) }
+    {
+        &self.levels[place].as_slice()[index].witness
     }
 
     /// Notes the witness of a clause.
@@ -111,6 +170,41 @@ impl Frames {
         self.levels[place].note(index, witness);
     }
 
+    /// Keeps a clause at the end of a level.
+    ///
+    /// # Errors
+    ///
+    /// `NoMemory` if memory is refused, or if the clauses have more words than a pool may have.
+    pub(crate) fn keep(
+        &mut self,
+        alloc: Global,
+        place: usize,
+        kept: KeptClause,
+    ) -> Result<(), NoMemory>
+        requires { place < length self.old }
+        ensures { OnOk result (self.new ≡ slice_set self.old place (slice_index_or self.old place [] ++ kept ∷ [])) }
+    {
+        let KeptClause { clause, witness } = kept;
+        let words = words_of(alloc, clause.as_slice())?;
+        if !has_room(&self.pool, words.len()) {
+            return Err(NoMemory);
+        }
+        let id = self.pool.put(&words)?;
+        let pooled = Pooled { id, witness };
+        push(&mut self.pool, &mut self.levels[place], pooled)?;
+        Ok(())
+    }
+
+    /// Drops a clause of a level.
+    pub(crate) fn drop_at(&mut self, place: usize, index: usize)
+        requires place { place < length self.old }
+        requires index { index < length (slice_index_or self.old place []) }
+        ensures { self.new ≡ slice_set self.old place (remove (slice_index_or self.old place []) index) }
+    {
+        let pooled = self.levels[place].remove(index);
+        self.pool.give_back(pooled.id);
+    }
+
     /// Moves a clause to the next level, unchanged.
     pub(crate) fn advance(&mut self, place: usize, index: usize) -> Result<(), NoMemory>
         requires place { place + 1 < length self.old }
@@ -119,22 +213,32 @@ impl Frames {
             × (self.new ≡ slice_set (slice_set self.old place (remove (slice_index_or self.old place []) index))
             (place + 1) (slice_index_or self.old (place + 1) [] ++ kept ∷ []))) }
     {
-        let kept = self.levels[place].remove(index);
-        self.levels[place + 1].push(kept)
+        let pooled = self.levels[place].remove(index);
+        push(&mut self.pool, &mut self.levels[place + 1], pooled)?;
+        Ok(())
     }
 }
 
-/// Adds the clauses of a level at the end.
-fn add_level(clauses: &mut Clauses, level: &[KeptClause]) -> Result<(), NoMemory>
-    requires { IsTrue (clauses_within MOST_VARIABLES (clauses_of level.now)) }
-    ensures { OnOk result (clauses.new ≡ clauses.old ++ clauses_of level.now) }
+/// Whether a pool can take a list of so many words more.
+fn has_room(pool: &Pool, words: usize) -> bool
+    ensures words { IsTrue result → used_words pool.now + words ≤ MOST_WORDS }
+    ensures ids { IsTrue result → live_ids pool.now < 2 ^ 32 - 1 }
 {
-    for kept in level {
-        match clauses.push(kept.clause.as_slice()) {
-            Ok(()) => {}
-            Err(CnfFault::TooLarge) => return Err(NoMemory),
-            Err(CnfFault::NoMemory) => return Err(NoMemory),
+    words <= (MOST_WORDS - pool.used_words()) as usize && pool.live_ids() < u32::MAX
+}
+
+/// Adds a clause at the end of a level. Where memory is refused, its words are given back.
+fn push(pool: &mut Pool, level: &mut Level, pooled: Pooled) -> Result<(), NoMemory>
+    requires { IsLive pool.old pooled.id }
+    ensures ok { OnOk result ((pool.new ≡ pool.old) × (level.new ≡ level.old ++ pooled ∷ [])) }
+    ensures err { OnErr result (TakesOut (list_of pool.old) (list_of pool.new) pooled.id × (level.new ≡ level.old)) }
+{
+    let id = pooled.id;
+    match level.push(pooled) {
+        Ok(()) => Ok(()),
+        Err(refused) => {
+            pool.give_back(id);
+            Err(refused)
         }
     }
-    Ok(())
 }

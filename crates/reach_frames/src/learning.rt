@@ -44,7 +44,7 @@ pub(crate) fn learn<M: Machine>(
     let cube = shrink(alloc, machine, before, place == 0, shut)?;
     let level = raise(alloc, machine, frames, cube.as_slice(), place)?;
     let clause = negated(alloc, cube.as_slice())?;
-    frames.add(level, clause)?;
+    frames.add(alloc, level, clause)?;
     Ok(())
 }
 

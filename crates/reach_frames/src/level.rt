@@ -1,14 +1,14 @@
 // The clauses that are kept at one level.
-ghost use Rattle.std.specs.Prelude.{◌≡◌, [], ◌∷◌, ◌++◌, ◌<◌, not, length, slice_get, slice_index_or, slice_set, Some, OnOk, OnErr};
-ghost use Rattle.std.specs.List.{filter, remove};
-ghost use Rattle.reach_frames.specs.Marks.{is_part as part_of};
-ghost use Rattle.reach_frames.specs.declared.level.KeptClause.{KeptClause};
+ghost use Rattle.std.specs.Prelude.{◌≡◌, [], ◌∷◌, ◌++◌, ◌<◌};
+ghost use Rattle.std.specs.Prelude.{length, slice_get, slice_index_or, slice_set, Some, OnOk, OnErr};
+ghost use Rattle.std.specs.List.{remove};
+ghost use Rattle.reach_frames.specs.declared.level.Pooled.{Pooled};
 
-use crate::bits::is_part;
 use crate::{Entry, Literals};
 use psl_base::NoMemory;
 use std::alloc::Global;
 use std::marker::Model;
+use word_pool::Id;
 
 /// A clause of a frame.
 ///
@@ -20,17 +20,24 @@ pub struct KeptClause {
     pub witness: Option<Entry>,
 }
 
-/// The clauses that are kept at one level.
+/// A clause of a frame whose literals lie in a pool, under its id.
+#[derive(Debug, Drop)]
+pub(crate) struct Pooled {
+    pub(crate) id: Id,
+    pub(crate) witness: Option<Entry>,
+}
+
+/// The clauses that are kept at one level, in order.
 #[derive(Debug, Drop)]
 pub(crate) struct Level {
-    kept: Vec<KeptClause>,
+    kept: Vec<Pooled>,
 }
 
 impl Model for Level {
     ghost use Rattle.std.specs.Prelude.{List};
-    ghost use Rattle.reach_frames.specs.declared.level.KeptClause.{KeptClause};
+    ghost use Rattle.reach_frames.specs.declared.level.Pooled.{Pooled};
 
-    ghost Value = { List KeptClause };
+    ghost Value = { List Pooled };
 
     ghost view = { λ level. level.kept.items };
 }
@@ -46,14 +53,14 @@ impl Level {
     }
 
     /// The clauses in order.
-    pub(crate) fn as_slice(&self) -> &[KeptClause]
+    pub(crate) fn as_slice(&self) -> &[Pooled]
         ensures { result.now ≡ self.now }
     {
         self.kept.as_slice()
     }
 
     /// Adds a clause at the end.
-    pub(crate) fn push(&mut self, kept: KeptClause) -> Result<(), NoMemory>
+    pub(crate) fn push(&mut self, kept: Pooled) -> Result<(), NoMemory>
         ensures ok { OnOk result (self.new ≡ self.old ++ kept ∷ []) }
         ensures err { OnErr result (self.new ≡ self.old) }
     {
@@ -62,7 +69,7 @@ impl Level {
     }
 
     /// Takes a clause out.
-    pub(crate) fn remove(&mut self, place: usize) -> KeptClause
+    pub(crate) fn remove(&mut self, place: usize) -> Pooled
         requires { place < length self.old }
         ensures value { result ≡ slice_index_or self.old place result }
         ensures rest { self.new ≡ remove self.old place }
@@ -73,17 +80,9 @@ impl Level {
     /// Notes the witness of a clause.
     pub(crate) fn note(&mut self, place: usize, witness: Entry)
         requires { place < length self.old }
-        ensures { (kept : KeptClause) × (slice_get self.old place ≡ Some kept)
+        ensures { (kept : Pooled) × (slice_get self.old place ≡ Some kept)
             × (self.new ≡ slice_set self.old place (record kept { witness = Some witness })) }
     {
         self.kept[place].witness = Some(witness);
-    }
-
-    /// Drops the clauses of which this one is a part.
-    pub(crate) fn drop_weaker(&mut self, clause: &[i32])
-        ensures { self.new ≡ filter (λ kept. not (part_of clause.now kept.clause)) self.old }
-    {
-        self.kept
-            .retain(|kept| !is_part(clause, kept.clause.as_slice()));
     }
 }

@@ -17,6 +17,7 @@ mod path;
 mod settling;
 mod step;
 mod stop;
+mod words;
 
 pub use bits::{is_in_cube, is_met};
 pub use entry::{Entered, Entry, Literals, Path};

@@ -94,8 +94,8 @@ fn move_on<M: Machine>(
         Some(state) => return Ok(Some(state)),
         None => {}
     }
-    let kept = frames.kept_at(place, index);
-    let cube = negated(alloc, kept.clause.as_slice())?;
+    let clause = frames.clause_at(alloc, place, index)?;
+    let cube = negated(alloc, clause.as_slice())?;
     match machine.entry(alloc, frame, false, cube.as_slice())? {
         Entered::Kept(_) => {
             frames.advance(place, index)?;
@@ -123,7 +123,7 @@ fn stuck_by_witness(
         × (slice_get (slice_index_or frames.now place []) index ≡ Some kept) × (kept.witness ≡ Some entry)
         × IsTrue (is_met frame.now entry.before) × (state ≡ entry.after))) }
 {
-    match &frames.kept_at(place, index).witness {
+    match frames.witness_at(place, index) {
         Some(entry) => {
             if is_met(frame, &entry.before) {
                 return Ok(Some(entry.after.copy(alloc)?));

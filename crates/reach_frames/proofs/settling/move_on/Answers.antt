@@ -1,6 +1,7 @@
-use Rattle.std.proofs.Common.{◌≡◌, ℕ, suc, ◌<◌, ◌++◌, ◌∷◌, [], ℤ, List, Some, false, length, get_or, set, sym, ap, ◌∙◌, subst, refl, arith, add-one}
+use Rattle.std.proofs.Common.{◌≡◌, ℕ, suc, ◌<◌, ◌++◌, ◌∷◌, [], ℤ, List, None, false, length, get_or, set, sym, ap, ◌∙◌, subst, refl, arith, add-one}
 use Rattle.std.specs.List.{remove}
 use Rattle.std.proofs.lemmas.List.Elements.{All-contains}
+use Rattle.std.proofs.lemmas.Option.{slice_get-get_or}
 use Rattle.clauses.specs.declared.flat.TheConstants.{MOST_VARIABLES}
 use Rattle.reach_frames.specs.Cubes.{IsCube, negated}
 use Rattle.reach_frames.specs.Entries.{HasNoEntry, IsEntered}
@@ -10,11 +11,12 @@ use Rattle.reach_frames.specs.declared.level.KeptClause.{KeptClause}
 use Rattle.reach_frames.proofs.Cubes.{within_more}
 use Rattle.reach_frames.proofs.Negations.{negated-IsCube}
 use Rattle.reach_frames.proofs.Changes.{moved}
+use Rattle.reach_frames.proofs.Pooling.{clause_in_is}
 use Rattle.reach_frames.proofs.Staying.{kept_in, missed_in, moved_settles, noted_count, noted_settles, stuck_by, stuck_found}
 use Rattle.reach_frames.proofs.settling.move_on.Goals as goal
 
-same_kept : (kept other : KeptClause) → Some kept ≡ Some other → kept ≡ other
-same_kept kept other same = cc
+abbrev no_kept : KeptClause
+no_kept = record { clause = []; witness = None }
 
 pub returns-in-Some-clause-stays : goal.returns-in-Some-clause-stays
 returns-in-Some-clause-stays g c =
@@ -28,19 +30,25 @@ pub negated-requires : goal.negated-requires
 negated-requires g c =
     let system = g.M.Machine.system c.args.machine.now in
     let levels = c.args.frames.now in
-    let kept = c.kept_at-kept.result.now in
-    let member = kept_in levels c.args.place c.args.index kept c.kept_at-kept.ensures in
+    let level = get_or levels c.args.place [] in
+    let kept = get_or level c.args.index no_kept in
+    let at = slice_get-get_or level c.args.index no_kept c.requires.index in
+    let clause : c.as_slice.result.now ≡ kept.clause = c.as_slice.ensures ∙ c.in_ok-clause.ensures ∙ clause_in_is levels c.args.place c.args.index kept at in
+    let member = kept_in levels c.args.place c.args.index kept at in
     let is : IsCube system.width kept.clause = All-contains (IsCube system.width) (frame_in levels c.args.place) kept.clause (c.requires.ready.sound.framed c.args.place).each member in
-    rw c.as_slice.ensures (within_more system.width MOST_VARIABLES kept.clause c.requires.ready.few is.within)
+    rw clause (within_more system.width MOST_VARIABLES kept.clause c.requires.ready.few is.within)
 
 pub entry-requires-clause-cube : goal.entry-requires-clause-cube
 entry-requires-clause-cube g c =
     let system = g.M.Machine.system c.args.machine.now in
     let levels = c.args.frames.now in
-    let kept = c.kept_at-kept.result.now in
-    let member = kept_in levels c.args.place c.args.index kept c.kept_at-kept.ensures in
+    let level = get_or levels c.args.place [] in
+    let kept = get_or level c.args.index no_kept in
+    let at = slice_get-get_or level c.args.index no_kept c.requires.index in
+    let clause : c.as_slice.result.now ≡ kept.clause = c.as_slice.ensures ∙ c.in_ok-clause.ensures ∙ clause_in_is levels c.args.place c.args.index kept at in
+    let member = kept_in levels c.args.place c.args.index kept at in
     let is : IsCube system.width kept.clause = All-contains (IsCube system.width) (frame_in levels c.args.place) kept.clause (c.requires.ready.sound.framed c.args.place).each member in
-    let cube : c.as_slice-2.result.now ≡ negated kept.clause = c.as_slice-2.ensures ∙ c.in_ok-cube.ensures ∙ ap negated c.as_slice.ensures in
+    let cube : c.as_slice-2.result.now ≡ negated kept.clause = c.as_slice-2.ensures ∙ c.in_ok-cube.ensures ∙ ap negated clause in
     rw cube (negated-IsCube system.width kept.clause is)
 
 pub returns-in-Kept-clause-settled : goal.returns-in-Kept-clause-settled
@@ -51,9 +59,9 @@ returns-in-Kept-clause-settled g c =
     let index = c.args.index in
     let advance = c.in_ok-advance-in-Kept.ensures in
     let kept = advance.0 in
-    let same = same_kept c.kept_at-kept.result.now kept (sym c.kept_at-kept.ensures ∙ advance.1) in
+    let clause : c.as_slice.result.now ≡ kept.clause = c.as_slice.ensures ∙ c.in_ok-clause.ensures ∙ clause_in_is levels place index kept advance.1 in
     let cube : c.as_slice-2.result.now ≡ negated kept.clause =
-    c.as_slice-2.ensures ∙ c.in_ok-cube.ensures ∙ ap negated (c.as_slice.ensures ∙ ap (λ (k : KeptClause). k.clause) same) in
+    c.as_slice-2.ensures ∙ c.in_ok-cube.ensures ∙ ap negated clause in
     let answer : IsEntered system c.args.frame.now false c.as_slice-2.result.now c.in_ok-entry.field-0 = c.in_ok-entry.ensures.answer in
     let none : HasNoEntry system c.args.frame.now false c.as_slice-2.result.now = rw c.in-Kept.is at answer in
     let within : suc place < length levels = omega (arith, c.requires.place) in
@@ -72,9 +80,9 @@ returns-clause-settled g c =
     let note = c.note.ensures in
     let kept = note.0 in
     let entry = c.in-Found.entry in
-    let same = same_kept c.kept_at-kept.result.now kept (sym c.kept_at-kept.ensures ∙ note.1) in
+    let clause : c.as_slice.result.now ≡ kept.clause = c.as_slice.ensures ∙ c.in_ok-clause.ensures ∙ clause_in_is levels place index kept note.1 in
     let cube : c.as_slice-2.result.now ≡ negated kept.clause =
-    c.as_slice-2.ensures ∙ c.in_ok-cube.ensures ∙ ap negated (c.as_slice.ensures ∙ ap (λ (k : KeptClause). k.clause) same) in
+    c.as_slice-2.ensures ∙ c.in_ok-cube.ensures ∙ ap negated clause in
     let answer : IsEntered system c.args.frame.now false c.as_slice-2.result.now c.in_ok-entry.field-0 = c.in_ok-entry.ensures.answer in
     let found : IsEntry system c.args.frame.now false c.as_slice-2.result.now entry = rw c.in-Found.is at answer in
     let P : List ℤ → Type 0 = λ literals. IsEntry system c.args.frame.now false literals entry in
@@ -94,9 +102,9 @@ returns-clause-stays g c =
     let note = c.note.ensures in
     let kept = note.0 in
     let entry = c.in-Found.entry in
-    let same = same_kept c.kept_at-kept.result.now kept (sym c.kept_at-kept.ensures ∙ note.1) in
+    let clause : c.as_slice.result.now ≡ kept.clause = c.as_slice.ensures ∙ c.in_ok-clause.ensures ∙ clause_in_is levels place index kept note.1 in
     let cube : c.as_slice-2.result.now ≡ negated kept.clause =
-    c.as_slice-2.ensures ∙ c.in_ok-cube.ensures ∙ ap negated (c.as_slice.ensures ∙ ap (λ (k : KeptClause). k.clause) same) in
+    c.as_slice-2.ensures ∙ c.in_ok-cube.ensures ∙ ap negated clause in
     let answer : IsEntered system c.args.frame.now false c.as_slice-2.result.now c.in_ok-entry.field-0 = c.in_ok-entry.ensures.answer in
     let found : IsEntry system c.args.frame.now false c.as_slice-2.result.now entry = rw c.in-Found.is at answer in
     let P : List ℤ → Type 0 = λ literals. IsEntry system c.args.frame.now false literals entry in

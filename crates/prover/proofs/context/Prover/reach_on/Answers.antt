@@ -1,6 +1,6 @@
 use Rattle.std.proofs.Common.{◌≡◌, ◌∙◌, subst, sym, ℕ, ◌+◌, Option, None, Some, IfSome, IfNone, arith}
 use Rattle.joint.specs.Joined.{Joined}
-use Rattle.prover.proofs.Reached.{come-to, have-ended, one-end, reached-for}
+use Rattle.prover.proofs.Reached.{come-to, have-ended, is-sought, one-end, reached-for}
 use Rattle.prover.proofs.context.Prover.reach_on.Goals as goal
 use Rattle.prover.specs.Reaching.{HaveCome, IsBegun}
 use Rattle.reach.specs.Answers.{IsReached}
@@ -13,6 +13,14 @@ loop-visits-init c = subst (λ (n : ℕ). HaveCome c.args.self.task n c.args.kno
 pub search_of-requires-clause-begun : goal.search_of-requires-clause-begun
 search_of-requires-clause-begun c = subst (λ (j : Joined). IfSome c.loop-visits.begun (IsBegun c.args.self.task j))
     (sym (c.requires.known.joints.each c.loop-visits.visits c.at.result.now c.at.ensures)) c.loop-visits.invariant.begun
+
+pub end_of-requires-clause-asked : goal.end_of-requires-clause-asked
+end_of-requires-clause-asked c = (is-sought c.args.self.task.options.reach c.args.self.task.options.visits c.loop-visits.visits
+    (omega (arith, c.loop-visits-test.true, c.len-visits-end.ensures, c.requires.known.joints.many))).0
+
+pub end_of-requires-clause-few : goal.end_of-requires-clause-few
+end_of-requires-clause-few c = (is-sought c.args.self.task.options.reach c.args.self.task.options.visits c.loop-visits.visits
+    (omega (arith, c.loop-visits-test.true, c.len-visits-end.ensures, c.requires.known.joints.many))).1
 
 pub end_of-requires-clause-fewer : goal.end_of-requires-clause-fewer
 end_of-requires-clause-fewer c = have-ended c.args.self.task c.loop-visits.visits c.loop-visits.ends c.loop-visits.invariant.each_end
