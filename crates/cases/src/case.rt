@@ -138,7 +138,7 @@ impl<'a> Case<'a> {
         let mut words = line.split_whitespace();
         match (words.next(), words.next(), words.next()) {
             (None, _, _) => {}
-            (Some("pslc"), _, _) => self.command = Some(line),
+            (Some("pslc" | "sat"), _, _) => self.command = Some(line),
             (Some("status"), Some(number), None) => self.status = number.parse::<u8>().ok(),
             (Some("piece"), Some(size), None) => self.piece = size.parse::<u32>().ok(),
             (Some("room"), Some("out"), Some(size)) => self.room = size.parse::<u32>().ok(),

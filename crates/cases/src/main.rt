@@ -1,5 +1,5 @@
-//! Runs cases that are kept as files. A case is a command of `pslc`, the files that it reads, and what it prints and ends
-//! with; README.md tells the form. What differs goes to the standard error, how many cases ran to the standard output.
+//! Runs cases that are kept as files. A case is a command of `pslc` or `sat`, the files that it reads, and what it prints and
+//! ends with; README.md tells the form. What differs goes to the standard error, how many cases ran to the standard output.
 #![tactic(auto)]
 
 mod case;
@@ -49,7 +49,8 @@ fn run_file(rt: &(impl Files + AllocGlobal + Print + Eprint), name: &str) -> Res
     Ok(counts)
 }
 
-/// Runs the cases of all files that the words after the program's name tell, and says whether all are as they should be.
+/// Runs the cases of all files that the words after the program's name tell, and says whether there were some and all are as
+/// they should be.
 fn run_all(rt: &(impl Env + Files + AllocGlobal + Print + Eprint)) -> Result<bool, Fault> {
     let mut total = Counts { ran: 0, wrong: 0 };
     for name in env::args(rt)?.skip(1) {
@@ -68,7 +69,7 @@ fn run_all(rt: &(impl Env + Files + AllocGlobal + Print + Eprint)) -> Result<boo
     }
     let Counts { ran, wrong } = total;
     println!(rt; "total: {ran}, wrong: {wrong}")?;
-    Ok(wrong == 0)
+    Ok(wrong == 0 && ran > 0)
 }
 
 fn main(rt: HostRuntime) -> ExitCode {

@@ -4,8 +4,9 @@ use crate::case::{Case, Section};
 use crate::content::content_of;
 use crate::fault::Fault;
 use crate::pieces::{PieceSink, Pieces};
-use commands::run;
+use commands::run as run_pslc;
 use psl_base::{Bytes, File, Files, MemShelf, MemSink};
+use sat_command::run as run_sat;
 use std::alloc::Global;
 
 /// How many bytes an output takes where the case does not say it.
@@ -61,7 +62,10 @@ fn output<'a>(
 
 /// Runs a case over files and outputs in memory.
 fn outputs_of<'a>(alloc: Global, common: &Case<'a>, case: &Case<'a>) -> Result<Outputs, Fault> {
-    let words = words(alloc, common, case)?;
+    let Some(command) = case.command.or(common.command) else {
+        return Err(Fault::Command);
+    };
+    let words = words(alloc, command)?;
     let mut files = Files::new(alloc);
     add_files(alloc, common, common, &mut files)?;
     add_files(alloc, common, case, &mut files)?;
@@ -83,8 +87,11 @@ fn outputs_of<'a>(alloc: Global, common: &Case<'a>, case: &Case<'a>) -> Result<O
         sink: MemSink::new(alloc, case.error_room.unwrap_or(ROOM), &case.untold)?,
         most: most_of(common, case),
     };
-    let report = run(alloc, words.as_slice(), &mut shelf, &mut out, &mut err);
-    let status = report.status;
+    let status = if is_of_sat(command) {
+        run_sat(alloc, words.as_slice(), &mut shelf, &mut out, &mut err).status
+    } else {
+        run_pslc(alloc, words.as_slice(), &mut shelf, &mut out, &mut err).status
+    };
     Ok(Outputs {
         shelf: shelf.shelf,
         out: out.sink,
@@ -114,11 +121,13 @@ fn most_of(common: &Case<'_>, case: &Case<'_>) -> usize
     }
 }
 
+/// Whether a command is one of the program `sat`.
+fn is_of_sat(command: &str) -> bool {
+    command.split_whitespace().next() == Some("sat")
+}
+
 /// The words behind the program's name.
-fn words<'a>(alloc: Global, common: &Case<'a>, case: &Case<'a>) -> Result<Vec<String>, Fault> {
-    let Some(command) = case.command.or(common.command) else {
-        return Err(Fault::Command);
-    };
+fn words(alloc: Global, command: &str) -> Result<Vec<String>, Fault> {
     let mut words = Vec::new(alloc);
     for word in command.split_whitespace().skip(1) {
         words.push(String::from_str(alloc, word)?)?;

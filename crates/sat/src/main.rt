@@ -17,7 +17,7 @@ fn ended(report: &Report) -> ExitCode
 
 fn main(rt: HostRuntime) -> ExitCode {
     let Ok(words) = program_words(&rt) else {
-        return ExitCode::from(1);
+        return ExitCode::from(8);
     };
     let mut files = DirShelf::new(&rt);
     let mut out = StdSink::new(rt.stdout());

@@ -1,4 +1,4 @@
 pub mod Asking
 pub mod Columns
-pub mod Telling
-pub mod Writing
+pub mod Ending
+pub mod Reading

@@ -1,4 +1,9 @@
-pub mod Keeping
+pub mod Answering
+pub mod Endings
 pub mod Models
+pub mod Reading
+pub mod Refusals
 pub mod Requests
-pub mod Running
+pub mod Rows
+pub mod Saved
+pub mod Text

@@ -1,36 +1,66 @@
 // The line of a fault.
-use crate::Fault;
-use crate::words::request_of;
-use psl_base::{Sink, put_all};
-use std::alloc::{AllocError, Global};
+ghost use Rattle.std.specs.Prelude.{◌≡◌, ◌++◌, IfOk, OnOk};
+ghost use Rattle.std.specs.Option.{option_map};
+ghost use Rattle.sat_command.specs.Requests.{asked_by};
+ghost use Rattle.sat_command.specs.Text as spec;
 
-/// Says on `err` why there is no answer, as far as memory and `err` allow.
-pub(crate) fn tell<E: Sink>(alloc: Global, words: &[String], fault: &Fault, err: &mut E) {
-    if let Ok(line) = line_of(alloc, words, fault) {
-        let _told = put_all(err, line.as_bytes());
-    }
-}
+use crate::Fault;
+use crate::rows::row_of;
+use crate::words::Request;
+use psl_base::{Bytes, NoMemory, Place, add_bytes, add_number};
+use std::alloc::Global;
 
 /// A fault's line: the file and the place that it is of, and what it is.
-fn line_of(alloc: Global, words: &[String], fault: &Fault) -> Result<String, AllocError> {
-    let Some(file) = file_of(words, fault) else {
-        return format!(in alloc; "{fault}\n");
-    };
-    if let Fault::Format(format) = fault {
-        if let Some(place) = format.place() {
-            let (line, column) = (place.line, place.column);
-            return format!(in alloc; "{file}:{line}:{column}: {fault}\n");
-        }
-    }
-    format!(in alloc; "{file}: {fault}\n")
+pub(crate) fn line_of(
+    alloc: Global,
+    request: Option<Request<'_>>,
+    fault: Fault,
+) -> Result<Bytes, NoMemory>
+    ensures { IfOk result (λ line. line ≡ spec.line_of (option_map asked_by request.entry) fault) }
+{
+    let mut line = Vec::new(alloc);
+    add_bytes(&mut line, b"sat: ")?;
+    add_about(&mut line, request, fault)?;
+    add_bytes(&mut line, row_of(fault).words)?;
+    add_bytes(&mut line, b"\n")?;
+    Ok(Bytes::from_vec(line))
 }
 
-/// The file that a fault is of.
-fn file_of<'a>(words: &'a [String], fault: &Fault) -> Option<&'a str> {
-    let request = request_of(words)?;
+/// Adds the file that a fault is of, with its place.
+fn add_about(line: &mut Vec<u8>, request: Option<Request<'_>>, fault: Fault) -> Result<(), NoMemory>
+    ensures { OnOk result (line.new.items ≡ line.old.items ++ spec.about (option_map asked_by request.entry) fault) }
+{
     match fault {
-        Fault::CannotRead | Fault::TooLong | Fault::Format(_) => Some(request.file),
-        Fault::CannotWrite => request.log,
-        Fault::Usage | Fault::CannotPrint | Fault::NoMemory => None,
+        Fault::CannotRead | Fault::TooLong => add_file(line, request, None),
+        Fault::Format(fault) => add_file(line, request, fault.place()),
+        Fault::Usage | Fault::CannotWrite | Fault::CannotPrint | Fault::NoMemory => Ok(()),
     }
+}
+
+/// Adds the file of the formula, perhaps with a place.
+fn add_file(
+    line: &mut Vec<u8>,
+    request: Option<Request<'_>>,
+    place: Option<Place>,
+) -> Result<(), NoMemory>
+    ensures { OnOk result (line.new.items ≡ line.old.items ++ spec.file_text (option_map asked_by request.entry) place) }
+{
+    let Some(request) = request else {
+        return Ok(());
+    };
+    add_bytes(line, request.file.as_bytes())?;
+    add_place(line, place)
+}
+
+/// Adds a place in a file, and a blank behind it.
+fn add_place(line: &mut Vec<u8>, place: Option<Place>) -> Result<(), NoMemory>
+    ensures { OnOk result (line.new.items ≡ line.old.items ++ spec.place_text place) }
+{
+    if let Some(place) = place {
+        add_bytes(line, b":")?;
+        add_number(line, place.line as u64)?;
+        add_bytes(line, b":")?;
+        add_number(line, place.column as u64)?;
+    }
+    add_bytes(line, b": ")
 }

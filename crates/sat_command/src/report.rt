@@ -4,31 +4,23 @@ ghost use Rattle.std.specs.Prelude.{◌≡◌};
 use cdcl::Answer;
 use psl_base::{NoMemory, ReadAllFault};
 use sat_dimacs::DimacsFault;
-use thiserror::Error;
 
 /// Why nothing was found out, or why it could not be told.
-#[derive(Clone, Copy, Debug, PartialEq, Eq, Drop, Error)]
+#[derive(Clone, Copy, Debug, PartialEq, Eq, Drop)]
 pub enum Fault {
     /// The words are not those of the command.
-    #[error("usage: sat FILE.cnf [--steps N] [--log FILE]")]
     Usage,
     /// The file of the formula fails, or is not there.
-    #[error("the file cannot be read")]
     CannotRead,
     /// The file of the formula is longer than 268,435,456 bytes.
-    #[error("the file is too long")]
     TooLong,
     /// The file stands for no formula.
-    #[error("{0}")]
     Format(DimacsFault),
     /// The file of the log fails.
-    #[error("the log cannot be written")]
     CannotWrite,
-    /// What was found out cannot be printed.
-    #[error("the answer cannot be printed")]
+    /// The standard output or the standard error fails.
     CannotPrint,
     /// The allocator refused memory.
-    #[error("out of memory")]
     NoMemory,
 }
 
@@ -43,7 +35,7 @@ impl From<NoMemory> for Fault {
 }
 
 impl From<ReadAllFault> for Fault {
-    ghost use Rattle.sat_command.specs.Running.{fault_of_reading};
+    ghost use Rattle.sat_command.specs.Reading.{fault_of_reading};
 
     ghost from_gives = { λ reading fault. fault ≡ fault_of_reading reading };
 
@@ -56,11 +48,12 @@ impl From<ReadAllFault> for Fault {
     }
 }
 
-/// How a run ended, and with which status.
+/// How a run ended.
 #[derive(Debug, Drop)]
 pub struct Report {
-    /// 10 for a model, 20 for a refutation, 0 where the formula is undecided, and 1 for a fault.
+    /// 10 for a model, 20 for a refutation, 0 where the formula is undecided, and for a fault 2 to 5, 7 or 8.
     pub status: u8,
-    /// What was found out and told, or why not.
-    pub found: Result<Answer, Fault>,
+    /// What was found out, also where it could not be told.
+    pub answer: Option<Answer>,
+    pub fault: Option<Fault>,
 }

@@ -3,8 +3,9 @@ ghost use Rattle.std.specs.Prelude.{◌≡◌, ◌≤◌, length, IfOk, IfErr};
 ghost use Rattle.psl_base.specs.Places.{file_limit};
 ghost use Rattle.psl_base.specs.Shelf.{OnlyReads};
 ghost use Rattle.sat_dimacs.specs.Formulas.{StandsFor};
+ghost use Rattle.sat_command.specs.Answering.{IsAnswerFor, IsSolved, limit_of};
+ghost use Rattle.sat_command.specs.Refusals.{IsCounted, IsFileFault, IsTextFault};
 ghost use Rattle.sat_command.specs.Requests.{asked_by};
-ghost use Rattle.sat_command.specs.Running.{IsSolved, IsReadingFault, IsAnswerFor, IsTextFault, limit_of};
 
 use crate::Fault;
 use crate::words::Request;
@@ -21,7 +22,9 @@ pub(crate) fn solved<F: Shelf>(
     files: &mut F,
 ) -> Result<Answer, Fault>
     ensures ok { IfOk result (IsSolved (asked_by request.now) (F.state files.old)) }
-    ensures err { IfErr result (IsReadingFault (asked_by request.now) (F.state files.old) (F.state files.new)) }
+    ensures err { IfErr result (IsFileFault (asked_by request.now).file (F.state files.old) (F.state files.new)) }
+    ensures quiet { IfOk result (λ _. (F.state files.new).read_faults ≡ (F.state files.old).read_faults) }
+    ensures counted { IfErr result (IsCounted (F.state files.old) (F.state files.new)) }
     ensures rest { OnlyReads (F.state files.old) (F.state files.new) }
 {
     let text = read_all(alloc, files, request.file, FILE_LIMIT)?;

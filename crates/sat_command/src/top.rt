@@ -1,22 +1,17 @@
 // The run of the command.
-ghost use Rattle.std.specs.Prelude.{◌≡◌, ◌++◌, map, string_bytes, IfOk, IfErr, OnOk};
-ghost use Rattle.std.specs.Option.{option_map};
+ghost use Rattle.std.specs.Prelude.{◌≡◌, ◌⊎◌, ◌<◌, None, map, string_bytes, IfSome};
 ghost use Rattle.psl_base.specs.Faults.{Rose};
-ghost use Rattle.psl_base.specs.Shelf.{OnlyWrites};
-ghost use Rattle.psl_base.specs.Sink.{AddsAll};
+ghost use Rattle.sat_command.specs.Answering.{IsAnswered};
+ghost use Rattle.sat_command.specs.Endings.{IsCause, IsDeviceStatus, IsOfWriting, Prints, status_of};
+ghost use Rattle.sat_command.specs.Refusals.{IsRefusal};
 ghost use Rattle.sat_command.specs.Requests as requests;
-ghost use Rattle.sat_command.specs.Running as spec;
+ghost use Rattle.sat_command.specs.Saved.{IsSaved, files_of};
 
-use crate::keeping::write_file;
-use crate::message::tell;
-use crate::model_text::add_model;
-use crate::solving::solved;
-use crate::words::{Request, request_of};
-use crate::{Fault, Report};
-use cdcl::Answer;
-use clause_text::print_log2;
-use clauses::Log;
-use psl_base::{NoMemory, Shelf, Sink, add_bytes, put_all};
+use crate::Report;
+use crate::finish::{finish_answer, finish_fault};
+use crate::planning::plan;
+use crate::words::request_of;
+use psl_base::{Shelf, Sink};
 use std::alloc::Global;
 
 /// Runs the command that the words after the program's name give, `FILE [--steps N] [--log FILE]`: reads the formula of
@@ -29,121 +24,41 @@ pub fn run<F: Shelf, O: Sink, E: Sink>(
     out: &mut O,
     err: &mut E,
 ) -> Report
-    ensures status { result.status ≡ spec.status_of result.found }
+    // The status follows from what was found out and the fault.
+    ensures status { result.status ≡ status_of result.answer result.fault }
 
-    // Where the content of the file is told, it stands for a formula, and the answer is one for that, with its evidence.
-    ensures answered { IfOk result.found (spec.IsAnswered (requests.request_of (map string_bytes words.now)) (F.state files.old)) }
+    // Where the contents are told, the file is there and stands for a formula, and the answer is one for that, with its
+    // evidence. Words that are no command have none.
+    ensures answered { IfSome result.answer (IsAnswered (requests.request_of (map string_bytes words.now)) (F.state files.old)) }
 
-    // The log stands in its file, and the answer was printed.
-    ensures kept { IfOk result.found (λ answer. spec.IsLogKept (requests.log_asked (requests.request_of (map string_bytes words.now))) (spec.log_of answer) (F.state files.old) (F.state files.new)) }
-    ensures printed { IfOk result.found (λ answer. AddsAll (spec.answer_text answer) (O.state out.old) (O.state out.new)) }
+    // With a fault nothing was found out, unless it is of writing. Without one something was: see `printed`.
+    ensures nothing { IfSome result.fault (λ fault. IsOfWriting fault ⊎ (result.answer ≡ None)) }
 
-    // Each fault has its cause.
-    ensures cause { IfErr result.found (spec.IsCause (requests.request_of (map string_bytes words.now)) (F.state files.old) (F.state files.new) (Rose (O.state out.old).faults (O.state out.new).faults)) }
+    // Each fault has its cause. Where the contents are told, a text is refused with its first fault and the place of it. The
+    // log cannot be written only where it was asked for and the count of writing rose, and an output only where its count
+    // rose.
+    ensures cause { IfSome result.fault (IsCause (requests.request_of (map string_bytes words.now)) result.answer (F.state files.old) (F.state files.new)
+        (Rose (O.state out.old).faults (O.state out.new).faults ⊎ Rose (E.state err.old).faults (E.state err.new).faults)) }
+
+    // The log of the answer stands whole in the file that it was asked for in, or its first bytes where that fails, and
+    // every other content is as before. Without an answer every content is.
+    ensures saved { IsSaved (files_of (requests.request_of (map string_bytes words.now)) result.answer) result.fault (F.state files.old) (F.state files.new) }
+
+    // What is printed is the answer's text whole, or the fault's line, or their first bytes, or those of the line of a fault
+    // that was to be told. Nothing is printed where the log could not be written.
+    ensures printed { Prints (requests.request_of (map string_bytes words.now))
+        (IsRefusal (requests.request_of (map string_bytes words.now)) (F.state files.old) (F.state files.new)) result.answer result.fault
+        (O.state out.old) (O.state out.new) (E.state err.old) (E.state err.new) }
+
+    // A count that is larger after the run than before it comes with the status of such a fault.
+    ensures counted { ((F.state files.old).read_faults < (F.state files.new).read_faults)
+        ⊎ (((F.state files.old).write_faults < (F.state files.new).write_faults)
+        ⊎ (((O.state out.old).faults < (O.state out.new).faults) ⊎ ((E.state err.old).faults < (E.state err.new).faults)))
+        → IsDeviceStatus result.status }
 {
-    let found = find(alloc, words, files, out);
-    if let Err(fault) = &found {
-        tell(alloc, words, fault, err);
-    }
-    Report {
-        status: status_of(&found),
-        found,
-    }
-}
-
-fn status_of(found: &Result<Answer, Fault>) -> u8
-    ensures { result ≡ spec.status_of found.now }
-{
-    match found {
-        Ok(Answer::Model(_)) => 10,
-        Ok(Answer::Refuted(_)) => 20,
-        Ok(Answer::Spent(_)) => 0,
-        Ok(Answer::LogFull(_)) => 0,
-        Err(_) => 1,
-    }
-}
-
-/// What is found out, which is then told.
-fn find<F: Shelf, O: Sink>(
-    alloc: Global,
-    words: &[String],
-    files: &mut F,
-    out: &mut O,
-) -> Result<Answer, Fault>
-    ensures answered { IfOk result (spec.IsAnswered (requests.request_of (map string_bytes words.now)) (F.state files.old)) }
-    ensures kept { IfOk result (λ answer. spec.IsLogKept (requests.log_asked (requests.request_of (map string_bytes words.now))) (spec.log_of answer) (F.state files.old) (F.state files.new)) }
-    ensures printed { IfOk result (λ answer. AddsAll (spec.answer_text answer) (O.state out.old) (O.state out.new)) }
-    ensures cause { IfErr result (spec.IsCause (requests.request_of (map string_bytes words.now)) (F.state files.old) (F.state files.new) (Rose (O.state out.old).faults (O.state out.new).faults)) }
-{
-    let Some(request) = request_of(words) else {
-        return Err(Fault::Usage);
-    };
-    let answer = solved(alloc, &request, files)?;
-    keep_log(alloc, &request, &answer, files)?;
-    print(alloc, &answer, out)?;
-    Ok(answer)
-}
-
-/// Writes the log of an answer to the file that it was asked for in.
-fn keep_log<F: Shelf>(
-    alloc: Global,
-    request: &Request<'_>,
-    answer: &Answer,
-    files: &mut F,
-) -> Result<(), Fault>
-    ensures ok { OnOk result (spec.IsLogKept (requests.asked_by request.now).log (spec.log_of answer.now) (F.state files.old) (F.state files.new)) }
-    ensures err { IfErr result (spec.IsKeepingFault (F.state files.old) (F.state files.new)) }
-    ensures rest { OnlyWrites (F.state files.old) (F.state files.new) }
-{
-    let Some(name) = request.log else {
-        return Ok(());
-    };
-    let Some(log) = log_of(answer) else {
-        return Ok(());
-    };
-    let lines = print_log2(alloc, log)?;
-    match write_file(files, name, lines.as_slice()) {
-        Ok(()) => Ok(()),
-        Err(_failed) => Err(Fault::CannotWrite),
-    }
-}
-
-/// The log of an answer.
-fn log_of(answer: &Answer) -> Option<&Log>
-    ensures { option_map (λ log. log.now) result ≡ spec.log_of answer.now }
-{
-    match answer {
-        Answer::Model(_) => None,
-        Answer::Refuted(log) => Some(log),
-        Answer::Spent(log) => Some(log),
-        Answer::LogFull(log) => Some(log),
-    }
-}
-
-/// Prints an answer.
-fn print<O: Sink>(alloc: Global, answer: &Answer, out: &mut O) -> Result<(), Fault>
-    ensures ok { OnOk result (AddsAll (spec.answer_text answer.now) (O.state out.old) (O.state out.new)) }
-    ensures err { IfErr result (spec.IsPrintingFault (Rose (O.state out.old).faults (O.state out.new).faults)) }
-{
-    let mut text = Vec::new(alloc);
-    add_answer(&mut text, answer)?;
-    match put_all(out, &text) {
-        Ok(()) => Ok(()),
-        Err(_failed) => Err(Fault::CannotPrint),
-    }
-}
-
-/// The text of an answer, in the words of the solvers' competitions.
-fn add_answer(text: &mut Vec<u8>, answer: &Answer) -> Result<(), NoMemory>
-    ensures { OnOk result (text.new.items ≡ text.old.items ++ spec.answer_text answer.now) }
-{
-    match answer {
-        Answer::Model(values) => {
-            add_bytes(text, b"s SATISFIABLE\n")?;
-            add_model(text, values.as_slice())
-        }
-        Answer::Refuted(_) => add_bytes(text, b"s UNSATISFIABLE\n"),
-        Answer::Spent(_) => add_bytes(text, b"s UNKNOWN\n"),
-        Answer::LogFull(_) => add_bytes(text, b"s UNKNOWN\n"),
+    let request = request_of(words);
+    match plan(alloc, request, files) {
+        Ok(planned) => finish_answer(planned, files, out, err),
+        Err(fault) => finish_fault(alloc, request, fault, err),
     }
 }
