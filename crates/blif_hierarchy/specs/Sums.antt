@@ -1,5 +1,6 @@
--- How many signals a hierarchy has, and how many instances: sums over placements, of which nothing has to be flattened.
-use Rattle.std.specs.Prelude.{◌≡◌, ℕ, zero, suc, ◌+◌, ◌-◌, ◌<◌, ◌⊎◌, min, cond, ◌||◌, nat_lt, List, [], ◌∷◌, take, length, sum_by, fold, slice_index_or, is_none, Option, None, Some}
+-- How many signals a hierarchy has, how many instances, and how much their lines and names take: sums over placements, of
+-- which nothing has to be flattened.
+use Rattle.std.specs.Prelude.{◌≡◌, ℕ, zero, suc, ◌+◌, ◌-◌, ◌*◌, ◌<◌, ◌^◌, ◌⊎◌, min, Bool, cond, ◌||◌, nat_lt, List, [], ◌∷◌, take, length, sum_by, fold, slice_index, slice_index_or, is_none, Option, None, Some}
 use Rattle.blif_flattening.specs.declared.model.Connection.{Connection}
 use Rattle.blif_flattening.specs.declared.model.Placement.{Placement}
 use Rattle.blif_flattening.specs.declared.model.Model.{Model}
@@ -10,6 +11,8 @@ use Rattle.blif_flattening.specs.Hierarchy.{items_of, placements_in, actual_in}
 use Rattle.blif_flattening.specs.Instances.{names_of}
 use Rattle.blif_hierarchy.specs.Drivers.{IsInForm}
 use Rattle.blif_hierarchy.specs.declared.cost.Cost.{Cost}
+use Rattle.blif_hierarchy.specs.declared.cost.Scale.{Scale}
+use Rattle.blif_hierarchy.specs.declared.cost.TheConstants.{NAME_SIZE}
 
 -- the placements in the model of a number
 abbrev pub placements_of : {Line : Type 0} → List (Model Line) → ℕ → List Placement
@@ -51,55 +54,102 @@ abbrev pub instances_with : {Line : Type 0} → List (Model Line) → ℕ → �
 instances_with models count =
     sum_by (λ placement. 1 + instances_below models (DEEPEST - 1) placement.model) (take count (placements_of models 0))
 
--- with this placement of the top, and all before it, there are more than so many signals, or instances
-abbrev pub IsPast : {Line : Type 0} → List (Model Line) → ℕ → ℕ → Type 0
-IsPast models limit k = (limit < signals_with models (suc k)) ⊎ (limit < instances_with models (suc k))
+-- how much an instance of a model takes: the bytes of its lines, by where the lines of each model begin and those of the
+-- last one end, and so many more for each of its names
+abbrev pub instance_size : {Line : Type 0} → List (Model Line) → List ℕ → ℕ → ℕ
+instance_size models starts model =
+    slice_index starts (suc model) - slice_index starts model + NAME_SIZE * names_of models model
+
+-- and the instances below one of a model, down to so many levels
+abbrev pub size_below : {Line : Type 0} → List (Model Line) → List ℕ → ℕ → ℕ → ℕ
+size_below models starts zero model = 0
+size_below models starts (suc levels) model =
+    sum_by (λ placement. instance_size models starts placement.model + size_below models starts levels placement.model)
+    (placements_of models model)
+
+-- the top, with so many of its placements
+abbrev pub size_with : {Line : Type 0} → List (Model Line) → List ℕ → ℕ → ℕ
+size_with models starts count =
+    instance_size models starts 0
+    + sum_by
+    (λ placement. instance_size models starts placement.model + size_below models starts (DEEPEST - 1) placement.model)
+    (take count (placements_of models 0))
+
+-- more signals, more instances, or more of lines and names than is allowed
+abbrev pub IsOver : Scale → ℕ → ℕ → ℕ → Type 0
+IsOver scale signals instances size = (scale.count < signals) ⊎ ((scale.count < instances) ⊎ (scale.size < size))
+
+-- so it is with this placement of the top, and all before it
+abbrev pub IsPast : {Line : Type 0} → List (Model Line) → Scale → ℕ → Type 0
+IsPast models scale k =
+    IsOver scale (signals_with models (suc k)) (instances_with models (suc k)) (size_with models scale.starts (suc k))
 
 -- and it is the first such one
-pub record IsFirstPast {Line : Type 0} (models : List (Model Line)) (limit k : ℕ) : Type 0 where
+pub record IsFirstPast {Line : Type 0} (models : List (Model Line)) (scale : Scale) (k : ℕ) : Type 0 where
   pub there : k < length (placements_of models 0)
-  pub past : IsPast models limit k
-  pub first : (earlier : ℕ) → earlier < k → IsPast models limit earlier → ⊥
+  pub past : IsPast models scale k
+  pub first : (earlier : ℕ) → earlier < k → IsPast models scale earlier → ⊥
 
--- what is below an instance of a model, down to so many levels, each number counted up to a cap
-abbrev pub capped : ℕ → ℕ → ℕ → Cost
-capped cap signals instances = record { signals = min signals cap; instances = min instances cap }
-
-abbrev pub cost_below : {Line : Type 0} → List (Model Line) → ℕ → ℕ → ℕ → Cost
-cost_below models cap levels model = capped cap (signals_below models levels model) (instances_below models levels model)
-
--- with one placement more, whose model has this below it, and so many names
-abbrev pub no_cost : Cost
-no_cost = record { signals = 0; instances = 0 }
-
-abbrev pub with_placement : {Line : Type 0} → List (Model Line) → ℕ → List Cost → Cost → Placement → Cost
-with_placement models cap costs sum placement =
-    let below = slice_index_or costs placement.model no_cost in
-    let own = names_of models placement.model - length placement.connections in
-    capped cap (sum.signals + own + below.signals) (sum.instances + 1 + below.instances)
-
--- of all placements of a model
-abbrev pub cost_after : {Line : Type 0} → List (Model Line) → ℕ → List Cost → Model Line → Cost
-cost_after models cap costs model = fold (with_placement models cap costs) no_cost (placements_in model.items)
-
--- the number of the first placement with which a limit is passed, from a sum and a number on
-abbrev pub past_from : {Line : Type 0} → List (Model Line) → ℕ → List Cost → Cost → ℕ → List Placement → Option ℕ
-past_from models limit costs sum number [] = None
-past_from models limit costs sum number (placement ∷ placements) =
-    let next = with_placement models (limit + 1) costs sum placement in
-    cond (nat_lt limit next.signals || nat_lt limit next.instances) (Some number)
-    (past_from models limit costs next (number + 1) placements)
-
--- a list has what is below each model, down to so many levels
-pub record HasCosts {Line : Type 0} (models : List (Model Line)) (cap levels : ℕ) (costs : List Cost) : Type 0 where
-  pub size : length costs ≡ length models
-  pub each : (model : ℕ) → model < length models → slice_index_or costs model no_cost ≡ cost_below models cap levels model
+-- the first placement of the top that passes a limit, or that there is none
+abbrev pub FindsPast : {Line : Type 0} → List (Model Line) → Scale → Option ℕ → Type 0
+FindsPast models scale None = (k : ℕ) → k < length (placements_of models 0) → IsPast models scale k → ⊥
+FindsPast models scale (Some k) = IsFirstPast models scale k
 
 -- each placement is in form
 abbrev pub AreInForm : {Line : Type 0} → List (Model Line) → Type 0
 AreInForm models = (model : ℕ) (placement : Placement) → Among (Place placement) (items_of models model) → IsInForm models placement
 
--- the first placement of the top that passes a limit, or that there is none
-abbrev pub FindsPast : {Line : Type 0} → List (Model Line) → ℕ → Option ℕ → Type 0
-FindsPast models limit None = (k : ℕ) → k < length (placements_of models 0) → IsPast models limit k → ⊥
-FindsPast models limit (Some k) = IsFirstPast models limit k
+-- how the first one is searched for. Numbers are counted up to one more than is allowed, for which 32 bits are enough
+abbrev pub FitsWords : Scale → Type 0
+FitsWords scale = (scale.count + 1 < 2 ^ 32) × (scale.size + 1 < 2 ^ 32)
+
+abbrev pub capped : Scale → ℕ → ℕ → ℕ → Cost
+capped scale signals instances size = record {
+  signals = min signals (scale.count + 1);
+  instances = min instances (scale.count + 1);
+  size = min size (scale.size + 1);
+}
+
+-- what is below an instance of a model, down to so many levels
+abbrev pub cost_below : {Line : Type 0} → List (Model Line) → Scale → ℕ → ℕ → Cost
+cost_below models scale levels model =
+    capped scale (signals_below models levels model) (instances_below models levels model)
+    (size_below models scale.starts levels model)
+
+-- with one placement more, whose model has this below it, and so many names
+abbrev pub no_cost : Cost
+no_cost = record { signals = 0; instances = 0; size = 0 }
+
+abbrev pub with_placement : {Line : Type 0} → List (Model Line) → Scale → List Cost → Cost → Placement → Cost
+with_placement models scale costs sum placement =
+    let below = slice_index_or costs placement.model no_cost in
+    let own = names_of models placement.model - length placement.connections in
+    let size = instance_size models scale.starts placement.model in
+    capped scale (sum.signals + own + below.signals) (sum.instances + 1 + below.instances) (sum.size + size + below.size)
+
+-- of all placements of a model
+abbrev pub cost_after : {Line : Type 0} → List (Model Line) → Scale → List Cost → Model Line → Cost
+cost_after models scale costs model = fold (with_placement models scale costs) no_cost (placements_in model.items)
+
+-- the top alone
+abbrev pub cost_alone : {Line : Type 0} → List (Model Line) → Scale → Cost
+cost_alone models scale = capped scale (names_of models 0) 0 (instance_size models scale.starts 0)
+
+-- whether a limit is passed
+abbrev pub is_over : Scale → Cost → Bool
+is_over scale cost =
+    nat_lt scale.count cost.signals || (nat_lt scale.count cost.instances || nat_lt scale.size cost.size)
+
+-- the number of the first placement with which it is, from a sum and a number on
+abbrev pub past_from : {Line : Type 0} → List (Model Line) → Scale → List Cost → Cost → ℕ → List Placement → Option ℕ
+past_from models scale costs sum number [] = None
+past_from models scale costs sum number (placement ∷ placements) =
+    let next = with_placement models scale costs sum placement in
+    cond (is_over scale next) (Some number) (past_from models scale costs next (number + 1) placements)
+
+-- a list has what is below each model, down to so many levels
+pub record HasCosts {Line : Type 0} (models : List (Model Line)) (scale : Scale) (levels : ℕ) (costs : List Cost)
+    : Type 0 where
+  pub size : length costs ≡ length models
+  pub each : (model : ℕ) → model < length models
+      → slice_index_or costs model no_cost ≡ cost_below models scale levels model

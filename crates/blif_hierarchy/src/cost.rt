@@ -1,25 +1,43 @@
-// How many signals and instances a hierarchy has, before it is flattened.
-ghost use Rattle.std.specs.Prelude.{◌≡◌, ◌+◌, ◌-◌, ◌<◌, ◌≤◌, ◌^◌, min, length, map, fold, IfOk, IfNone, slice_index_or};
+// How large a hierarchy is, before it is flattened.
+ghost use Rattle.std.specs.Prelude.{◌≡◌, ◌+◌, ◌-◌, ◌<◌, ◌≤◌, ◌^◌, length, map, fold, IfOk, IfNone, slice_index, slice_index_or};
 ghost use Rattle.blif_flattening.specs.Hierarchy.{placements_in};
 ghost use Rattle.blif_flattening.specs.Instances.{names_of};
 ghost use Rattle.blif_hierarchy.specs.First.{IsClosed};
-ghost use Rattle.blif_hierarchy.specs.Sums.{no_cost, capped, with_placement, cost_after, past_from, HasCosts, AreInForm, FindsPast, signal_count};
+ghost use Rattle.blif_hierarchy.specs.Sums.{no_cost, capped, with_placement, cost_after, cost_alone, past_from, is_over};
+ghost use Rattle.blif_hierarchy.specs.Sums.{HasCosts, AreInForm, FindsPast, FitsWords, instance_size, signal_count};
 
 use blif_flattening::{DEEPEST, Item, Model, Placement};
-use psl_base::{Items, NoMemory};
+use psl_base::{Items, NoMemory, Numbers};
 use std::alloc::Global;
 
-// What is below an instance, each number counted up to a cap.
+/// How much a name of an instance takes besides the lines, in bytes: about what a program keeps of it.
+pub const NAME_SIZE: u32 = 64;
+
+/// How large a hierarchy may be, and where the lines of its models stand in their text.
+#[derive(Drop)]
+pub struct Scale {
+    /// How many signals there may be, and how many instances.
+    pub count: u32,
+    /// How many bytes the lines of all instances may have together, with `NAME_SIZE` more for each name of each instance.
+    pub size: u32,
+    /// How many bytes of the text stand before the lines of each model, and then before the end of the last one's.
+    pub starts: Numbers,
+}
+
+// What is below an instance, each number counted up to one more than is allowed.
 #[derive(Clone, Copy)]
 pub(crate) struct Cost {
     // The signals that are no formals of the instances there with a connection.
     pub(crate) signals: u32,
     // The instances.
     pub(crate) instances: u32,
+    // What their lines and names take.
+    pub(crate) size: u32,
 }
 
-/// The number of the first placement of the top, counted from 0, with which there are more signals than the limit, or
-/// more instances: both sums begin with the names of the top, and with no instance.
+/// The number of the first placement of the top, counted from 0, with which a limit is passed: there are more signals or
+/// more instances, or their lines and names take more. The sums begin with the names and lines of the top, and with no
+/// instance.
 ///
 /// # Errors
 ///
@@ -27,41 +45,50 @@ pub(crate) struct Cost {
 pub fn first_too_large<L>(
     alloc: Global,
     models: &Items<Model<L>>,
-    limit: u32,
+    scale: &Scale,
 ) -> Result<Option<usize>, NoMemory>
     requires closed { IsClosed models.now }
     requires form { AreInForm models.now }
-    requires limit { limit + 1 < 2 ^ 32 }
-    ensures found { IfOk result (λ found. FindsPast models.now limit found) }
+    requires words { FitsWords scale.now }
+    ensures found { IfOk result (λ found. FindsPast models.now scale.now found) }
     // where there is none, and the top has no more names, a hierarchy has no more signals
-    ensures few { names_of models.now 0 ≤ limit → IfOk result (λ found. IfNone found (signal_count models.now ≤ limit)) }
+    ensures few { names_of models.now 0 ≤ scale.now.count
+        → IfOk result (λ found. IfNone found (signal_count models.now ≤ scale.now.count)) }
 {
-    let costs = costs_of(alloc, models, limit + 1)?;
+    let costs = costs_of(alloc, models, scale)?;
     match models.as_slice().get(0) {
         Some(top) => {
-            let start = Cost {
-                signals: top.names.min(limit + 1),
-                instances: 0,
-            };
-            Ok(first_past(models, &costs, limit, start, top.items.as_slice()))
+            let start = cost_alone(models, scale);
+            Ok(first_past(models, &costs, scale, start, top.items.as_slice()))
         }
         None => Ok(None),
     }
 }
 
+// The top alone.
+fn cost_alone<L>(models: &Items<Model<L>>, scale: &Scale) -> Cost
+    requires { FitsWords scale.now }
+    ensures { result ≡ cost_alone models.now scale.now }
+{
+    let names = u64::from(name_count(models, 0));
+    capped(scale, names, 0, instance_size(models, scale, 0))
+}
+
 // What is below an instance of each model, as deep as a path may lead from a placement of the top.
-fn costs_of<L>(alloc: Global, models: &Items<Model<L>>, cap: u32) -> Result<Vec<Cost>, NoMemory>
+fn costs_of<L>(
+    alloc: Global,
+    models: &Items<Model<L>>,
+    scale: &Scale,
+) -> Result<Vec<Cost>, NoMemory>
     requires closed { IsClosed models.now }
     requires form { AreInForm models.now }
-    ensures { IfOk result (λ costs. HasCosts models.now cap (DEEPEST - 1) costs.items) }
+    requires words { FitsWords scale.now }
+    ensures { IfOk result (λ costs. HasCosts models.now scale.now (DEEPEST - 1) costs.items) }
 {
-    let none = Cost {
-        signals: 0,
-        instances: 0,
-    };
+    let none = no_cost();
     let mut costs = vec![in alloc; none; models.len()]?;
     for round in 0..DEEPEST - 1 {
-        costs = costs_after(alloc, models, &costs, cap)?;
+        costs = costs_after(alloc, models, &costs, scale)?;
     }
     Ok(costs)
 }
@@ -71,50 +98,49 @@ fn costs_after<L>(
     alloc: Global,
     models: &Items<Model<L>>,
     costs: &[Cost],
-    cap: u32,
+    scale: &Scale,
 ) -> Result<Vec<Cost>, NoMemory>
-    ensures { IfOk result (λ next. next.items ≡ map (cost_after models.now cap costs.now) models.now) }
+    requires { FitsWords scale.now }
+    ensures { IfOk result (λ next. next.items ≡ map (cost_after models.now scale.now costs.now) models.now) }
 {
     let mut next = Vec::with_capacity(alloc, models.len())?;
     for model in models.as_slice() {
-        next.push(cost_in(models, costs, cap, model.items.as_slice()))?;
+        next.push(cost_in(models, costs, scale, model.items.as_slice()))?;
     }
     Ok(next)
 }
 
 // What the placements of a model make.
-fn cost_in<L>(models: &Items<Model<L>>, costs: &[Cost], cap: u32, items: &[Item<L>]) -> Cost
-    ensures { result ≡ fold (with_placement models.now cap costs.now) no_cost (placements_in items.now) }
+fn cost_in<L>(models: &Items<Model<L>>, costs: &[Cost], scale: &Scale, items: &[Item<L>]) -> Cost
+    requires { FitsWords scale.now }
+    ensures { result ≡ fold (with_placement models.now scale.now costs.now) no_cost (placements_in items.now) }
 {
-    let mut sum = Cost {
-        signals: 0,
-        instances: 0,
-    };
+    let mut sum = no_cost();
     for item in items {
         if let Item::Place(placement) = item {
-            sum = with_placement(models, costs, cap, sum, placement);
+            sum = with_placement(models, costs, scale, sum, placement);
         }
     }
     sum
 }
 
-// The number of the first placement with which the limit is passed.
+// The number of the first placement with which a limit is passed.
 fn first_past<L>(
     models: &Items<Model<L>>,
     costs: &[Cost],
-    limit: u32,
+    scale: &Scale,
     start: Cost,
     items: &[Item<L>],
 ) -> Option<usize>
-    requires limit { limit + 1 < 2 ^ 32 }
-    ensures { result ≡ past_from models.now limit costs.now start 0 (placements_in items.now) }
+    requires { FitsWords scale.now }
+    ensures { result ≡ past_from models.now scale.now costs.now start 0 (placements_in items.now) }
 {
     let mut number = 0usize;
     let mut sum = start;
     for item in items {
         if let Item::Place(placement) = item {
-            sum = with_placement(models, costs, limit + 1, sum, placement);
-            if sum.signals > limit || sum.instances > limit {
+            sum = with_placement(models, costs, scale, sum, placement);
+            if is_over(scale, sum) {
                 return Some(number);
             }
             number += 1;
@@ -123,34 +149,58 @@ fn first_past<L>(
     None
 }
 
+// Whether a limit is passed.
+fn is_over(scale: &Scale, sum: Cost) -> bool
+    ensures { result ≡ is_over scale.now sum }
+{
+    sum.signals > scale.count || (sum.instances > scale.count || sum.size > scale.size)
+}
+
 // A sum with one placement more.
 fn with_placement<L>(
     models: &Items<Model<L>>,
     costs: &[Cost],
-    cap: u32,
+    scale: &Scale,
     sum: Cost,
     placement: &Placement,
 ) -> Cost
-    ensures { result ≡ with_placement models.now cap costs.now sum placement.now }
+    requires { FitsWords scale.now }
+    ensures { result ≡ with_placement models.now scale.now costs.now sum placement.now }
 {
     let below = cost_at(costs, placement.model);
     let own = u64::from(name_count(models, placement.model)).saturating_sub(
         placement.connections.len() as u64,
     );
-    Cost {
-        signals: capped(u64::from(sum.signals) + own + u64::from(below.signals), cap),
-        instances: capped(
-            u64::from(sum.instances) + 1 + u64::from(below.instances),
-            cap,
-        ),
-    }
+    let size = instance_size(models, scale, placement.model);
+    capped(
+        scale,
+        u64::from(sum.signals) + own + u64::from(below.signals),
+        u64::from(sum.instances) + 1 + u64::from(below.instances),
+        u64::from(sum.size) + size + u64::from(below.size),
+    )
 }
 
-// A number, or the cap where it is larger.
-fn capped(number: u64, cap: u32) -> u32
-    ensures { result ≡ min number cap }
+// How much an instance of a model takes.
+fn instance_size<L>(models: &Items<Model<L>>, scale: &Scale, model: u32) -> u64
+    ensures is { result ≡ instance_size models.now scale.now.starts model }
+    ensures few { result < 2 ^ 40 }
 {
-    number.min(u64::from(cap)) as u32
+    let starts = scale.starts.as_slice();
+    let end = number_at(starts, model as usize + 1);
+    let bytes = end.saturating_sub(number_at(starts, model as usize));
+    u64::from(bytes) + u64::from(NAME_SIZE) * u64::from(name_count(models, model))
+}
+
+// Numbers counted up to one more than is allowed.
+fn capped(scale: &Scale, signals: u64, instances: u64, size: u64) -> Cost
+    requires { FitsWords scale.now }
+    ensures { result ≡ capped scale.now signals instances size }
+{
+    Cost {
+        signals: signals.min(u64::from(scale.count) + 1) as u32,
+        instances: instances.min(u64::from(scale.count) + 1) as u32,
+        size: size.min(u64::from(scale.size) + 1) as u32,
+    }
 }
 
 // What is below a model, nothing past the end of the list.
@@ -159,10 +209,18 @@ fn cost_at(costs: &[Cost], model: u32) -> Cost
 {
     match costs.get(model as usize) {
         Some(cost) => *cost,
-        None => Cost {
-            signals: 0,
-            instances: 0,
-        },
+        None => no_cost(),
+    }
+}
+
+// Nothing.
+fn no_cost() -> Cost
+    ensures { result ≡ no_cost }
+{
+    Cost {
+        signals: 0,
+        instances: 0,
+        size: 0,
     }
 }
 
@@ -172,6 +230,16 @@ fn name_count<L>(models: &Items<Model<L>>, model: u32) -> u32
 {
     match models.as_slice().get(model as usize) {
         Some(model) => model.names,
+        None => 0,
+    }
+}
+
+// The number at a place of a list, 0 past its end.
+fn number_at(numbers: &[u32], place: usize) -> u32
+    ensures { result ≡ slice_index numbers.now place }
+{
+    match numbers.get(place) {
+        Some(number) => *number,
         None => 0,
     }
 }

@@ -9,7 +9,7 @@ mod laws;
 mod place;
 mod recursion;
 
-pub use cost::first_too_large;
+pub use cost::{NAME_SIZE, Scale, first_too_large};
 pub use depth::first_too_deep;
 pub use laws::hierarchy_law;
 pub use place::PlacementAt;

@@ -1,5 +1,6 @@
 -- The worked examples hold.
-use Rattle.std.proofs.Common.{◌≡◌, ℕ, zero, suc, ◌<◌, ◌≤◌, inl, inr, Bool, true, false, [], ◌∷◌, length, Some, refl, sym, ap, ◌∙◌, subst, ⊎_elim, arith}
+use Rattle.std.proofs.Common.{◌≡◌, ℕ, zero, suc, ◌<◌, ◌≤◌, inl, inr, nat_lt, Bool, true, false, [], ◌∷◌, length, Some, refl, sym, ap, ◌∙◌, subst, ⊎_elim, arith}
+use Rattle.std.proofs.lemmas.Bool.{ltb-true}
 use Rattle.std.proofs.lemmas.List.Elements.{All-nil, All-cons}
 use Rattle.std.proofs.lemmas.Option.{none-some}
 use Rattle.netlist_order.specs.Graph.{Depends, Reads, directly, onwards}
@@ -15,14 +16,14 @@ use Rattle.blif_flattening.specs.Members.{Among}
 use Rattle.blif_flattening.specs.Numbers.{signals}
 use Rattle.blif_model.specs.declared.line.LineKind.TheVariants as kinds
 use Rattle.blif_model.specs.declared.line.ModelLine.{ModelLine}
-use Rattle.blif_model.specs.Rules.{signal_limit}
 use Rattle.blif_hierarchy.specs.Depth.{depth_of, IsTooDeep}
 use Rattle.blif_hierarchy.specs.Order.{model_graph, IsRecursive}
-use Rattle.blif_hierarchy.specs.Sums.{placements_of, IsPast}
+use Rattle.blif_hierarchy.specs.Sums.{placements_of, size_with, IsPast}
 use Rattle.blif_flat.specs.Flat.{flat_design}
 use Rattle.blif_flat.specs.Lines.{mentions_of}
 use Rattle.blif_flat.specs.Trees.{LineSays}
 use Rattle.blif_linking.specs.Examples.{parts_in, turning}
+use Rattle.blif_linking.specs.Sizes.{scale_of, starts_of}
 use Rattle.blif_laws.specs.Examples.{turned, value_of_q, turned_texts, TurningFits, TurningIsATree, TurningUnfolds, FormalsFollow, TablesHold, LatchesBegin, LatchesMove}
 use Rattle.blif_laws.proofs.Hierarchies.{unfolds}
 
@@ -54,9 +55,15 @@ not_deep model k is =
     let deep : DEEPEST ≤ depth_of turned DEEPEST 1 = subst (λ m. DEEPEST ≤ depth_of turned DEEPEST m) at.1 is.deep in
     absurd (omega (arith, deep))
 
-not_past : (k : ℕ) → k < length (placements_of turned 0) → IsPast turned signal_limit k → ⊥
-not_past zero lt (inl signals) = absurd (omega (arith, signals))
-not_past zero lt (inr instances) = absurd (omega (arith, instances))
+few_bytes : nat_lt (size_with turned (starts_of (length turning) (parts_in turning)) 1) 1000 ≡ true
+few_bytes = refl
+
+not_past : (k : ℕ) → k < length (placements_of turned 0) → IsPast turned (scale_of turning (parts_in turning)) k → ⊥
+not_past zero lt (inl few) = absurd (omega (arith, few))
+not_past zero lt (inr (inl few)) = absurd (omega (arith, few))
+not_past zero lt (inr (inr few)) =
+    let low = ltb-true (size_with turned (starts_of (length turning) (parts_in turning)) 1) 1000 few_bytes in
+    absurd (omega (arith, few, low))
 not_past (suc k) lt past = absurd (omega (arith, lt))
 
 pub turning_fits : TurningFits

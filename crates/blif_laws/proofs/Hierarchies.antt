@@ -6,6 +6,7 @@ use Rattle.blif_laws.proofs.Instances.{all-instances, all-names}
 use Rattle.netlist.specs.Sound.{IsSound}
 use Rattle.blif_model.specs.Rules.{signal_limit}
 use Rattle.blif_linking.specs.Linked.{IsHierarchy, linked, linked_texts}
+use Rattle.blif_linking.specs.Sizes.{scale_of, starts_of}
 use Rattle.blif_flat.specs.Flat.{Models, flat_design, flat_names, flat_outputs, AreSound}
 use Rattle.blif_flat.specs.Trees.{IsUnfolded}
 use Rattle.blif_flat.proofs.Sound.{sound}
@@ -32,9 +33,9 @@ are-sound text models texts is =
     let same = is.models_are in
     subst (λ (ms : Models). AreSound ms texts signal_limit (length text)) (sym same)
     (subst (λ (ts : List (List (List ℕ))). AreSound (linked is.parts) ts signal_limit (length text)) (sym is.texts_are)
-    (linking.sound is.parts (length text) (parts-said text is.parts is.said) is.known is.connected
+    (linking.sound is.parts (length text) (parts-said text is.parts is.said) is.known is.connected file_limit (starts_of (length text) is.parts)
     (subst (λ (ms : Models). Finds (IsTooDeep ms) None) same is.shallow) is.apart is.driven
-    (subst (λ (ms : Models). FindsPast ms signal_limit None) same is.few)))
+    (subst (λ (ms : Models). FindsPast ms (scale_of text is.parts) None) same is.few)))
 
 pub names-all : (text : List ℕ) (models : Models) (texts : List (List (List ℕ))) → IsHierarchy text models texts → HasAllNames models
 names-all text models texts is =

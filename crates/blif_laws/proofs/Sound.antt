@@ -30,6 +30,7 @@ use Rattle.blif_flat.specs.Lines.{drives_of, inputs_of, mentions_of, IsFormed}
 use Rattle.blif_hierarchy.specs.Depth.{IsTooDeep}
 use Rattle.blif_hierarchy.specs.Drivers.{times, inputs_in, is_input, actuals_driven, driven_in, drivers_of, IsConnected, IsDriven, IsInForm}
 use Rattle.blif_hierarchy.specs.First.{Finds}
+use Rattle.blif_hierarchy.specs.declared.cost.Scale.{Scale}
 use Rattle.blif_hierarchy.specs.Sums.{FindsPast, signals_with}
 use Rattle.blif_hierarchy.proofs.Costs.{within-limit}
 use Rattle.blif_hierarchy.proofs.Counting.{count_where-append}
@@ -271,9 +272,13 @@ module _ (parts : Parts) (most : ℕ) (all : (part : Part Model) → Among part 
           let size = linked-names parts m part is in
           (λ lt. counted ∙ drives.once name (omega (arith, lt, size)), λ le. counted ∙ drives.past name (omega (arith, le, size)))
 
+  -- the limit on signals, and any other
+  abbrev within : ℕ → List ℕ → Scale
+  within size starts = record { count = signal_limit; size = size; starts = starts }
+
   -- the top has few names
-  few-names : FindsPast (linked parts) signal_limit None → names_of (linked parts) 0 ≤ signal_limit
-  few-names few = by-top (slice_get parts 0) refl
+  few-names : (size : ℕ) (starts : List ℕ) → FindsPast (linked parts) (within size starts) None → names_of (linked parts) 0 ≤ signal_limit
+  few-names size starts few = by-top (slice_get parts 0) refl
     where
       placed-some : (top : Part Model) → slice_get parts 0 ≡ Some top → (placing : Placing) → Among placing top.placings → names_of (linked parts) 0 ≤ signal_limit
       placed-some top is placing there =
@@ -281,7 +286,7 @@ module _ (parts : Parts) (most : ℕ) (all : (part : Part Model) → Among part 
           subst (λ (items : List (Item ModelLine)). Among (Place (placement_by parts top placing)) items) (sym (linked-items parts 0 top is))
           (Among-map (item_of parts top) (Places placing) (entries_of top) (places-among 0 top.own.statements top.placings placing there)) in
           let some = some-placed (items_of (linked parts) 0) (placement_by parts top placing) place in
-          ⊎_elim (λ past. absurd (few 0 some (inl past))) (λ within. omega (arith, within)) (cases_lt signal_limit (signals_with (linked parts) 1))
+          ⊎_elim (λ past. absurd (few 0 some (inl past))) (λ low. omega (arith, low)) (cases_lt signal_limit (signals_with (linked parts) 1))
 
       by-placings : (top : Part Model) → slice_get parts 0 ≡ Some top → (placings : List Placing) → top.placings ≡ placings → names_of (linked parts) 0 ≤ signal_limit
       by-placings top is [] none =
@@ -298,13 +303,13 @@ module _ (parts : Parts) (most : ℕ) (all : (part : Part Model) → Among part 
       by-top None is = omega (arith, (linked-none parts 0 is).1)
       by-top (Some top) is = by-placings top is top.placings refl
 
-  pub sound : Finds (IsTooDeep (linked parts)) None → first_driven parts ≡ None → first_undriven parts ≡ None → FindsPast (linked parts) signal_limit None
-      → AreSound (linked parts) (linked_texts parts) signal_limit most
-  sound shallow apart driven few = record {
+  pub sound : (size : ℕ) (starts : List ℕ) → Finds (IsTooDeep (linked parts)) None → first_driven parts ≡ None → first_undriven parts ≡ None
+      → FindsPast (linked parts) (within size starts) None → AreSound (linked parts) (linked_texts parts) signal_limit most
+  sound size starts shallow apart driven few = record {
     whole = is-whole parts known fit shallow;
     named = is-named parts known fit;
     driven = is-driven apart driven;
     formed = is-formed;
     titled = linked-titled parts;
-    few = within-limit ModelLine (linked parts) signal_limit None few (few-names few);
+    few = within-limit ModelLine (linked parts) (within size starts) None few (few-names size starts few);
   }

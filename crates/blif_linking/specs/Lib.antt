@@ -11,4 +11,5 @@ pub mod Naming
 pub mod Numbering
 pub mod Offers
 pub mod Sets
+pub mod Sizes
 pub mod Undriven

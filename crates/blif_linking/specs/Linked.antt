@@ -16,10 +16,10 @@ use Rattle.blif_model.specs.Files.{Part, models_of}
 use Rattle.blif_model.specs.Models.{Model}
 use Rattle.blif_model.specs.Names.{number_at, place_of}
 use Rattle.blif_model.specs.Numbered.{line_of}
-use Rattle.blif_model.specs.Rules.{signal_limit}
 use Rattle.blif_linking.specs.Interfaces.{Role, Input, Output, Clock, role_of}
 use Rattle.blif_linking.specs.Links.{Link, connections_in, link_of}
 use Rattle.blif_linking.specs.Names.{Entry, Says, Places, Parts, entries_of, first_bad, first_driven, first_undriven, first_unknown, names_in, number_placed, placed}
+use Rattle.blif_linking.specs.Sizes.{scale_of}
 
 -- a formal and the name that it is connected with
 abbrev pub joined : Parts → Part Model → Part Model → Link → Connection
@@ -63,7 +63,7 @@ abbrev pub linked_texts : Parts → List (List (List ℕ))
 linked_texts parts = map (names_in parts) parts
 
 -- a text says models that fit together: each that is placed is there, and is connected as it offers; none contains itself,
--- at any depth, and none is too deep; each name has one driver; and the sums of signals and instances are in bounds
+-- at any depth, and none is too deep; each name has one driver; and the sums of signals, instances and sizes are in bounds
 pub record IsHierarchy (text : List ℕ) (models : List (NumberedModel ModelLine)) (texts : List (List (List ℕ))) : Type 0 where
   pub parts : Parts
   pub said : models_of text ≡ Ok parts
@@ -75,4 +75,4 @@ pub record IsHierarchy (text : List ℕ) (models : List (NumberedModel ModelLine
   pub shallow : Finds (IsTooDeep models) None
   pub apart : first_driven parts ≡ None
   pub driven : first_undriven parts ≡ None
-  pub few : FindsPast models signal_limit None
+  pub few : FindsPast models (scale_of text parts) None

@@ -15,9 +15,9 @@ use Rattle.blif_flat.specs.Flat.{Models, flat_design, flat_outputs}
 use Rattle.blif_model.specs.declared.fault.BlifFault.{BlifFault}
 use Rattle.blif_model.specs.declared.fault.BlifFault.TheVariants.{UnknownModel, BadConnection, ModelRecursion, TooDeep, DrivenBySubckt, Undriven, TooLarge, CombinationalCycle}
 use Rattle.blif_model.specs.Files.{models_of}
-use Rattle.blif_model.specs.Rules.{signal_limit}
 use Rattle.blif_linking.specs.Linked.{IsHierarchy, linked, linked_texts}
 use Rattle.blif_linking.specs.Names.{Parts, first_bad, first_driven, first_undriven, first_unknown}
+use Rattle.blif_linking.specs.Sizes.{scale_of}
 use Rattle.blif_laws.proofs.Hierarchies.{one-hierarchy}
 use Rattle.blif_reader.specs.Faults.{FromBad, FromDeep, FromDriven, FromLarge, FromRecursion, FromUndriven, IsCycleFault, IsModelsFault, in_top, place_in, title_place, titles_in}
 use Rattle.blif_reader.specs.Meaning.{IsNetlist, IsReading, IsWholeFault}
@@ -29,16 +29,16 @@ none-in None is = refl
 none-in (Some word) is = cc
 
 -- no rule finds anything, but for tables that depend on themselves
-pub record IsFit (parts : Parts) : Type 0 where
+pub record IsFit (text : List ℕ) (parts : Parts) : Type 0 where
   pub known : first_unknown parts ≡ None
   pub connected : first_bad parts ≡ None
   pub finite : Finds (IsRecursive (linked parts)) None
   pub shallow : Finds (IsTooDeep (linked parts)) None
   pub apart : first_driven parts ≡ None
   pub driven : first_undriven parts ≡ None
-  pub few : FindsPast (linked parts) signal_limit None
+  pub few : FindsPast (linked parts) (scale_of text parts) None
 
-pub fit-of : (text : List ℕ) (models : Models) (texts : List (List (List ℕ))) (is : IsHierarchy text models texts) → IsFit is.parts
+pub fit-of : (text : List ℕ) (models : Models) (texts : List (List (List ℕ))) (is : IsHierarchy text models texts) → IsFit text is.parts
 fit-of text models texts is = record {
   known = is.known;
   connected = is.connected;
@@ -46,10 +46,10 @@ fit-of text models texts is = record {
   shallow = subst (λ (ms : Models). Finds (IsTooDeep ms) None) is.models_are is.shallow;
   apart = is.apart;
   driven = is.driven;
-  few = subst (λ (ms : Models). FindsPast ms signal_limit None) is.models_are is.few;
+  few = subst (λ (ms : Models). FindsPast ms (scale_of text is.parts) None) is.models_are is.few;
 }
 
-pub hierarchy-of : (text : List ℕ) (parts : Parts) → models_of text ≡ Ok parts → IsFit parts → IsHierarchy text (linked parts) (linked_texts parts)
+pub hierarchy-of : (text : List ℕ) (parts : Parts) → models_of text ≡ Ok parts → IsFit text parts → IsHierarchy text (linked parts) (linked_texts parts)
 hierarchy-of text parts said fit = record {
   parts = parts;
   said = said;
@@ -68,7 +68,7 @@ module _ (text : List ℕ) (parts : Parts) where
   abbrev Good : Type 0
   Good = IsNetlist text (flat_design (linked parts) (linked_texts parts))
 
-  cycle_or_good : models_of text ≡ Ok parts → IsFit parts → FaultOr (IsCycleFault text parts) Good
+  cycle_or_good : models_of text ≡ Ok parts → IsFit text parts → FaultOr (IsCycleFault text parts) Good
   cycle_or_good said fit =
       ⊎_elim
       (λ acyclic. inr (record { models = linked parts; texts = linked_texts parts; fits = hierarchy-of text parts said fit; is = refl; acyclic = acyclic }))
@@ -86,7 +86,7 @@ module _ (text : List ℕ) (parts : Parts) where
       some-sought TooDeep (Finds (IsTooDeep (linked parts))) (title_place text (titles_in parts)) (FromDriven text parts) Good (deep-some (linked parts)) (λ shallow.
       some-asked DrivenBySubckt (place_in (first_driven parts)) (FromUndriven text parts) Good (λ apart.
       some-asked Undriven (place_in (first_undriven parts)) (FromLarge text parts) Good (λ driven.
-      some-sought TooLarge (FindsPast (linked parts) signal_limit) (λ k. title_place text (titles_in parts) (in_top k)) (IsCycleFault text parts) Good (past-some (linked parts) signal_limit) (λ few.
+      some-sought TooLarge (FindsPast (linked parts) (scale_of text parts)) (λ k. title_place text (titles_in parts) (in_top k)) (IsCycleFault text parts) Good (past-some (linked parts) (scale_of text parts)) (λ few.
       cycle_or_good said (record {
         known = none-in (first_unknown parts) known;
         connected = none-in (first_bad parts) connected;
@@ -110,12 +110,12 @@ module _ (text : List ℕ) (parts : Parts) where
       (one-sought TooDeep (Finds (IsTooDeep (linked parts))) (title_place text (titles_in parts)) (FromDriven text parts) (one-found (IsTooDeep (linked parts)))
       (one-asked DrivenBySubckt (place_in (first_driven parts)) (FromUndriven text parts)
       (one-asked Undriven (place_in (first_undriven parts)) (FromLarge text parts)
-      (one-sought TooLarge (FindsPast (linked parts) signal_limit) (λ k. title_place text (titles_in parts) (in_top k)) (IsCycleFault text parts) (past-one (linked parts) signal_limit)
+      (one-sought TooLarge (FindsPast (linked parts) (scale_of text parts)) (λ k. title_place text (titles_in parts) (in_top k)) (IsCycleFault text parts) (past-one (linked parts) (scale_of text parts))
       one-cycle))))))
 
   module _ (fault : BlifFault) where
     -- where models fit together, the fault is that of a cycle
-    cycle-left : IsFit parts → IsModelsFault text parts fault → IsCycleFault text parts fault
+    cycle-left : IsFit text parts → IsModelsFault text parts fault → IsCycleFault text parts fault
     cycle-left fit is =
         let bad = rest-asked UnknownModel (place_in (first_unknown parts)) (FromBad text parts) fault (ap place_in fit.known) is in
         let recursion = rest-asked BadConnection (place_in (first_bad parts)) (FromRecursion text parts) fault (ap place_in fit.connected) bad in
@@ -123,7 +123,7 @@ module _ (text : List ℕ) (parts : Parts) where
         let driven = rest-sought TooDeep (Finds (IsTooDeep (linked parts))) (title_place text (titles_in parts)) (FromDriven text parts) fault (one-found (IsTooDeep (linked parts))) fit.shallow deep in
         let undriven = rest-asked DrivenBySubckt (place_in (first_driven parts)) (FromUndriven text parts) fault (ap place_in fit.apart) driven in
         let large = rest-asked Undriven (place_in (first_undriven parts)) (FromLarge text parts) fault (ap place_in fit.driven) undriven in
-        rest-sought TooLarge (FindsPast (linked parts) signal_limit) (λ k. title_place text (titles_in parts) (in_top k)) (IsCycleFault text parts) fault (past-one (linked parts) signal_limit) fit.few large
+        rest-sought TooLarge (FindsPast (linked parts) (scale_of text parts)) (λ k. title_place text (titles_in parts) (in_top k)) (IsCycleFault text parts) fault (past-one (linked parts) (scale_of text parts)) fit.few large
 
     -- rules that find nothing
     pub after-known : first_unknown parts ≡ None → FromBad text parts fault → IsModelsFault text parts fault
@@ -156,10 +156,10 @@ module _ (text : List ℕ) (parts : Parts) where
         after-apart known connected finite shallow apart
         (then-asked Undriven (place_in (first_undriven parts)) (FromLarge text parts) fault (ap place_in driven) rest)
 
-    pub after-fit : IsFit parts → IsCycleFault text parts fault → IsModelsFault text parts fault
+    pub after-fit : IsFit text parts → IsCycleFault text parts fault → IsModelsFault text parts fault
     after-fit fit rest =
         after-driven fit.known fit.connected fit.finite fit.shallow fit.apart fit.driven
-        (then-sought TooLarge (FindsPast (linked parts) signal_limit) (λ k. title_place text (titles_in parts) (in_top k)) (IsCycleFault text parts) fault fit.few rest)
+        (then-sought TooLarge (FindsPast (linked parts) (scale_of text parts)) (λ k. title_place text (titles_in parts) (in_top k)) (IsCycleFault text parts) fault fit.few rest)
 
 abbrev Some-reading : List ℕ → Type 0
 Some-reading text = (read : Result Design BlifFault) × IsReading text read

@@ -12,7 +12,8 @@ use Rattle.blif_hierarchy.specs.declared.place.PlacementAt.{PlacementAt}
 use Rattle.blif_hierarchy.specs.Depth.{depth_of, IsTooDeep}
 use Rattle.blif_hierarchy.specs.First.{Finds}
 use Rattle.blif_hierarchy.specs.Order.{model_graph, IsRecursive}
-use Rattle.blif_hierarchy.specs.Sums.{FindsPast, instances_with, IsPast, placements_of, signals_with}
+use Rattle.blif_hierarchy.specs.declared.cost.Scale.{Scale}
+use Rattle.blif_hierarchy.specs.Sums.{FindsPast, instances_with, IsPast, placements_of, signals_with, size_with}
 use Rattle.blif_reader.proofs.Asking.{some-found}
 
 get-below : {X : Type 0} (xs : List X) (i : ℕ) (x : X) → slice_get xs i ≡ Some x → i < length xs
@@ -77,35 +78,38 @@ module _ {Line : Type 0} (models : List (Model Line)) where
       (λ model k is. get-below (placements_in (items_of models model)) k is.placement is.there)
 
   -- the first placement of the top with which a limit is passed
-  past : (limit k : ℕ) → Decided (IsPast models limit k)
-  past limit k =
+  past : (scale : Scale) (k : ℕ) → Decided (IsPast models scale k)
+  past scale k =
       ⊎_elim (λ signals. inl (inl signals))
-      (λ few. ⊎_elim (λ instances. inl (inr instances))
-      (λ fewer. inr (λ is. ⊎_elim (λ signals. omega (arith, signals, few)) (λ instances. omega (arith, instances, fewer)) is))
-      (cases_lt limit (instances_with models (suc k))))
-      (cases_lt limit (signals_with models (suc k)))
+      (λ few. ⊎_elim (λ instances. inl (inr (inl instances)))
+      (λ fewer. ⊎_elim (λ size. inl (inr (inr size)))
+      (λ small. inr (λ is. ⊎_elim (λ signals. omega (arith, signals, few))
+      (λ rest. ⊎_elim (λ instances. omega (arith, instances, fewer)) (λ size. omega (arith, size, small)) rest) is))
+      (cases_lt scale.size (size_with models scale.starts (suc k))))
+      (cases_lt scale.count (instances_with models (suc k))))
+      (cases_lt scale.count (signals_with models (suc k)))
 
-  first_past : (limit count : ℕ) → ((k : ℕ) → k < count → IsPast models limit k → ⊥)
-      ⊎ ((k : ℕ) × (k < count) × IsPast models limit k × ((j : ℕ) → j < k → IsPast models limit j → ⊥))
-  first_past limit zero = inl (λ k lt is. omega arith)
-  first_past limit (suc count) =
+  first_past : (scale : Scale) (count : ℕ) → ((k : ℕ) → k < count → IsPast models scale k → ⊥)
+      ⊎ ((k : ℕ) × (k < count) × IsPast models scale k × ((j : ℕ) → j < k → IsPast models scale j → ⊥))
+  first_past scale zero = inl (λ k lt is. omega arith)
+  first_past scale (suc count) =
       ⊎_elim
       (λ none. ⊎_elim (λ here. inr (count, omega arith, here, none))
       (λ not_here. inl (λ k lt is. ⊎_elim (λ below. none k below is)
-      (λ after. let last : k ≡ count = omega arith in not_here (subst (IsPast models limit) last is)) (cases_lt k count)))
-      (past limit count))
-      (λ found. inr (found.0, omega (arith, found.1), found.2, found.3)) (first_past limit count)
+      (λ after. let last : k ≡ count = omega arith in not_here (subst (IsPast models scale) last is)) (cases_lt k count)))
+      (past scale count))
+      (λ found. inr (found.0, omega (arith, found.1), found.2, found.3)) (first_past scale count)
 
-  pub past-some : (limit : ℕ) → (found : Option ℕ) × FindsPast models limit found
-  past-some limit =
+  pub past-some : (scale : Scale) → (found : Option ℕ) × FindsPast models scale found
+  past-some scale =
       ⊎_elim (λ none. (None, none)) (λ found. (Some found.0, record { there = found.1; past = found.2; first = found.3 }))
-      (first_past limit (length (placements_of models 0)))
+      (first_past scale (length (placements_of models 0)))
 
-  pub past-one : (limit : ℕ) (a b : Option ℕ) → FindsPast models limit a → FindsPast models limit b → a ≡ b
-  past-one limit None None first second = refl
-  past-one limit None (Some k) first second = absurd (first k second.there second.past)
-  past-one limit (Some k) None first second = absurd (second k first.there first.past)
-  past-one limit (Some k) (Some j) first second =
+  pub past-one : (scale : Scale) (a b : Option ℕ) → FindsPast models scale a → FindsPast models scale b → a ≡ b
+  past-one scale None None first second = refl
+  past-one scale None (Some k) first second = absurd (first k second.there second.past)
+  past-one scale (Some k) None first second = absurd (second k first.there first.past)
+  past-one scale (Some k) (Some j) first second =
       ⊎_elim (λ below. absurd (second.first k below first.past))
       (λ upper. ⊎_elim (λ below. absurd (first.first j below second.past)) (λ lower. ap Some (let same : k ≡ j = omega arith in same)) (cases_lt j k))
       (cases_lt k j)

@@ -18,7 +18,8 @@ use Rattle.blif_hierarchy.specs.declared.place.PlacementAt.{PlacementAt}
 use Rattle.blif_hierarchy.specs.Depth.{IsTooDeep}
 use Rattle.blif_hierarchy.specs.First.{Finds, IsClosed}
 use Rattle.blif_hierarchy.specs.Order.{IsRecursive}
-use Rattle.blif_hierarchy.specs.Sums.{AreInForm, FindsPast}
+use Rattle.blif_hierarchy.specs.declared.cost.Scale.{Scale}
+use Rattle.blif_hierarchy.specs.Sums.{AreInForm, FindsPast, FitsWords}
 use Rattle.blif_flat.specs.Flat.{Models, flat_design, flat_outputs, AreSound}
 use Rattle.blif_flat.specs.Inputs.{design_in}
 use Rattle.blif_flat.specs.Lines.{mentions_of}
@@ -36,13 +37,14 @@ use Rattle.blif_model.specs.Scanning.{word_of}
 use Rattle.blif_model.proofs.Held.{models-few}
 use Rattle.blif_linking.specs.Linked.{IsHierarchy, linked, linked_model}
 use Rattle.blif_linking.specs.Names.{Parts, first_bad, first_driven, first_undriven, first_unknown}
+use Rattle.blif_linking.specs.Sizes.{scale_of, start_of, starts_of}
 use Rattle.blif_linking.specs.declared.linking.LinkedModels.{LinkedModels}
 use Rattle.blif_laws.specs.Plain.{IsPlain}
 use Rattle.blif_laws.proofs.Bounds.{few-signals}
 use Rattle.blif_laws.proofs.Hierarchies.{are-sound, flat-sound, names-are-plain, placements-closed, placements-formed, signals-few, tables-few}
 use Rattle.blif_reader.specs.declared.kept.Kept.{Kept}
 use Rattle.blif_reader.specs.Faults.{FromBad, FromDeep, FromDriven, FromLarge, FromRecursion, FromUndriven, IsCycleFault, in_top, place_in, title_at, title_place, titles_in, titles_of}
-use Rattle.blif_reader.specs.Kept.{IsFlat, IsLinked, line_titles, model_titles, span_place, title_span}
+use Rattle.blif_reader.specs.Kept.{IsFlat, IsLinked, line_titles, model_titles, scale_in, span_place, start_at, starts_in, title_span}
 use Rattle.blif_reader.specs.Meaning.{IsWholeFault}
 use Rattle.blif_reader.proofs.Asking.{here-asked, here-sought}
 use Rattle.blif_reader.proofs.Readings.{IsFit, after-apart, after-connected, after-driven, after-finite, after-fit, after-known, after-shallow, fit-of, hierarchy-of, none-in, tables-of}
@@ -74,6 +76,30 @@ titles_part whole (part ∷ parts) = ap (λ (rest : List (List ℕ)). titles_of 
 pub titles-kept : (whole : List ℕ) (text : FileText) (parts : Parts) → IsNumbered whole text parts → map model_titles text.models ≡ titles_in parts
 titles-kept whole text parts numbered =
     titles_model whole text.models ∙ ap (λ (all : List (Part OwnLines)). map (titles_of {Own = OwnLines}) all) numbered.0 ∙ titles_part whole parts
+
+-- where models begin, by spans and by words
+start_is : (whole : List ℕ) (title : Option Span) → start_at title ≡ start_of (option_map (word_of whole) title)
+start_is whole None = refl
+start_is whole (Some title) = refl
+
+starts_model : (whole : List ℕ) (size : ℕ) (models : List FileModel) → starts_in size models ≡ starts_of {Own = OwnLines} size (map (part_in whole) models)
+starts_model whole size [] = refl
+starts_model whole size (model ∷ models) =
+    ap (λ (n : ℕ). n ∷ starts_in size models) (start_is whole model.title)
+    ∙ ap (λ (ns : List ℕ). start_of (option_map (word_of whole) model.title) ∷ ns) (starts_model whole size models)
+
+starts_part : (whole : List ℕ) (size : ℕ) (parts : Parts) → starts_of {Own = OwnLines} size (map (numbered_part whole) parts) ≡ starts_of size parts
+starts_part whole size [] = refl
+starts_part whole size (part ∷ parts) = ap (λ (rest : List ℕ). start_of part.title ∷ rest) (starts_part whole size parts)
+
+abbrev with-starts : List ℕ → Scale
+with-starts starts = record { count = signal_limit; size = file_limit; starts = starts }
+
+pub scale-kept : (whole : List ℕ) (text : FileText) (parts : Parts) → IsNumbered whole text parts → scale_in whole text.models ≡ scale_of whole parts
+scale-kept whole text parts numbered =
+    ap with-starts
+    (starts_model whole (length whole) text.models ∙ ap (λ (all : List (Part OwnLines)). starts_of {Own = OwnLines} (length whole) all) numbered.0
+    ∙ starts_part whole (length whole) parts)
 
 -- before models are linked
 module _ (whole : List ℕ) (parts : Parts) (said : models_of whole ≡ Ok parts) where
@@ -127,8 +153,13 @@ module _ (whole : List ℕ) (all : LinkedModels) (kept : Kept) (is : IsLinked wh
   depth_of : (found : Option PlacementAt) → Finds (IsTooDeep all.models) found → Finds (IsTooDeep (linked is.parts)) found
   depth_of found finds = subst (λ (ms : Models). Finds (IsTooDeep ms) found) is.models_are finds
 
-  past_of : (found : Option ℕ) → FindsPast all.models signal_limit found → FindsPast (linked is.parts) signal_limit found
-  past_of found finds = subst (λ (ms : Models). FindsPast ms signal_limit found) is.models_are finds
+  past_of : (found : Option ℕ) → FindsPast all.models kept.scale found → FindsPast (linked is.parts) (scale_of whole is.parts) found
+  past_of found finds =
+      subst (λ (scale : Scale). FindsPast (linked is.parts) scale found) is.keeps.scale_is
+      (subst (λ (ms : Models). FindsPast ms kept.scale found) is.models_are finds)
+
+  pub linked-words : FitsWords kept.scale
+  linked-words = subst FitsWords (sym is.keeps.scale_is) (omega arith, omega arith)
 
   pub recursion-fault : (found : Option PlacementAt) (at : PlacementAt) (place : Place) → Finds (IsRecursive all.models) found → found ≡ Some at
       → place ≡ title_place whole kept.titles at → IsWholeFault whole (ModelRecursion place)
@@ -190,19 +221,19 @@ module _ (whole : List ℕ) (all : LinkedModels) (kept : Kept) (is : IsLinked wh
           each : first_undriven is.parts ≡ None
           each = none-in (first_undriven is.parts) (sym is.keeps.undriven_is ∙ ap (span_place whole) driven)
 
-          pub large-fault : (found : Option ℕ) (k : ℕ) (place : Place) → FindsPast all.models signal_limit found → found ≡ Some k
+          pub large-fault : (found : Option ℕ) (k : ℕ) (place : Place) → FindsPast all.models kept.scale found → found ≡ Some k
               → place ≡ title_place whole kept.titles (in_top k) → IsWholeFault whole (TooLarge place)
           large-fault found k place finds some same = record {
             parts = is.parts;
             said = is.said;
             first = after-driven whole is.parts (TooLarge place) is.known is.connected never low single each
-                (here-sought TooLarge (FindsPast (linked is.parts) signal_limit) (λ n. title_place whole (titles_in is.parts) (in_top n)) (IsCycleFault whole is.parts) k (TooLarge place)
-                (past_of (Some k) (subst (λ (f : Option ℕ). FindsPast all.models signal_limit f) some finds)) (ap TooLarge (titled (in_top k) place same)));
+                (here-sought TooLarge (FindsPast (linked is.parts) (scale_of whole is.parts)) (λ n. title_place whole (titles_in is.parts) (in_top n)) (IsCycleFault whole is.parts) k (TooLarge place)
+                (past_of (Some k) (subst (λ (f : Option ℕ). FindsPast all.models kept.scale f) some finds)) (ap TooLarge (titled (in_top k) place same)));
           }
 
           -- and the sums are in bounds
-          module _ (large : Option ℕ) (summed : FindsPast all.models signal_limit large) (few : large ≡ None) where
-            fit : IsFit is.parts
+          module _ (large : Option ℕ) (summed : FindsPast all.models kept.scale large) (few : large ≡ None) where
+            fit : IsFit whole is.parts
             fit = record {
               known = is.known;
               connected = is.connected;
@@ -210,7 +241,7 @@ module _ (whole : List ℕ) (all : LinkedModels) (kept : Kept) (is : IsLinked wh
               shallow = low;
               apart = single;
               driven = each;
-              few = past_of None (subst (λ (f : Option ℕ). FindsPast all.models signal_limit f) few summed);
+              few = past_of None (subst (λ (f : Option ℕ). FindsPast all.models kept.scale f) few summed);
             }
 
             pub fits : IsHierarchy whole all.models all.texts

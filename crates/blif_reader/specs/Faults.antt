@@ -18,10 +18,10 @@ use Rattle.blif_model.specs.declared.fault.BlifFault.{BlifFault}
 use Rattle.blif_model.specs.declared.fault.BlifFault.TheVariants.{UnknownModel, BadConnection, ModelRecursion, TooDeep, DrivenBySubckt, Undriven, TooLarge, CombinationalCycle}
 use Rattle.blif_model.specs.Files.{Part, Placing}
 use Rattle.blif_model.specs.Models.{Model}
-use Rattle.blif_model.specs.Rules.{signal_limit}
 use Rattle.blif_linking.specs.Linked.{linked, linked_texts}
 use Rattle.blif_linking.specs.Links.{title_in}
 use Rattle.blif_linking.specs.Names.{Parts, first_bad, first_driven, first_undriven, first_unknown}
+use Rattle.blif_linking.specs.Sizes.{scale_of}
 
 -- where a rule finds something, it is at fault there; else the rest is asked
 abbrev pub Asks : (Place → BlifFault) → Option Place → (BlifFault → Type 0) → BlifFault → Type 0
@@ -66,10 +66,11 @@ pub record IsCycleFault (text : List ℕ) (parts : Parts) (fault : BlifFault) : 
   pub first : IsFirstOnCycle (table_graph (flat_design (linked parts) (linked_texts parts)).tables) table
   pub is : fault ≡ CombinationalCycle (place_at text (slice_index (flat_outputs (flat_lines (linked parts))) table))
 
--- TooLarge: the first `.subckt` of the top with which there are too many signals, or too many instances
+-- TooLarge: the first `.subckt` of the top with which there are too many signals, or too many instances, or their lines and
+-- names take too much
 abbrev pub FromLarge : List ℕ → Parts → BlifFault → Type 0
 FromLarge text parts =
-    IsSought TooLarge (FindsPast (linked parts) signal_limit) (λ k. title_place text (titles_in parts) (in_top k))
+    IsSought TooLarge (FindsPast (linked parts) (scale_of text parts)) (λ k. title_place text (titles_in parts) (in_top k))
     (IsCycleFault text parts)
 
 -- Undriven: a name that is used, and that nothing drives

@@ -1,18 +1,22 @@
 -- What is kept of a text before its models are linked, and what is found of them, each as the definitions say.
-use Rattle.std.specs.Prelude.{◌≡◌, ℕ, List, [], ◌∷◌, map, Option, None, Ok}
+use Rattle.std.specs.Prelude.{◌≡◌, ℕ, List, [], ◌∷◌, ◌++◌, length, map, Option, None, Some, Ok}
 use Rattle.std.specs.Option.{option_map}
+use Rattle.psl_base.specs.Places.{file_limit}
 use Rattle.psl_base.specs.declared.place.Place.{Place}
 use Rattle.blif_flattening.specs.Hierarchy.{flat_lines}
 use Rattle.blif_flat.specs.Flat.{flat_design, flat_outputs, Models}
 use Rattle.blif_flat.specs.Inputs.{design_in}
 use Rattle.blif_flat.specs.declared.flat.FlatNetlist.{FlatNetlist}
+use Rattle.blif_hierarchy.specs.declared.cost.Scale.{Scale}
 use Rattle.blif_model.specs.declared.file.FileModel.{FileModel}
 use Rattle.blif_model.specs.declared.file.PlacementLine.{PlacementLine}
 use Rattle.blif_model.specs.declared.pieces.Span.{Span}
 use Rattle.blif_model.specs.Files.{models_of}
+use Rattle.blif_model.specs.Rules.{signal_limit}
 use Rattle.blif_model.specs.Scanning.{word_of}
 use Rattle.blif_linking.specs.Linked.{linked, linked_texts, IsHierarchy}
 use Rattle.blif_linking.specs.Names.{Parts, first_bad, first_driven, first_undriven, first_unknown}
+use Rattle.blif_linking.specs.Sizes.{scale_of}
 use Rattle.blif_linking.specs.declared.linking.LinkedModels.{LinkedModels}
 use Rattle.blif_reader.specs.declared.kept.Kept.{Kept}
 use Rattle.blif_reader.specs.Faults.{place_in, titles_in}
@@ -31,6 +35,17 @@ line_titles lines = map (λ (line : PlacementLine). (title_span line).at) lines
 abbrev pub model_titles : FileModel → List ℕ
 model_titles model = line_titles model.placements
 
+-- where the lines of models begin, and those of the last one end; how large their flat netlist may be
+abbrev pub start_at : Option Span → ℕ
+start_at None = 0
+start_at (Some title) = title.at
+
+abbrev pub starts_in : ℕ → List FileModel → List ℕ
+starts_in size models = map (λ (model : FileModel). start_at model.title) models ++ size ∷ []
+
+abbrev pub scale_in : List ℕ → List FileModel → Scale
+scale_in whole models = record { count = signal_limit; size = file_limit; starts = starts_in (length whole) models }
+
 -- the place of a word
 abbrev pub span_place : List ℕ → Option Span → Option Place
 span_place whole span = option_map (λ (word : Span). (word_of whole word).place) span
@@ -38,6 +53,7 @@ span_place whole span = option_map (λ (word : Span). (word_of whole word).place
 -- what is kept is of these models
 pub record IsKept (whole : List ℕ) (parts : Parts) (kept : Kept) : Type 0 where
   pub titles_are : kept.titles ≡ titles_in parts
+  pub scale_is : kept.scale ≡ scale_of whole parts
   pub driven_is : span_place whole kept.driven ≡ place_in (first_driven parts)
   pub undriven_is : span_place whole kept.undriven ≡ place_in (first_undriven parts)
 

@@ -18,9 +18,6 @@ use blif_model::{BlifFault, FileText};
 use netlist::Netlist;
 use std::alloc::Global;
 
-/// How many signals, and how many instances, a hierarchy has at most.
-const MOST: u32 = 65_536;
-
 /// The netlist of the models that bytes say.
 pub(crate) fn netlist_of_models<'a>(
     alloc: Global,
@@ -73,7 +70,7 @@ fn netlist_of_linked(
     if let Some(word) = kept.undriven {
         return Err(BlifFault::Undriven(place_at(bytes, word.at)));
     }
-    if let Some(placement) = first_too_large(alloc, &all.models, MOST)? {
+    if let Some(placement) = first_too_large(alloc, &all.models, &kept.scale)? {
         let found = PlacementAt {
             model: 0,
             placement,

@@ -5,5 +5,5 @@ use Rattle.blif_hierarchy.proofs.cost.cost_in.Given as goal
 
 abbrev pub invariant-loop-item : goal.invariant-loop-item
 invariant-loop-item g l =
-    fold (with_placement l.models l.cap l.costs) l.sum (placements_in (drop l.item-index l.items))
-    ≡ fold (with_placement l.models l.cap l.costs) no_cost (placements_in l.items)
+    fold (with_placement l.models l.scale l.costs) l.sum (placements_in (drop l.item-index l.items))
+    ≡ fold (with_placement l.models l.scale l.costs) no_cost (placements_in l.items)

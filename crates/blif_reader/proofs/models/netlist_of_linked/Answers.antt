@@ -1,5 +1,5 @@
 use Rattle.std.proofs.Common.{inr}
-use Rattle.blif_reader.proofs.Steps.{deep-fault, driven-fault, few-flat, fits, large-fault, linked-closed, linked-few, linked-form, sound-models, undriven-fault}
+use Rattle.blif_reader.proofs.Steps.{deep-fault, driven-fault, few-flat, fits, large-fault, linked-closed, linked-few, linked-form, linked-words, sound-models, undriven-fault}
 use Rattle.blif_reader.proofs.models.netlist_of_linked.Goals as goal
 
 pub first_recursive-requires-clause-closed : goal.first_recursive-requires-clause-closed
@@ -32,6 +32,9 @@ first_too_large-requires-clause-closed c = linked-closed c.args.bytes.now c.args
 
 pub first_too_large-requires-clause-form : goal.first_too_large-requires-clause-form
 first_too_large-requires-clause-form c = linked-form c.args.bytes.now c.args.all.now c.args.kept.now c.requires.linked
+
+pub first_too_large-requires-clause-words : goal.first_too_large-requires-clause-words
+first_too_large-requires-clause-words c = linked-words c.args.bytes.now c.args.all.now c.args.kept.now c.requires.linked
 
 pub returns-in-Some-3-clause-err : goal.returns-in-Some-3-clause-err
 returns-in-Some-3-clause-err c =
