@@ -11,6 +11,7 @@ use Rattle.netlist.specs.Sound.{IsSound}
 use Rattle.netlist.specs.Valuations.{IsFilled}
 use Rattle.netlist.specs.declared.latch.Latch.{Latch}
 use Rattle.netlist.specs.declared.table.Table.{Table}
+use Rattle.replay.proofs.First.{leaves-first}
 use Rattle.replay.proofs.Missing.{found-same}
 use Rattle.replay.proofs.Sample.{number-is, numbers_in}
 use Rattle.replay.specs.Answers.{IsReplay, Tells}
@@ -100,5 +101,7 @@ module _ (design : Design) (recording : Sampled) (some : SomeValuation design) w
     none = none;
     valuations = computed_at;
     computed = are-computed;
+    found = leaves design recording computed_at;
+    first = leaves-first design recording computed_at;
     tells = subst (λ (f : Option (ℕ × ℕ)). Tells design f answer) (is computed_at are-computed) told;
   }

@@ -1,4 +1,5 @@
 mod Answering
+mod First
 mod Lowest
 mod Missing
 mod Named

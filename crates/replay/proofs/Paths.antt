@@ -20,6 +20,7 @@ use Rattle.netlist.specs.declared.run.Run.{Run}
 use Rattle.netlist.specs.declared.table.Table.{Table}
 use Rattle.psl_layer_theory.specs.LookUp.{ends_named, first_filled, found_among, is_named}
 use Rattle.psl_tree.specs.declared.name.Name.{Name}
+use Rattle.replay.proofs.First.{first-one, leaves-first}
 use Rattle.replay.specs.Answers.{IsMissing, IsReplay, Tells}
 use Rattle.replay.specs.Leaving.{differ, differs_from, first_from, first_of, latch_leaves, leaves, leaving, lowest, output_leaves, table_leaves}
 use Rattle.replay.specs.Paths.{HasPlainNames}
@@ -204,7 +205,8 @@ is-path design sound one run loops is plain answer replay =
     let recording = trace_sampled Zero design run loops in
     let count : length recording.samples ≡ count_of run loops = length-map-range_with_len (λ (n : ℕ). letters_of (valuation_in run n)) 0 (count_of run loops) in
     subst (λ (found : Option (ℕ × ℕ)). Tells design found answer)
-    (no-leave design run loops plain sound is replay.valuations (λ sample within.
+    (first-one design recording replay.valuations replay.found (leaves design recording replay.valuations) replay.first (leaves-first design recording replay.valuations)
+    ∙ no-leave design run loops plain sound is replay.valuations (λ sample within.
     one (free_at design recording sample) (replay.valuations sample) (valuation_in run sample) (replay.computed sample (omega (arith, count, within))) (trace-filled design run loops plain sound is sample within)))
     replay.tells
 

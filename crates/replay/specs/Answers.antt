@@ -1,7 +1,7 @@
 -- What is answered of a recording and a netlist.
 use Rattle.std.specs.Prelude.{◌≡◌, ℕ, Bool as Truth, List, Option, None, Some}
 use Rattle.netlist.specs.Design.{Design}
-use Rattle.replay.specs.Leaving.{leaves}
+use Rattle.replay.specs.Leaving.{LeavesFirst}
 use Rattle.replay.specs.Recorded.{AreComputed, first_missing}
 use Rattle.replay.specs.declared.answer.Replay.{Replay}
 use Rattle.replay.specs.declared.answer.Replay.TheVariants as replays
@@ -20,7 +20,9 @@ pub record IsReplay (design : Design) (recording : Sampled) (answer : Replay) : 
   pub none : first_missing design recording ≡ None
   pub valuations : ℕ → List Truth
   pub computed : AreComputed design recording valuations
-  pub tells : Tells design (leaves design recording valuations) answer
+  pub found : Option (ℕ × ℕ)
+  pub first : LeavesFirst design recording valuations found
+  pub tells : Tells design found answer
 
 -- a fault names the first input or latch that is not recorded
 abbrev pub IsMissing : Design → Sampled → ReplayFault → Type 0

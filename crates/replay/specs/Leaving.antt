@@ -1,5 +1,5 @@
 -- Where a recording leaves a netlist.
-use Rattle.std.specs.Prelude.{ℕ, zero, suc, ◌+◌, nat_lt, Bool as Truth, true, false, not, cond, List, [], ◌∷◌, ◌++◌, map, length, Option, None, Some}
+use Rattle.std.specs.Prelude.{◌≡◌, ℕ, zero, suc, ◌+◌, ◌<◌, ◌≤◌, ◌⊎◌, nat_lt, Bool as Truth, true, false, not, cond, List, [], ◌∷◌, ◌++◌, map, length, Option, None, Some}
 use Rattle.std.specs.List.{filter}
 use Rattle.netlist.specs.Design.{Design}
 use Rattle.netlist.specs.Valuations.{bit}
@@ -40,6 +40,30 @@ abbrev pub leaving : Design → Sampled → (ℕ → List Truth) → ℕ → Lis
 leaving design recording valuations sample =
     map (λ latch. latch.output) (filter (latch_leaves design recording valuations sample) design.latches)
     ++ map (λ table. table.output) (filter (table_leaves design recording valuations sample) design.tables)
+
+-- a signal leaves it there
+abbrev pub IsOneOf : ℕ → List ℕ → Type 0
+IsOneOf number [] = ⊥
+IsOneOf number (other ∷ numbers) = (other ≡ number) ⊎ IsOneOf number numbers
+
+abbrev pub LeavesAt : Design → Sampled → (ℕ → List Truth) → ℕ → ℕ → Type 0
+LeavesAt design recording valuations sample signal = IsOneOf signal (leaving design recording valuations sample)
+
+-- a signal leaves it at a sample of the recording, none with a lower number does there, and none at an earlier sample
+pub record IsFirst (design : Design) (recording : Sampled) (valuations : ℕ → List Truth) (sample signal : ℕ) : Type 0 where
+  pub within : sample < length recording.samples
+  pub leaves : LeavesAt design recording valuations sample signal
+  pub lowest : (other : ℕ) → LeavesAt design recording valuations sample other → signal ≤ other
+  pub before : (earlier other : ℕ) → earlier < sample → LeavesAt design recording valuations earlier other → ⊥
+
+-- where a recording leaves a netlist: there first, or nowhere
+abbrev pub LeavesFirst : Design → Sampled → (ℕ → List Truth) → Option (ℕ × ℕ) → Type 0
+LeavesFirst design recording valuations None =
+    (sample signal : ℕ) → sample < length recording.samples → LeavesAt design recording valuations sample signal → ⊥
+LeavesFirst design recording valuations (Some (sample, signal)) = IsFirst design recording valuations sample signal
+
+-- How that is searched for: what the code is proved against, and what examples are computed by. That it is just this is a
+-- law (`first_law`).
 
 -- the lower of a number and another, where that is there
 abbrev pub lower : Option ℕ → ℕ → Option ℕ

@@ -1,12 +1,15 @@
-ghost use Rattle.std.specs.Prelude.{◌≡◌, ◌⊎◌, ℕ, Result, Ok, Err, IfOk, IfErr};
+ghost use Rattle.std.specs.Prelude.{◌≡◌, ◌⊎◌, ℕ, Bool as Truth, List, Option, Result, Ok, Err, IfOk, IfErr};
+ghost use Rattle.netlist.specs.Design.{Design};
 ghost use Rattle.netlist.specs.Runs.{IsRun};
 ghost use Rattle.netlist.specs.declared.run.Run.{Run};
 ghost use Rattle.replay.specs.Answers.{IsMissing, IsReplay};
 ghost use Rattle.replay.specs.Examples.{AreReplayed};
+ghost use Rattle.replay.specs.Leaving.{LeavesFirst, leaves};
 ghost use Rattle.replay.specs.Paths.{HasPlainNames};
 ghost use Rattle.replay.specs.declared.answer.Replay.{Replay};
 ghost use Rattle.replay.specs.declared.answer.ReplayFault.{ReplayFault};
 ghost use Rattle.trace.specs.Trace.{trace_sampled};
+ghost use Rattle.vcd_reader.specs.Sampled.{Sampled};
 ghost use Rattle.vcd_reader.specs.declared.unknown.Unknown.{Unknown};
 
 use netlist::{Netlist, one_valuation_law, soundness_law};
@@ -21,6 +24,15 @@ pub fn path_law(netlist: &Netlist)
     soundness_law(netlist);
     one_valuation_law(netlist);
 }
+
+/// A law of the definitions: a recording leaves a netlist first at one sample and with one signal, or nowhere; `leaves`
+/// computes which.
+pub fn first_law()
+    ensures is { (design : Design) (recording : Sampled) (valuations : ℕ → List Truth)
+        → LeavesFirst design recording valuations (leaves design recording valuations) }
+    ensures one { (design : Design) (recording : Sampled) (valuations : ℕ → List Truth) (one other : Option (ℕ × ℕ))
+        → LeavesFirst design recording valuations one → LeavesFirst design recording valuations other → one ≡ other }
+{}
 
 /// Recordings compared by hand.
 pub fn examples_law()

@@ -9,5 +9,5 @@ mod replaying;
 mod values;
 
 pub use answer::{Replay, ReplayFault};
-pub use laws::{examples_law, path_law};
+pub use laws::{examples_law, first_law, path_law};
 pub use replaying::replay;
