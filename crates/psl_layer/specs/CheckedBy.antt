@@ -9,7 +9,7 @@ use Rattle.psl_grammar.specs.declared.tree.Statement as code_statement
 use Rattle.psl_tree.specs.declared.name.Name.{Name}
 use Rattle.psl_sugar.specs.declared.operand.Operand.TheVariants as operands
 use Rattle.psl_layer_theory.specs.FirstFlaw.{first_of, earlier}
-use Rattle.psl_layer_theory.specs.Flaws.{prefix_flaws, infix_flaws, side_flaws, side_of, literal_side, is_comparison, repeated_flaws, count_flaws, is_goto, clocked_flaws, grouped_flaws, wants_boolean, wants_sequence, reference_flaws, expression_flaws}
+use Rattle.psl_layer_theory.specs.Flaws.{prefix_flaws, infix_flaws, side_flaws, side_of, literal_side, is_comparison, repeated_flaws, count_flaws, is_goto, clocked_flaws, grouped_flaws, wants_boolean, wants_sequence, reference_flaws, width_in, expression_flaws}
 use Rattle.psl_layer_theory.specs.Kinds.{kind_of, place_of, kind_as, prefix_kind, infix_kind, clocked_kind, grouped_kind}
 use Rattle.psl_layer_theory.specs.Operators.{prefix_operator, repetition_operator}
 use Rattle.psl_layer_theory.specs.declared.fault.Flaw.{Flaw}
@@ -94,7 +94,7 @@ path_checked declared index found place =
     record {
       kind = kind_as declared index;
       place = place;
-      side = if is_some declared && is_none index then sides.Neither else sides.Bits signal;
+      side = if is_some declared && is_none index then sides.Neither else sides.Bits (width_in signal);
       flaw = first_of (if is_some declared && is_none index then [] else reference_flaws signal place);
     }
 

@@ -13,7 +13,7 @@ use crate::nodes::{
 use crate::operators::Operation;
 use crate::scope::Scope;
 use psl_grammar::Expression;
-use psl_names::{NameIndex, operator_before, strength_of};
+use psl_names::{PathIndex, operator_before, strength_of};
 use std::alloc::Global;
 
 /// What expressions are read over: the statements before them in their list, and the names of signals.
@@ -21,7 +21,7 @@ use std::alloc::Global;
 pub(crate) struct Context<'s, 'd, 'n> {
     pub alloc: Global,
     pub scope: &'s Scope<'d>,
-    pub names: &'s NameIndex<'n>,
+    pub names: &'s PathIndex<'n>,
 }
 
 impl<'s, 'd, 'n> Context<'s, 'd, 'n> {

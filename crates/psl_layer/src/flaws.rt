@@ -9,7 +9,7 @@ use crate::order::earlier;
 use psl_base::Place;
 use psl_grammar::Count;
 use psl_layer_theory::{
-    Cause, ExpressionKind, Flaw, InfixOperator, PrefixOperator, Reference, RepetitionOperator, Side,
+    Cause, ExpressionKind, Flaw, InfixOperator, PrefixOperator, RepetitionOperator, Side,
 };
 use psl_lexer::{Token, TokenKind};
 use psl_names::{is_endless, literal_value, number_of};
@@ -63,14 +63,12 @@ fn is_past_width(width: u64, value: u64) -> bool
 }
 
 // The fault of a value that needs more bits than there are.
-fn value_flaw(bits: Reference, value: u64, place: Place) -> Option<Flaw>
-    ensures { result ≡ first_of (spec.value_flaws bits value place) }
+fn value_flaw(width: Option<u64>, value: u64, place: Place) -> Option<Flaw>
+    ensures { result ≡ first_of (spec.value_flaws width value place) }
 {
-    match bits {
-        Reference::Nothing | Reference::Several => None,
-        Reference::Bits { width, .. } => {
-            flaw_where(is_past_width(width, value), Cause::ConstantTooWide, place)
-        }
+    match width {
+        None => None,
+        Some(width) => flaw_where(is_past_width(width, value), Cause::ConstantTooWide, place),
     }
 }
 
@@ -80,8 +78,8 @@ fn side_flaw(left: Side, right: Side, left_place: Place) -> Option<Flaw>
 {
     match (left, right) {
         (Side::Bits(_), Side::Bits(_)) => None,
-        (Side::Bits(bits), Side::Value(value, place))
-        | (Side::Value(value, place), Side::Bits(bits)) => { value_flaw(bits, value, place) }
+        (Side::Bits(width), Side::Value(value, place))
+        | (Side::Value(value, place), Side::Bits(width)) => { value_flaw(width, value, place) }
         _ => flaw_where(true, Cause::Kind, left_place),
     }
 }

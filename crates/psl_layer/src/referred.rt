@@ -1,13 +1,12 @@
-// Where the bits of a path lie.
-ghost use Rattle.std.specs.Prelude.{◌≡◌, ◌≤◌, ◌-◌, min};
-ghost use Rattle.psl_layer.specs.Placed.{width_in, lowest_in};
+// What a path stands for.
+ghost use Rattle.std.specs.Prelude.{◌≤◌};
+ghost use Rattle.psl_layer.specs.Placed.{bits_in};
 
 use psl_layer_theory::Reference;
 
-/// What a path stands for as a signal: there is one bit at least, and several begin at the right end of their signal.
-#[derive(Clone, Copy, Debug)]
+/// What a path stands for, perhaps with an index: where it is bits, there is one at least.
+#[derive(Debug, Drop)]
 pub(crate) struct Referred {
     pub reference: Reference,
-    ghost some: { 1 ≤ width_in reference },
-    ghost low: { min (lowest_in reference) (width_in reference - 1) ≡ 0 },
+    ghost some: { 1 ≤ bits_in reference },
 }

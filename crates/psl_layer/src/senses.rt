@@ -1,7 +1,7 @@
 // Trees of signals and of numbers, and comparisons of them.
-ghost use Rattle.std.specs.Prelude.{◌≡◌, ◌+◌, ◌-◌, ◌<◌, ◌≤◌, ◌^◌, min, IfOk, IfErr};
+ghost use Rattle.std.specs.Prelude.{◌≡◌};
 ghost use Rattle.psl_sugar.specs.Budget.{GivesBoolean};
-ghost use Rattle.psl_sugar.specs.Comparisons.{HasPlaces, comparison_row, width_of};
+ghost use Rattle.psl_sugar.specs.Comparisons.{comparison_row};
 ghost use Rattle.psl_layer_theory.specs.Kernel as kernel;
 ghost use Rattle.psl_layer.specs.Built.{operand_in};
 ghost use Rattle.psl_layer.specs.Rows.{OperatedRow, ReadSense};
@@ -12,56 +12,27 @@ use crate::operators::{Operation, aborted, connect, lasting, sequenced, suffixed
 use crate::referred::Referred;
 use psl_layer_theory::{InfixOperator, Reference};
 use psl_lexer::TokenKind;
-use psl_sugar::{Comparison, MeasuredBool, Operand, SugarFault, Vector};
-use psl_tree::MOST_CONSTRUCTORS;
+use psl_sugar::{Comparison, MeasuredBool, Operand, SugarFault};
 use std::alloc::Global;
 
-// Bits that stand side by side as a vector, if there are not too many for a tree.
-fn vector(signal: u32, lowest: u32, width: u64) -> Result<Vector, SugarFault>
-    requires some { 1 ≤ width }
-    requires low { min lowest (width - 1) ≡ 0 }
-    ensures same { IfOk result (λ new. new ≡ kernel.vector signal lowest width) }
-    ensures some { IfOk result (λ new. 1 ≤ new.width) }
-    ensures places { IfOk result (λ new. new.lowest + new.width ≤ 2 ^ 32) }
-    ensures wide { IfErr result (λ fault. 4096 < width) }
+// A signal, a bit, a vector or a bus as a Boolean.
+fn some_bit(alloc: Global, found: &Referred) -> Result<MeasuredBool, SugarFault>
+    ensures { GivesBoolean result (kernel.bits_meaning found.now.reference) }
 {
-    if width > MOST_CONSTRUCTORS {
-        return Err(SugarFault::TooLarge);
-    }
-    Ok(Vector {
-        signal,
-        lowest,
-        width: width as u32,
-    })
-}
-
-// A signal, a bit or a vector as a Boolean.
-fn some_bit(alloc: Global, found: Referred) -> Result<MeasuredBool, SugarFault>
-    ensures { GivesBoolean result (kernel.bits_meaning found.reference) }
-{
-    match found.reference {
+    match &found.reference {
         Reference::Nothing | Reference::Several => Ok(MeasuredBool::constant(false)),
-        Reference::Bits {
-            signal,
-            lowest,
-            width,
-        } => MeasuredBool::some_bit(alloc, vector(signal, lowest, width)?),
+        Reference::Bits(bits) => MeasuredBool::some_bit(alloc, bits),
     }
 }
 
-// Bits as a side of a comparison, if there are not too many for a tree.
-fn bits_operand(found: Referred) -> Result<Operand, SugarFault>
-    ensures same { IfOk result (λ new. new ≡ kernel.bits_operand found.reference) }
-    ensures places { IfOk result HasPlaces }
-    ensures wide { IfErr result (λ fault. 4096 < width_of (kernel.bits_operand found.reference)) }
+// The same as a side of a comparison.
+fn bits_operand(found: Referred) -> Operand
+    ensures { result ≡ kernel.bits_operand found.reference }
 {
-    match found.reference {
-        Reference::Nothing | Reference::Several => Ok(Operand::Value(0)),
-        Reference::Bits {
-            signal,
-            lowest,
-            width,
-        } => Ok(Operand::Bits(vector(signal, lowest, width)?)),
+    let Referred { reference } = found;
+    match reference {
+        Reference::Nothing | Reference::Several => Operand::Value(0),
+        Reference::Bits(bits) => Operand::Bits(bits),
     }
 }
 
@@ -82,22 +53,22 @@ impl Sense {
         ensures { ReadSense self result }
     {
         match self {
-            Sense::Path(found) => Meaning::Boolean(some_bit(alloc, found)),
+            Sense::Path(found) => Meaning::Boolean(some_bit(alloc, &found)),
             Sense::Literal(kind, value) => Meaning::Boolean(Ok(literal(kind, value))),
-            Sense::Declared(meaning, _) | Sense::Built(meaning) => meaning,
+            Sense::Declared(meaning, _found) => meaning,
+            Sense::Built(meaning) => meaning,
         }
     }
 
-    // It as a side of a comparison, if it is not too wide for a tree.
-    fn operand(&self) -> Result<Operand, SugarFault>
-        ensures same { IfOk result (λ new. new ≡ operand_in self.now) }
-        ensures places { IfOk result HasPlaces }
-        ensures wide { IfErr result (λ fault. 4096 < width_of (operand_in self.now)) }
+    // It as a side of a comparison.
+    fn into_operand(self) -> Operand
+        ensures { result ≡ operand_in self }
     {
         match self {
-            Sense::Path(found) | Sense::Declared(_, found) => bits_operand(*found),
-            Sense::Literal(_, value) => Ok(Operand::Value(*value)),
-            Sense::Built(_) => Ok(Operand::Value(0)),
+            Sense::Path(found) => bits_operand(found),
+            Sense::Declared(_meaning, found) => bits_operand(found),
+            Sense::Literal(_, value) => Operand::Value(value),
+            Sense::Built(_) => Operand::Value(0),
         }
     }
 }
@@ -106,14 +77,14 @@ impl Sense {
 fn compared(
     alloc: Global,
     comparison: Comparison,
-    left: &Sense,
-    right: &Sense,
+    left: Sense,
+    right: Sense,
 ) -> Result<MeasuredBool, SugarFault>
-    ensures { GivesBoolean result (comparison_row comparison (operand_in left.now) (operand_in right.now)) }
+    ensures { GivesBoolean result (comparison_row comparison (operand_in left) (operand_in right)) }
 {
-    let left = left.operand()?;
-    let right = right.operand()?;
-    MeasuredBool::compared(alloc, comparison, left, right)
+    let left = left.into_operand();
+    let right = right.into_operand();
+    MeasuredBool::compared(alloc, comparison, &left, &right)
 }
 
 /// An operator between its operands: a comparison reads their bits, any other their trees.
@@ -122,7 +93,7 @@ pub(crate) fn operated(alloc: Global, operation: Operation, left: Sense, right: 
 {
     match operation.operator {
         InfixOperator::Comparison(comparison) => {
-            Meaning::Boolean(compared(alloc, comparison, &left, &right))
+            Meaning::Boolean(compared(alloc, comparison, left, right))
         }
         InfixOperator::Connective(connective) => connect(
             alloc,

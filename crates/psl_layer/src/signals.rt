@@ -5,7 +5,7 @@ ghost use Rattle.psl_layer_theory.specs.FirstFlaw.{first_of};
 ghost use Rattle.psl_layer_theory.specs.Flaws as flaws;
 ghost use Rattle.psl_layer_theory.specs.Kernel as kernel;
 ghost use Rattle.psl_layer_theory.specs.Kinds as kinds;
-ghost use Rattle.psl_layer_theory.specs.LookUp as look;
+ghost use Rattle.psl_layer_theory.specs.References as look;
 ghost use Rattle.psl_layer_theory.specs.Operators.{edge_of as spec_edge};
 ghost use Rattle.psl_layer_theory.specs.Texts.{path_text as spec_text};
 ghost use Rattle.psl_layer_theory.specs.declared.fault.Cause.TheVariants as causes;
@@ -27,8 +27,8 @@ use psl_base::{NoMemory, Place, boxed};
 use psl_grammar::Path;
 use psl_layer_theory::{Cause, ExpressionKind, Flaw, Reference, Side};
 use psl_lexer::Token;
-use psl_names::{NameIndex, edge_of, index_number, path_text, refers_to};
-use psl_sugar::MeasuredBool;
+use psl_names::{PathIndex, edge_of, index_number, path_text, refers_to};
+use psl_sugar::{MeasuredBool, Vector};
 use psl_tree::{Atom, Edge};
 use std::alloc::Global;
 
@@ -42,10 +42,11 @@ fn path_place(path: &[Token]) -> Place
     }
 }
 
-// What a text stands for as a signal, perhaps with an index.
+// What a text stands for, perhaps with an index.
+#[tactic(auto, using(crate::proofs::Widths::text_some))]
 fn referred(
     alloc: Global,
-    names: &NameIndex,
+    names: &PathIndex,
     text: &[u8],
     index: &Option<Token>,
 ) -> Result<Referred, NoMemory>
@@ -55,54 +56,55 @@ fn referred(
     Ok(Referred { reference })
 }
 
-// What a path stands for that may be a declared name: such a one with an index stands for no signal.
-fn unless_declared(is_declared: bool, found: Reference) -> Reference
-    ensures { result ≡ (if is_declared then references.Nothing else found) }
-{
-    if is_declared {
-        Reference::Nothing
-    } else {
-        found
-    }
-}
-
 // The fault of a path that stands for nothing, or for several signals.
-fn reference_flaw(reference: Reference, place: Place) -> Option<Flaw>
-    ensures { result ≡ first_of (flaws.reference_flaws reference place) }
+fn reference_flaw(reference: &Reference, place: Place) -> Option<Flaw>
+    ensures { result ≡ first_of (flaws.reference_flaws reference.now place) }
 {
     match reference {
         Reference::Nothing => flaw_where(true, Cause::UnknownName, place),
         Reference::Several => flaw_where(true, Cause::Ambiguous, place),
-        Reference::Bits { .. } => None,
+        Reference::Bits(_) => None,
+    }
+}
+
+// How many bits a path has, where these are known.
+fn width_in(reference: &Reference) -> Option<u64>
+    ensures { result ≡ flaws.width_in reference.now }
+{
+    match reference {
+        Reference::Nothing | Reference::Several => None,
+        Reference::Bits(bits) => Some(bits.width()),
     }
 }
 
 // The fault of an edge of more than one bit.
-fn width_flaw(reference: Reference, place: Place) -> Option<Flaw>
-    ensures { result ≡ first_of (flaws.width_flaws reference place) }
+fn width_flaw(reference: &Reference, place: Place) -> Option<Flaw>
+    ensures { result ≡ first_of (flaws.width_flaws reference.now place) }
 {
     match reference {
         Reference::Nothing | Reference::Several => None,
-        Reference::Bits { width, .. } => flaw_where(width != 1, Cause::Kind, place),
+        Reference::Bits(bits) => flaw_where(bits.width() != 1, Cause::Kind, place),
     }
 }
 
-// The first fault of an edge.
+// The first fault of an edge. A declared name with an index stands for no signal.
 #[tactic(auto, using(crate::proofs::Firsts::of_both))]
 fn edge_flaw(
     is_declared: bool,
     index: &Option<Token>,
-    found: Reference,
+    found: &Reference,
     place: Place,
 ) -> Option<Flaw>
     ensures { result ≡ first_of (if is_declared && is_none index.now then flaws.flaw_where true causes.Kind place
-        else (let signal = if is_declared then references.Nothing else found in flaws.reference_flaws signal place ++ flaws.width_flaws signal place)) }
+        else (let signal = if is_declared then references.Nothing else found.now in flaws.reference_flaws signal place ++ flaws.width_flaws signal place)) }
 {
-    if is_declared && index.is_none() {
-        return flaw_where(true, Cause::Kind, place);
+    if !is_declared {
+        earlier(reference_flaw(found, place), width_flaw(found, place))
+    } else if index.is_none() {
+        flaw_where(true, Cause::Kind, place)
+    } else {
+        flaw_where(true, Cause::UnknownName, place)
     }
-    let signal = unless_declared(is_declared, found);
-    earlier(reference_flaw(signal, place), width_flaw(signal, place))
 }
 
 // The kind of a path by what it is declared as.
@@ -119,21 +121,28 @@ fn kind_as(declared: Option<ExpressionKind>, index: &Option<Token>) -> Expressio
 fn checked_path(
     declared: Option<ExpressionKind>,
     index: &Option<Token>,
-    found: Reference,
+    found: &Reference,
     place: Place,
 ) -> Checked
-    ensures { result ≡ path_checked declared index.now found place }
+    ensures { result ≡ path_checked declared index.now found.now place }
 {
     let kind = kind_as(declared, index);
-    if declared.is_some() && index.is_none() {
+    if declared.is_none() {
+        return Checked {
+            kind,
+            place,
+            side: Side::Bits(width_in(found)),
+            flaw: reference_flaw(found, place),
+        };
+    }
+    if index.is_none() {
         return no_side(kind, place, None);
     }
-    let signal = unless_declared(declared.is_some(), found);
     Checked {
         kind,
         place,
-        side: Side::Bits(signal),
-        flaw: reference_flaw(signal, place),
+        side: Side::Bits(None),
+        flaw: flaw_where(true, Cause::UnknownName, place),
     }
 }
 
@@ -158,17 +167,29 @@ fn sense_of(declared: Option<Meaning>, index: &Option<Token>, found: Referred) -
     }
 }
 
+// A rise or a fall of the first of some bits.
+#[tactic(auto, using(crate::proofs::Widths::edge_none, crate::proofs::Widths::edge_some))]
+fn edge_of_first(edge: Edge, bits: &Vector) -> MeasuredBool
+    ensures { result ≡ kernel.edge_of_first edge bits.now }
+{
+    if bits.width() == 0 {
+        return MeasuredBool::constant(false);
+    }
+    let bit = bits.at(0);
+    MeasuredBool::test(Atom {
+        signal: bit.signal,
+        bit: bit.place,
+        edge,
+    })
+}
+
 // A rise or a fall of a bit.
-fn edge_of_bit(edge: Edge, found: Reference) -> MeasuredBool
-    ensures { result ≡ kernel.edge_meaning edge found }
+fn edge_of_bit(edge: Edge, found: &Reference) -> MeasuredBool
+    ensures { result ≡ kernel.edge_meaning edge found.now }
 {
     match found {
         Reference::Nothing | Reference::Several => MeasuredBool::constant(false),
-        Reference::Bits { signal, lowest, .. } => MeasuredBool::test(Atom {
-            signal,
-            bit: lowest,
-            edge,
-        }),
+        Reference::Bits(bits) => edge_of_first(edge, bits),
     }
 }
 
@@ -187,7 +208,7 @@ impl<'s, 'd, 'n> Context<'s, 'd, 'n> {
         let found = referred(self.alloc, self.names, text.as_slice(), index)?;
         let declared = declared_meaning(self.alloc, self.scope, text.as_slice())?;
         let place = path_place(path.as_slice());
-        let checked = checked_path(declared_kind(&declared), index, found.reference, place);
+        let checked = checked_path(declared_kind(&declared), index, &found.reference, place);
         let sense = sense_of(declared, index, found);
         boxed(self.alloc, Elaborated { checked, sense })
     }
@@ -200,12 +221,12 @@ impl<'s, 'd, 'n> Context<'s, 'd, 'n> {
         ensures built { GivesPart result (kernel.OfBoolean (kernel.edge_meaning (spec_edge word.now.kind) (look.reference self.now.names.now path.now index.now))) }
     {
         let text = path_text(self.alloc, path.as_slice())?;
-        let found = referred(self.alloc, self.names, text.as_slice(), index)?.reference;
+        let found = referred(self.alloc, self.names, text.as_slice(), index)?;
         let is_declared = is_declared(self.scope, text.as_slice());
         let place = path_place(path.as_slice());
-        let flaw = edge_flaw(is_declared, index, found, place);
+        let flaw = edge_flaw(is_declared, index, &found.reference, place);
         let checked = no_side(ExpressionKind::Boolean, word.place, flaw);
-        let test = edge_of_bit(edge_of(word.kind), found);
+        let test = edge_of_bit(edge_of(word.kind), &found.reference);
         node(self.alloc, checked, Meaning::Boolean(Ok(test)))
     }
 }

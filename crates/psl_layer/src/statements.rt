@@ -25,7 +25,7 @@ use psl_base::{NoMemory, Text};
 use psl_grammar::{Expression, Statement};
 use psl_layer_theory::{Cause, DeclarationWord, Flaw};
 use psl_lexer::Token;
-use psl_names::{NameIndex, declaration_word, directive_kind_of};
+use psl_names::{PathIndex, declaration_word, directive_kind_of};
 use psl_sugar::{MeasuredBool, SugarFault};
 use psl_tree::Kind;
 use std::alloc::Global;
@@ -234,7 +234,7 @@ fn with_declared<'a>(
 // What was read with the statement at a place, where those before it were read.
 fn with_statement<'a>(
     alloc: Global,
-    names: &NameIndex,
+    names: &PathIndex,
     all: &'a [Statement],
     place: usize,
     reading: Reading<'a>,
@@ -285,7 +285,7 @@ fn with_statement<'a>(
 /// What is read of a list of statements.
 pub(crate) fn read_statements<'a>(
     alloc: Global,
-    names: &NameIndex,
+    names: &PathIndex,
     all: &'a [Statement],
 ) -> Result<Reading<'a>, NoMemory>
     ensures read { IfOk result (IsRead names.now) }

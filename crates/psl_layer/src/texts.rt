@@ -17,7 +17,7 @@ use crate::statements::read_statements;
 use psl_base::{Items, NoMemory};
 use psl_grammar::{Statement, UnitTree, VerificationUnit};
 use psl_layer_theory::{Cause, Flaw, LayerFault};
-use psl_names::NameIndex;
+use psl_names::{PathIndex, bus_names};
 use psl_tree::{Names, Unit};
 use std::alloc::Global;
 
@@ -44,7 +44,7 @@ fn nothing(alloc: Global) -> Outcome
 // What was found with a list of statements behind.
 fn with_statements(
     alloc: Global,
-    names: &NameIndex,
+    names: &PathIndex,
     outcome: Outcome,
     all: &[Statement],
 ) -> Result<Outcome, NoMemory>
@@ -60,7 +60,7 @@ fn with_statements(
 // What was found of verification units.
 fn units_outcome(
     alloc: Global,
-    names: &NameIndex,
+    names: &PathIndex,
     units: &[VerificationUnit],
 ) -> Result<Outcome, NoMemory>
     ensures { IfOk result (IsOutcome (units_flaws names.now units.now) (spec.asked_in_units names.now units.now)) }
@@ -73,7 +73,7 @@ fn units_outcome(
 }
 
 // What was found of a text.
-fn outcome_of(alloc: Global, tree: &UnitTree, names: &NameIndex) -> Result<Outcome, NoMemory>
+fn outcome_of(alloc: Global, tree: &UnitTree, names: &PathIndex) -> Result<Outcome, NoMemory>
     ensures { IfOk result (IsOutcome (tree_flaws names.now tree.now) (spec.kernel names.now tree.now)) }
 {
     match tree {
@@ -108,7 +108,8 @@ pub fn resolve(alloc: Global, tree: &UnitTree, names: &Names) -> Result<Unit, La
     ensures in_range { AreAlike names.now → IfOk result (λ unit. All (λ directive. AtomsOfFormula (AtomInRange names.now) (formula_of directive.formula)) unit) }
     ensures small { IfOk result (λ unit. All (λ directive. formula_size (formula_of directive.formula) ≤ 4096) unit) }
 {
-    let index = NameIndex::of(alloc, names)?;
+    let buses = bus_names(alloc, names)?;
+    let index = PathIndex::of(alloc, names, &buses)?;
     let outcome = outcome_of(alloc, tree, &index)?;
     match outcome.flaw {
         Some(flaw) => Err(fault_of(flaw)),

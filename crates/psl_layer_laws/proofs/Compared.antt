@@ -1,5 +1,5 @@
 -- A comparison of a text without faults is one of two numbers that fit in as many bits as are compared.
-use Rattle.std.proofs.Common.{◌≡◌, ℕ, ◌^◌, ◌<◌, max, Bool, true, false, List, [], ◌∷◌, ◌++◌, Option, refl, sym, subst, nat_le, arith}
+use Rattle.std.proofs.Common.{◌≡◌, ℕ, ◌^◌, ◌<◌, max, Bool, true, false, List, [], ◌∷◌, ◌++◌, length, Option, None, Some, refl, sym, subst, nat_le, arith}
 use Rattle.std.proofs.lemmas.Bool.{leb-false}
 use Rattle.std.specs.Option.{is_none}
 use Rattle.std.specs.Prelude.{if◌then◌else◌, ◌&&◌}
@@ -14,12 +14,13 @@ use Rattle.psl_tree.specs.declared.name.Name.{Name}
 use Rattle.psl_sugar.proofs.NumberLaws.{compares_numbers}
 use Rattle.psl_sugar.specs.Comparisons.{compared_width}
 use Rattle.psl_sugar.specs.Numbers.{FitsIn}
+use Rattle.psl_sugar.specs.declared.vector.Bit.{Bit}
 use Rattle.psl_sugar.specs.declared.operand.Operand.{Operand}
 use Rattle.psl_sugar.specs.declared.operand.Operand.TheVariants as operands
-use Rattle.psl_layer_theory.specs.Flaws.{flaw_where, is_declared, reference_flaws, literal_side, side_of, side_flaws, infix_flaws, is_comparison, expression_flaws}
-use Rattle.psl_layer_theory.specs.Kernel.{vector, bits_operand, operand_of}
+use Rattle.psl_layer_theory.specs.Flaws.{flaw_where, is_declared, reference_flaws, literal_side, side_of, side_flaws, width_in, infix_flaws, is_comparison, expression_flaws}
+use Rattle.psl_layer_theory.specs.Kernel.{bits_operand, operand_of}
 use Rattle.psl_layer_theory.specs.Kinds.{place_of, operator_before, kind_of}
-use Rattle.psl_layer_theory.specs.LookUp.{reference}
+use Rattle.psl_layer_theory.specs.References.{reference}
 use Rattle.psl_layer_theory.specs.Texts.{literal_value}
 use Rattle.psl_layer_theory.specs.declared.fault.Cause.TheVariants as causes
 use Rattle.psl_layer_theory.specs.declared.fault.Flaw.{Flaw}
@@ -40,16 +41,15 @@ second_none (x ∷ xs) ys e = cc
 
 -- what a side is, as an operand
 abbrev IsOperand : Side → Operand → Type 0
-IsOperand (Bits references.Nothing) operand = ⊥
-IsOperand (Bits references.Several) operand = ⊥
-IsOperand (Bits (references.Bits signal lowest width)) operand = operand ≡ operands.Bits (vector signal lowest width)
+IsOperand (Bits None) operand = ⊥
+IsOperand (Bits (Some width)) operand = (bits : List Bit) × (operand ≡ operands.Bits bits) × (length bits ≡ width)
 IsOperand (Value value place) operand = operand ≡ operands.Value value
 IsOperand Neither operand = Unit {0}
 
-bits_operands : (found : Reference) (place : Place) → reference_flaws found place ≡ [] → IsOperand (Bits found) (bits_operand found)
+bits_operands : (found : Reference) (place : Place) → reference_flaws found place ≡ [] → IsOperand (Bits (width_in found)) (bits_operand found)
 bits_operands references.Nothing place e = cc
 bits_operands references.Several place e = cc
-bits_operands (references.Bits signal lowest width) place e = refl
+bits_operands (references.Bits bits) place e = (bits, refl, refl)
 
 literal_operand : (kind : TokenKind) (token : Token) → IsOperand (literal_side kind token) (operands.Value (literal_value token))
 literal_operand kinds.Number token = refl
@@ -60,7 +60,7 @@ module _ (scope : List code_statement.Statement) (names : List Name) where
   -- a path that is declared and has an index stands for nothing
   path_operand : (path : List Token) (index : Option Token) (place : Place) (declared none : Bool)
       → (if declared && none then [] else reference_flaws (if declared then references.Nothing else reference names path index) place) ≡ []
-      → IsOperand (if declared && none then Neither else Bits (if declared then references.Nothing else reference names path index)) (bits_operand (reference names path index))
+      → IsOperand (if declared && none then Neither else Bits (width_in (if declared then references.Nothing else reference names path index))) (bits_operand (reference names path index))
   path_operand path index place true true e = tt
   path_operand path index place true false e = cc
   path_operand path index place false none e = bits_operands (reference names path index) place e
@@ -81,30 +81,27 @@ value_fits width value place e = at (nat_le (2 ^ width) value) refl e where
 abbrev Fit : Operand → Operand → Type 0
 Fit first second = FitsIn (compared_width first second) first × FitsIn (compared_width first second) second
 
-value_fit : (signal lowest width value : ℕ) → value < 2 ^ width → Fit (operands.Bits (vector signal lowest width)) (operands.Value value)
-value_fit signal lowest width value below =
-    let same : max width 0 ≡ width = omega arith in
+value_fit : (bits : List Bit) (value : ℕ) → value < 2 ^ length bits → Fit (operands.Bits bits) (operands.Value value)
+value_fit bits value below =
+    let same : max (length bits) 0 ≡ length bits = omega arith in
     (tt, subst (λ (w : ℕ). value < 2 ^ w) (sym same) below)
 
-fit_value : (signal lowest width value : ℕ) → value < 2 ^ width → Fit (operands.Value value) (operands.Bits (vector signal lowest width))
-fit_value signal lowest width value below =
-    let same : max 0 width ≡ width = omega arith in
+fit_value : (bits : List Bit) (value : ℕ) → value < 2 ^ length bits → Fit (operands.Value value) (operands.Bits bits)
+fit_value bits value below =
+    let same : max 0 (length bits) ≡ length bits = omega arith in
     (subst (λ (w : ℕ). value < 2 ^ w) (sym same) below, tt)
 
 -- the sides of a comparison without faults fit
 sides_fit : (first second : Side) (place : Place) (left right : Operand) → IsOperand first left → IsOperand second right → side_flaws first second place ≡ [] → Fit left right
-sides_fit (Bits references.Nothing) second place left right h k e = absurd h
-sides_fit (Bits references.Several) second place left right h k e = absurd h
-sides_fit (Bits (references.Bits signal lowest width)) (Bits references.Nothing) place left right h k e = absurd k
-sides_fit (Bits (references.Bits signal lowest width)) (Bits references.Several) place left right h k e = absurd k
-sides_fit (Bits (references.Bits signal lowest width)) (Bits (references.Bits other low wide)) place left right h k e = rw (h, k) (tt, tt)
-sides_fit (Bits (references.Bits signal lowest width)) (Value value here) place left right h k e =
-    rw (h, k) (value_fit signal lowest width value (value_fits width value here e))
-sides_fit (Bits (references.Bits signal lowest width)) Neither place left right h k e = cc
-sides_fit (Value value here) (Bits references.Nothing) place left right h k e = absurd k
-sides_fit (Value value here) (Bits references.Several) place left right h k e = absurd k
-sides_fit (Value value here) (Bits (references.Bits signal lowest width)) place left right h k e =
-    rw (h, k) (fit_value signal lowest width value (value_fits width value here e))
+sides_fit (Bits None) second place left right h k e = absurd h
+sides_fit (Bits (Some width)) (Bits None) place left right h k e = absurd k
+sides_fit (Bits (Some width)) (Bits (Some other)) place left right (bits, h, long) (more, k, wide) e = rw (h, k) (tt, tt)
+sides_fit (Bits (Some width)) (Value value here) place left right (bits, h, long) k e =
+    rw (h, k) (value_fit bits value (subst (λ (w : ℕ). value < 2 ^ w) (sym long) (value_fits width value here e)))
+sides_fit (Bits (Some width)) Neither place left right h k e = cc
+sides_fit (Value value here) (Bits None) place left right h k e = absurd k
+sides_fit (Value value here) (Bits (Some width)) place left right h (bits, k, long) e =
+    rw (h, k) (fit_value bits value (subst (λ (w : ℕ). value < 2 ^ w) (sym long) (value_fits width value here e)))
 sides_fit (Value value here) (Value other there) place left right h k e = cc
 sides_fit (Value value here) Neither place left right h k e = cc
 sides_fit Neither second place left right h k e = cc

@@ -1,10 +1,12 @@
 -- The atoms of what expressions stand for are in range of the names.
-use Rattle.std.proofs.Common.{◌≡◌, ℕ, ◌+◌, ◌-◌, ◌<◌, ◌≤◌, Bool, true, false, List, length, get_or, Option, None, Some, arith}
+use Rattle.std.proofs.Common.{ℕ, zero, suc, ◌-◌, Bool, true, false, List, [], ◌∷◌, length, Option, None, Some}
+use Rattle.std.proofs.lemmas.List.Elements.{All-head, All-tail}
+use Rattle.std.specs.Prelude.{All}
 use Rattle.psl_lexer.specs.declared.token.Token.{Token}
 use Rattle.psl_grammar.specs.declared.tree.Expression as code_expression
 use Rattle.psl_grammar.specs.declared.tree.Expression.TheVariants as expressions
 use Rattle.psl_sugar.proofs.RangedBooleans as booleans
-use Rattle.psl_layer_laws.proofs.RangedLookUp.{AreBits, InRange, reference-has}
+use Rattle.psl_layer_laws.proofs.RangedLookUp.{IsBit, InRange, reference-has}
 use Rattle.psl_layer_laws.proofs.RangedOperators.{MeaningHas, NamedHave, boolean-has, sequence-has, formula-has, strong-has, prefix-has, connected-has, sequenced-has, suffixed-has, aborted-has, lasting-has, literal-has, repeated-has, alone-has, clocked-in-has, grouped-has, next-form-has, event-form-has, declared-has}
 use Rattle.psl_sugar.proofs.RangedComparisons.{OperandHas}
 use Rattle.psl_sugar.proofs.RowLaws.{comparison-row-has}
@@ -12,42 +14,38 @@ use Rattle.psl_layer_theory.specs.declared.found.Reference.{Reference}
 use Rattle.psl_layer_theory.specs.declared.found.Reference.TheVariants as references
 use Rattle.psl_layer_theory.specs.declared.operator.InfixOperator.{InfixOperator}
 use Rattle.psl_layer_theory.specs.declared.operator.InfixOperator.TheVariants as operators
-use Rattle.psl_layer_theory.specs.Kernel.{Meaning, Named, boolean_in, formula_in, vector, bits_meaning, bits_operand, operand_of, compared, operated, edge_meaning, optional_count, signal_meaning, meaning_of}
+use Rattle.psl_layer_theory.specs.Kernel.{Meaning, Named, boolean_in, formula_in, bits_meaning, bits_operand, operand_of, compared, operated, edge_meaning, optional_count, signal_meaning, meaning_of}
 use Rattle.psl_layer_theory.specs.Kinds.{operator_before}
-use Rattle.psl_layer_theory.specs.LookUp.{reference}
+use Rattle.psl_layer_theory.specs.References.{reference}
 use Rattle.psl_layer_theory.specs.Operators.{prefix_operator, repetition_operator, strength_of, edge_of}
 use Rattle.psl_layer_theory.specs.Texts.{path_text, literal_value}
-use Rattle.psl_sugar.specs.Booleans.{bit_at, bit_of as bit_of_vector}
+use Rattle.psl_sugar.specs.Booleans.{bit_at}
 use Rattle.psl_sugar.specs.declared.comparison.Comparison.{Comparison}
 use Rattle.psl_sugar.specs.declared.operator.Strength.{Strength}
 use Rattle.psl_tree.specs.Atoms.{AtomsOfBoolean}
-use Rattle.psl_tree.specs.Names.{indices, AtomInRange, AreAlike}
+use Rattle.psl_sugar.specs.declared.vector.Bit.{Bit}
+use Rattle.psl_tree.specs.Names.{AtomInRange, AreAlike}
 use Rattle.psl_tree.specs.declared.atom.Edge as atom_edge
 use Rattle.psl_tree.specs.declared.name.Name.{Name}
 
 module _ (names : List Name) (alike : AreAlike names) where
-  each-place : (signal lowest width : ℕ) → AreBits names signal lowest width → (place : ℕ) → place < width → AtomsOfBoolean (AtomInRange names) (bit_at (vector signal lowest width) place)
-  each-place signal lowest width bits place inside_width = record {
-    named = bits.named;
-    within = λ (k : ℕ) (d : Name) (below : k < length names) (same : (get_or names k d).signal ≡ signal).
-        inside (indices (get_or names k d)) (bits.within k d below same);
-  }
-    where
-      inside : (count : ℕ) → lowest + width ≤ count → lowest + place < count
-      inside count le = omega arith
-
-  each-bit : (signal lowest width : ℕ) → AreBits names signal lowest width → (bit : ℕ) → AtomsOfBoolean (AtomInRange names) (bit_of_vector (vector signal lowest width) bit)
-  each-bit signal lowest width bits bit = let some : 1 ≤ width = bits.some in each-place signal lowest width bits (width - 1 - bit) (omega arith)
+  -- a bit that is there, and a zero
+  place-has : (bits : List Bit) → All (IsBit names) bits → (place : ℕ) → AtomsOfBoolean (AtomInRange names) (bit_at bits place)
+  place-has [] each place = tt
+  place-has (bit ∷ more) each zero =
+      let is = All-head (IsBit names) bit more each in
+      record { named = is.named; within = is.within }
+  place-has (bit ∷ more) each (suc place) = place-has more (All-tail (IsBit names) bit more each) place
 
   bits-have : (found : Reference) → InRange names found → AtomsOfBoolean (AtomInRange names) (bits_meaning found)
   bits-have references.Nothing h = tt
   bits-have references.Several h = tt
-  bits-have (references.Bits signal lowest width) h = booleans.some-has (AtomInRange names) (vector signal lowest width) (each-bit signal lowest width h)
+  bits-have (references.Bits bits) h = booleans.some-has (AtomInRange names) bits (λ (bit : ℕ). place-has bits h (length bits - 1 - bit))
 
   bits-operand-has : (found : Reference) → InRange names found → OperandHas (AtomInRange names) (bits_operand found)
   bits-operand-has references.Nothing h = tt
   bits-operand-has references.Several h = tt
-  bits-operand-has (references.Bits signal lowest width) h = each-place signal lowest width h
+  bits-operand-has (references.Bits bits) h = place-has bits h
 
   operand-has : (x : code_expression.Expression) → OperandHas (AtomInRange names) (operand_of names x)
   operand-has (expressions.Signal path index) = bits-operand-has (reference names path index) (reference-has names alike path index)
@@ -57,14 +55,10 @@ module _ (names : List Name) (alike : AreAlike names) where
   edge-has : (edge : atom_edge.Edge) (found : Reference) → InRange names found → AtomsOfBoolean (AtomInRange names) (edge_meaning edge found)
   edge-has edge references.Nothing h = tt
   edge-has edge references.Several h = tt
-  edge-has edge (references.Bits signal lowest width) bits = record {
-    named = bits.named;
-    within = λ (k : ℕ) (d : Name) (below : k < length names) (same : (get_or names k d).signal ≡ signal).
-        inside (indices (get_or names k d)) (bits.within k d below same);
-  }
-    where
-      inside : (count : ℕ) → lowest + width ≤ count → lowest < count
-      inside count le = let some : 1 ≤ width = bits.some in omega arith
+  edge-has edge (references.Bits []) each = tt
+  edge-has edge (references.Bits (bit ∷ more)) each =
+      let is = All-head (IsBit names) bit more each in
+      record { named = is.named; within = is.within }
 
   compared-has : (comparison : Comparison) (x y : code_expression.Expression) → AtomsOfBoolean (AtomInRange names) (compared names comparison x y)
   compared-has comparison x y = comparison-row-has (AtomInRange names) comparison (operand_of names x) (operand_of names y) (operand-has x) (operand-has y)

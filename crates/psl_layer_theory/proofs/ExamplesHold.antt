@@ -1,7 +1,8 @@
 -- The worked examples hold.
 use Rattle.std.proofs.Common.{refl}
+use Rattle.std.specs.Fmt.{digits}
 use Rattle.psl_lexer.specs.Bytes.{base_of, digit_of}
-use Rattle.psl_layer_theory.specs.Examples.{NextInSere, SequenceInBoolean, NoSuchName, TwoSuchNames, DoesNotSeeItself, DeclaredTwice, TooWide, RangeFalls, Indices, DefaultClock, NamedSequence, Comparison, signals, next_in_sere_text, sequence_in_boolean_text, no_such_name_text, two_such_names_text, does_not_see_itself_text, declared_twice_text, too_wide_text, range_falls_text}
+use Rattle.psl_layer_theory.specs.Examples.{NextInSere, SequenceInBoolean, NoSuchName, TwoSuchNames, DoesNotSeeItself, DeclaredTwice, TooWide, RangeFalls, Indices, Buses, DefaultClock, NamedSequence, Comparison, signals, next_in_sere_text, sequence_in_boolean_text, no_such_name_text, two_such_names_text, does_not_see_itself_text, declared_twice_text, too_wide_text, range_falls_text}
 use Rattle.psl_grammar.specs.declared.tree.UnitTree.TheVariants as trees
 use Rattle.psl_layer_theory.specs.Flaws.{tree_flaws}
 use Rattle.psl_layer_theory.proofs.Firsts.{first_of_is_first}
@@ -34,6 +35,21 @@ range_falls box = first_of_is_first (tree_flaws signals (trees.Statements (range
 
 pub indices : Indices
 indices = record { falling = refl; rising = refl; past = refl; whole = refl }
+
+pub buses : Buses
+unfolding digits
+buses = record {
+  below = refl;
+  longer = refl;
+  two_owners = refl;
+  one_owner = refl;
+  hole = refl;
+  name_wins = refl;
+  above_nine = refl;
+  not_wider = refl;
+  wide = refl;
+  none = refl;
+}
 
 pub default_clock : DefaultClock
 default_clock box = refl

@@ -19,8 +19,10 @@ use Rattle.psl_tree.specs.declared.name.Name.{Name}
 use Rattle.psl_tree.specs.Sugar.{always}
 use Rattle.psl_layer_theory.specs.Answers.{IsLayerFault}
 use Rattle.psl_layer_theory.specs.Directives.{kernel}
-use Rattle.psl_layer_theory.specs.LookUp.{bit_of, whole_of}
+use Rattle.psl_sugar.specs.Vectors.{bit_of_signal, side_by_side}
+use Rattle.psl_layer_theory.specs.References.{bit_of, whole_of, refers_to}
 use Rattle.psl_layer_theory.specs.declared.found.Found.TheVariants as finds
+use Rattle.psl_layer_theory.specs.declared.found.Reference.{Reference}
 use Rattle.psl_layer_theory.specs.declared.found.Reference.TheVariants as references
 use Rattle.psl_layer_theory.specs.declared.fault.LayerFault.{LayerFault}
 use Rattle.psl_layer_theory.specs.declared.fault.LayerFault.TheVariants as faults
@@ -136,10 +138,41 @@ RangeFalls = (box : Boxed) → Refused (range_falls_text box) (faults.EmptyRange
 
 -- indices of a range from 3 down to 0, and of one from 0 up to 3
 pub record Indices : Type 0 where
-  pub falling : bit_of (finds.One 2 3 0) 1 ≡ references.Bits 2 1 1
-  pub rising : bit_of (finds.One 2 0 3) 1 ≡ references.Bits 2 2 1
+  pub falling : bit_of (finds.One 2 3 0) 1 ≡ references.Bits (bit_of_signal 2 1 ∷ [])
+  pub rising : bit_of (finds.One 2 0 3) 1 ≡ references.Bits (bit_of_signal 2 2 ∷ [])
   pub past : bit_of (finds.One 2 0 3) 4 ≡ references.Nothing
-  pub whole : whole_of (finds.One 2 0 3) ≡ references.Bits 2 0 4
+  pub whole : whole_of (finds.One 2 0 3) ≡ references.Bits (bit_of_signal 2 0 ∷ bit_of_signal 2 1 ∷ bit_of_signal 2 2 ∷ bit_of_signal 2 3 ∷ [])
+
+-- bits of buses: u.count of two bits, told from the left; x.d and y.d of one; h without its bit 1; w, and w[0] beside it;
+-- f at the indices 9 and 10; p, and a wider u.p below it
+abbrev pub bus_signals : List Name
+bus_signals =
+    entry (codes "u.count[1]") 0 0 ∷ entry (codes "u.count[0]") 1 0
+    ∷ entry (codes "x.d[0]") 2 0 ∷ entry (codes "y.d[0]") 3 0
+    ∷ entry (codes "h[0]") 4 0 ∷ entry (codes "h[2]") 5 0 ∷ entry (codes "u.h[1]") 6 0
+    ∷ entry (codes "w") 7 3 ∷ entry (codes "w[0]") 8 0
+    ∷ entry (codes "f[9]") 9 0 ∷ entry (codes "f[10]") 10 0
+    ∷ entry (codes "p[0]") 11 0 ∷ entry (codes "u.p[0]") 12 0 ∷ entry (codes "u.p[1]") 13 0
+    ∷ entry (codes "m[0]") 14 3
+    ∷ []
+
+-- what a path without an index stands for among them
+abbrev pub bus_text : List ℕ → Reference
+bus_text text = refers_to bus_signals text None
+
+pub record Buses : Type 0 where
+  pub below : bus_text (codes "count") ≡ references.Bits (bit_of_signal 1 0 ∷ bit_of_signal 0 0 ∷ [])
+  pub longer : bus_text (codes "u.count") ≡ references.Bits (bit_of_signal 1 0 ∷ bit_of_signal 0 0 ∷ [])
+  pub two_owners : bus_text (codes "d") ≡ references.Several
+  pub one_owner : bus_text (codes "x.d") ≡ references.Bits (bit_of_signal 2 0 ∷ [])
+  -- the bit of another bus does not fill the hole
+  pub hole : bus_text (codes "h") ≡ references.Nothing
+  pub name_wins : bus_text (codes "w") ≡ references.Bits (side_by_side 7 0 4)
+  pub above_nine : bus_text (codes "f") ≡ references.Bits (bit_of_signal 9 0 ∷ bit_of_signal 10 0 ∷ [])
+  pub not_wider : bus_text (codes "p") ≡ references.Bits (bit_of_signal 11 0 ∷ [])
+  -- a signal of several bits is no bit
+  pub wide : bus_text (codes "m") ≡ references.Nothing
+  pub none : bus_text (codes "count[2]") ≡ references.Nothing
 
 -- assert always b; default clock = posedge a; the clock holds for the directive before it too
 abbrev pub DefaultClock : Type 0

@@ -1,5 +1,5 @@
 -- The faults of kinds and names, each a list of all that stand somewhere (IEEE 1850, clauses 5 to 7).
-use Rattle.std.specs.Prelude.{ℕ, Bool as Truth, true, false, not, ◌&&◌, ◌||◌, ◌==◌, ◌^◌, nat_lt, nat_le, List, [], ◌∷◌, ◌++◌, Option, None, Some, if◌then◌else◌}
+use Rattle.std.specs.Prelude.{ℕ, Bool as Truth, true, false, not, ◌&&◌, ◌||◌, ◌==◌, ◌^◌, nat_lt, nat_le, List, [], ◌∷◌, ◌++◌, length, Option, None, Some, if◌then◌else◌}
 use Rattle.std.specs.List.{list_any}
 use Rattle.std.specs.Option.{is_some, is_none}
 use Rattle.psl_base.specs.declared.place.Place.{Place}
@@ -36,7 +36,7 @@ use Rattle.psl_layer_theory.specs.declared.operator.PrefixOperator.TheVariants a
 use Rattle.psl_layer_theory.specs.declared.operator.RepetitionOperator.{RepetitionOperator}
 use Rattle.psl_layer_theory.specs.declared.operator.RepetitionOperator.TheVariants as repetitions
 use Rattle.psl_layer_theory.specs.Kinds.{declared_as, path_place, place_of, operator_before, kind_of}
-use Rattle.psl_layer_theory.specs.LookUp.{reference}
+use Rattle.psl_layer_theory.specs.References.{reference}
 use Rattle.psl_layer_theory.specs.Operators.{prefix_operator, repetition_operator, directive_kind_of, declaration_word, is_endless}
 use Rattle.psl_layer_theory.specs.Texts.{path_text, number_of, literal_value}
 
@@ -90,7 +90,7 @@ refers_in scope names path index = if is_declared scope path then references.Not
 abbrev pub reference_flaws : Reference → Place → List Flaw
 reference_flaws references.Nothing place = flaw_where true causes.UnknownName place
 reference_flaws references.Several place = flaw_where true causes.Ambiguous place
-reference_flaws (references.Bits signal lowest width) place = []
+reference_flaws (references.Bits bits) place = []
 
 -- a path, perhaps with an index
 abbrev pub signal_flaws : List code_statement.Statement → List Name → List Token → Option Token → List Flaw
@@ -101,7 +101,7 @@ signal_flaws scope names path index =
 abbrev pub width_flaws : Reference → Place → List Flaw
 width_flaws references.Nothing place = []
 width_flaws references.Several place = []
-width_flaws (references.Bits signal lowest width) place = flaw_where (not (width == 1)) causes.Kind place
+width_flaws (references.Bits bits) place = flaw_where (not (length bits == 1)) causes.Kind place
 
 -- an edge: its path stands for one bit, and not for a sequence or a property
 abbrev pub edge_flaws : List code_statement.Statement → List Name → List Token → Option Token → List Flaw
@@ -116,10 +116,16 @@ literal_side kinds.Number token = Value (literal_value token) token.place
 literal_side kinds.Constant token = Value (literal_value token) token.place
 literal_side _ token = Neither
 
+-- how many bits a path has, where these are known
+abbrev pub width_in : Reference → Option ℕ
+width_in references.Nothing = None
+width_in references.Several = None
+width_in (references.Bits bits) = Some (length bits)
+
 -- a path: a declared sequence or property is no signal
 abbrev pub signal_side : List code_statement.Statement → List Name → List Token → Option Token → Side
 signal_side scope names path index =
-    if is_declared scope path && is_none index then Neither else Bits (refers_in scope names path index)
+    if is_declared scope path && is_none index then Neither else Bits (width_in (refers_in scope names path index))
 
 -- one side of a comparison
 abbrev pub side_of : List code_statement.Statement → List Name → code_expression.Expression → Side
@@ -128,17 +134,16 @@ side_of scope names (expressions.Literal token) = literal_side token.kind token
 side_of scope names _ = Neither
 
 -- a value needs more bits than there are; nothing is asked where the bits are not known
-abbrev pub value_flaws : Reference → ℕ → Place → List Flaw
-value_flaws references.Nothing value place = []
-value_flaws references.Several value place = []
-value_flaws (references.Bits signal lowest width) value place = flaw_where (nat_le (2 ^ width) value) causes.ConstantTooWide place
+abbrev pub value_flaws : Option ℕ → ℕ → Place → List Flaw
+value_flaws None value place = []
+value_flaws (Some width) value place = flaw_where (nat_le (2 ^ width) value) causes.ConstantTooWide place
 
 -- a comparison has a signal on one side at least, and a signal or a value on the other; else the fault is at the first token
 -- of its left operand
 abbrev pub side_flaws : Side → Side → Place → List Flaw
 side_flaws (Bits left) (Bits right) left_place = []
-side_flaws (Bits bits) (Value value place) left_place = value_flaws bits value place
-side_flaws (Value value place) (Bits bits) left_place = value_flaws bits value place
+side_flaws (Bits width) (Value value place) left_place = value_flaws width value place
+side_flaws (Value value place) (Bits width) left_place = value_flaws width value place
 side_flaws _ _ left_place = flaw_where true causes.Kind left_place
 
 abbrev pub is_comparison : InfixOperator → Truth

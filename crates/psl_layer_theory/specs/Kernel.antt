@@ -20,7 +20,7 @@ use Rattle.psl_sugar.specs.Connectives.{boolean_row, formula_row}
 use Rattle.psl_sugar.specs.Properties.{never, never_sequence, eventually_sequence, until_row, suffix_row, abort_row, next, next_times, next_event, next_event_times, next_range, next_event_range}
 use Rattle.psl_sugar.specs.Sequences.{any_letter, any_letters, plus, repeated, goto, goto_repeated, occurrences, sequence_row}
 use Rattle.psl_sugar.specs.declared.abort.AbortOperator.{AbortOperator}
-use Rattle.psl_sugar.specs.declared.boolean.Vector.{Vector}
+use Rattle.psl_sugar.specs.declared.vector.Bit.{Bit}
 use Rattle.psl_sugar.specs.declared.comparison.Comparison.{Comparison}
 use Rattle.psl_sugar.specs.declared.connectives.Connective.{Connective}
 use Rattle.psl_sugar.specs.declared.count.Count as sugar_count
@@ -40,7 +40,7 @@ use Rattle.psl_layer_theory.specs.declared.operator.PrefixOperator.TheVariants a
 use Rattle.psl_layer_theory.specs.declared.operator.RepetitionOperator.{RepetitionOperator}
 use Rattle.psl_layer_theory.specs.declared.operator.RepetitionOperator.TheVariants as repetitions
 use Rattle.psl_layer_theory.specs.Kinds.{operator_before}
-use Rattle.psl_layer_theory.specs.LookUp.{reference}
+use Rattle.psl_layer_theory.specs.References.{reference}
 use Rattle.psl_layer_theory.specs.Operators.{prefix_operator, repetition_operator, strength_of, quantifier_of, edge_of, is_endless}
 use Rattle.psl_layer_theory.specs.Texts.{path_text, number_of, literal_value}
 
@@ -111,21 +111,17 @@ aborted operator left right = OfProperty (abort_row operator (formula_in left) (
 abbrev pub lasting : UntilOperator → Strength → Meaning → Meaning → Meaning
 lasting operator strength left right = OfProperty (until_row operator strength (formula_in left) (formula_in right))
 
--- bits of a signal that stand side by side, as a vector
-abbrev pub vector : ℕ → ℕ → ℕ → Vector
-vector signal lowest width = record { signal = signal; lowest = lowest; width = width }
-
--- a signal, a bit or a vector as a Boolean: some bit is 1
+-- a signal, a bit, a vector or a bus as a Boolean: some bit is 1
 abbrev pub bits_meaning : Reference → Boolean
 bits_meaning references.Nothing = Const false
 bits_meaning references.Several = Const false
-bits_meaning (references.Bits signal lowest width) = some_bit (vector signal lowest width)
+bits_meaning (references.Bits bits) = some_bit bits
 
 -- bits as a side of a comparison
 abbrev pub bits_operand : Reference → Operand
 bits_operand references.Nothing = sides.Value 0
 bits_operand references.Several = sides.Value 0
-bits_operand (references.Bits signal lowest width) = sides.Bits (vector signal lowest width)
+bits_operand (references.Bits bits) = sides.Bits bits
 
 -- a side of a comparison: a signal, or the value of a number or a constant
 abbrev pub operand_of : List Name → code_expression.Expression → Operand
@@ -146,11 +142,16 @@ operated names (operators.Suffix operator) strength x y left right = suffixed op
 operated names (operators.Abort operator) strength x y left right = aborted operator left right
 operated names (operators.Until operator) strength x y left right = lasting operator strength left right
 
+-- a rise or a fall of the first of some bits
+abbrev pub edge_of_first : atom_edge.Edge → List Bit → Boolean
+edge_of_first edge [] = Const false
+edge_of_first edge (bit ∷ more) = Test (record { signal = bit.signal; bit = bit.place; edge = edge })
+
 -- a rise or a fall of a bit
 abbrev pub edge_meaning : atom_edge.Edge → Reference → Boolean
 edge_meaning edge references.Nothing = Const false
 edge_meaning edge references.Several = Const false
-edge_meaning edge (references.Bits signal lowest width) = Test (record { signal = signal; bit = lowest; edge = edge })
+edge_meaning edge (references.Bits bits) = edge_of_first edge bits
 
 -- `true` and `false`, and a number or a constant as a Boolean
 abbrev pub literal_meaning : TokenKind → ℕ → Boolean

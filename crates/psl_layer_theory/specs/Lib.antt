@@ -1,4 +1,5 @@
 pub mod Answers
+pub mod Buses
 pub mod Directives
 pub mod Examples
 pub mod FirstFlaw
@@ -8,5 +9,6 @@ pub mod Kinds
 pub mod Laws
 pub mod LookUp
 pub mod Operators
+pub mod References
 pub mod Rows
 pub mod Texts

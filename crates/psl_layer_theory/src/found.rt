@@ -1,4 +1,5 @@
 use psl_base::Place;
+use psl_sugar::Vector;
 
 /// What the entries of a list of names say of a text.
 #[derive(Clone, Copy, Debug, PartialEq, Eq)]
@@ -17,28 +18,22 @@ pub enum Found {
     Several,
 }
 
-/// What a path stands for as a signal, perhaps with an index.
-#[derive(Clone, Copy, Debug, PartialEq, Eq)]
+/// What a path stands for, perhaps with an index.
+#[derive(Debug, Drop)]
 pub enum Reference {
-    /// Nothing matches, or the index is out of range.
+    /// Nothing matches, or the index is out of range, or a bus has no signal at some index.
     Nothing,
-    /// Two different signals or ranges match.
+    /// Two different signals or ranges match, or some bit of a bus is two signals.
     Several,
-    /// Bits of a signal that stand side by side.
-    Bits {
-        signal: u32,
-        /// The place of the rightmost one in the signal, counted from the right, from 0.
-        lowest: u32,
-        /// How many there are.
-        width: u64,
-    },
+    /// A signal, a bit of one, or the bits of a bus.
+    Bits(Vector),
 }
 
 /// What stands on one side of a comparison.
 #[derive(Clone, Copy, Debug, PartialEq, Eq)]
 pub enum Side {
-    /// A signal, a bit or a vector.
-    Bits(Reference),
+    /// A path that stands for no declared name: how many bits it has, where these are known.
+    Bits(Option<u64>),
     /// The value of a number or a constant, and its place.
     Value(u64, Place),
     /// Anything else.

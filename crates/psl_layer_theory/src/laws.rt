@@ -1,4 +1,4 @@
-ghost use Rattle.psl_layer_theory.specs.Examples.{NextInSere, SequenceInBoolean, NoSuchName, TwoSuchNames, DoesNotSeeItself, DeclaredTwice, TooWide, RangeFalls, Indices, DefaultClock, NamedSequence, Comparison};
+ghost use Rattle.psl_layer_theory.specs.Examples.{NextInSere, SequenceInBoolean, NoSuchName, TwoSuchNames, DoesNotSeeItself, DeclaredTwice, TooWide, RangeFalls, Indices, Buses, DefaultClock, NamedSequence, Comparison};
 ghost use Rattle.psl_layer_theory.specs.Rows.{PrefixRows, InfixRows, RepetitionRows, StrengthRows, QuantifierRows, EdgeRows, DirectiveRows, DeclarationRows};
 ghost use Rattle.psl_layer_theory.specs.Laws.{OneFirstFlaw, FunctionIsFirst, FirstOfBoth, OneFault, OneUnit, NotBoth};
 
@@ -27,6 +27,7 @@ pub fn worked_examples()
     ensures too_wide { TooWide }
     ensures range_falls { RangeFalls }
     ensures indices { Indices }
+    ensures buses { Buses }
     ensures default_clock { DefaultClock }
     ensures named_sequence { NamedSequence }
     ensures comparison { Comparison }

@@ -12,10 +12,10 @@ use Rattle.std.specs.Prelude.{filter, if◌then◌else◌}
 use Rattle.psl_tree.specs.declared.name.Name.{Name}
 use Rattle.psl_layer_theory.specs.declared.found.Found.{Found}
 use Rattle.psl_layer_theory.specs.declared.found.Found.TheVariants.{Nothing, One, Several}
-use Rattle.psl_layer_theory.specs.LookUp.{found_among, first_filled, is_named, ends_named, is_same_range, look_up}
+use Rattle.psl_layer_theory.specs.LookUp.{found_among, first_filled, is_named, ends_named, is_same_range, look_up, named}
 use Rattle.psl_names.specs.Alike.{alike, said, first_passes}
 use Rattle.psl_names.specs.Ends.{backward}
-use Rattle.psl_names.specs.Sorting.{is_before, IsSorting, IsPlaceOf, found_in}
+use Rattle.psl_names.specs.Sorting.{is_before, IsSorting, IsPlaceOf, found_in, named_in}
 use Rattle.psl_names.proofs.Backward.{named-back, ends-back, named-below, ends-below}
 use Rattle.psl_names.proofs.Fronts.{stand-first, filter-none, found-first, found-none}
 use Rattle.psl_names.proofs.Members.{found-filter}
@@ -115,6 +115,28 @@ in-rest text (first ∷ more) named ends =
     ∙ no-name text first more (ends none)
     ∙ sym (ap (λ (b : Truth). if b then said first (first_passes (is_named text) others) else rest) out))
     (cases_Bool (is_named text first))
+
+-- what a text finds where it has to be that of a name
+named-rest : (text : List ℕ) (names : List Name) → IsPartitionedBy (is_named text) names → found_among (filter (is_named text) names) ≡ named_in text names
+named-rest text [] parted = refl
+named-rest text (first ∷ more) parted =
+    let others : List Name = drop (alike first more) more in
+    let stand = stand-first (is_named text) (first ∷ more) parted in
+    let behind : Found = if ends_named text first then said first (first_passes (ends_named text) others) else Nothing in
+    ⊎_elim
+    (λ (here : is_named text first ≡ true).
+    found-first (is_named text) first more stand.1 here
+    ∙ sym (ap (λ (b : Truth). if b then (if b then said first (first_passes (is_named text) others) else behind) else Nothing) here))
+    (λ (out : is_named text first ≡ false).
+    found-none (is_named text) first more stand out
+    ∙ sym (ap (λ (b : Truth). if b then found_in text (first ∷ more) else Nothing) out))
+    (cases_Bool (is_named text first))
+
+pub named-up : (names sorted : List Name) (text : List ℕ) (place : ℕ) → IsSorting names sorted → IsPlaceOf text sorted place → named names text ≡ named_in text (drop place sorted)
+named-up names sorted text place sorting at =
+    found-filter names sorted (is_named text) sorting.same
+    ∙ ap found_among (kept-from (is_named text) sorted place (λ k d first inside. named-below text (get_or sorted k d).text (at.0 k d (omega arith) first)))
+    ∙ named-rest text (drop place sorted) (named-first text sorted place sorting.ascend at)
 
 -- what a text finds in sorted names is what it finds in the names
 pub looked-up : (names sorted : List Name) (text : List ℕ) (place : ℕ) → IsSorting names sorted → IsPlaceOf text sorted place → look_up names text ≡ found_in text (drop place sorted)

@@ -44,3 +44,7 @@ found_with text first others =
 abbrev pub found_in : List ℕ → List Name → Found
 found_in text [] = Nothing
 found_in text (first ∷ more) = found_with text first (drop (alike first more) more)
+
+-- what a text finds among names of which those that match stand first, where it has to be theirs
+abbrev pub named_in : List ℕ → List Name → Found
+named_in text names = if first_passes (is_named text) names then found_in text names else Nothing

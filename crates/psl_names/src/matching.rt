@@ -2,7 +2,7 @@
 ghost use Rattle.std.specs.Prelude.{◌≡◌, ◌+◌, ◌^◌, ◌<◌, ◌≤◌, drop, length, slice_index, IfOk};
 ghost use Rattle.psl_layer_theory.specs.LookUp as spec;
 ghost use Rattle.psl_names.specs.Alike.{alike_each, first_passes, said};
-ghost use Rattle.psl_names.specs.Sorting.{found_in, found_with, is_before, names_of, IsPlaceOf};
+ghost use Rattle.psl_names.specs.Sorting.{found_in, found_with, named_in, is_before, names_of, IsPlaceOf};
 ghost use Rattle.std.specs.List.Sorted.{IsSortedBy};
 
 use crate::ends::compare_ends;
@@ -61,6 +61,38 @@ pub fn look_up(names: &NameIndex, text: &[u8]) -> Found
         place_of(sorted, text),
         text,
     )
+}
+
+/// What a text stands for among names where the entries have to have it.
+pub(crate) fn named(names: &NameIndex, text: &[u8]) -> Found
+    ensures { result ≡ spec.named names.now text.now }
+{
+    let sorted = names.sorted.as_slice();
+    named_from(
+        sorted,
+        names.counts.as_slice(),
+        place_of(sorted, text),
+        text,
+    )
+}
+
+// What a text finds among the names from a place on that have it.
+fn named_from(sorted: &[&Name], counts: &[usize], place: usize, text: &[u8]) -> Found
+    requires { counts.now ≡ alike_each (names_of sorted.now) }
+    ensures { result ≡ named_in text.now (drop place (names_of sorted.now)) }
+{
+    if is_named_at(sorted, place, text) {
+        found_from(sorted, counts, place, text)
+    } else {
+        Found::Nothing
+    }
+}
+
+// Whether the name at a place has a text.
+fn is_named_at(sorted: &[&Name], place: usize, text: &[u8]) -> bool
+    ensures { result ≡ first_passes (spec.is_named text.now) (drop place (names_of sorted.now)) }
+{
+    place < sorted.len() && is_named(sorted[place], text)
 }
 
 // The place of the first name whose end is not before a text.

@@ -1,30 +1,55 @@
-// Which signal a path stands for.
-ghost use Rattle.std.specs.Prelude.{◌≡◌, ◌<◌, ◌^◌, IfOk, IsTrue};
-ghost use Rattle.psl_layer_theory.specs.LookUp as spec;
+// Which bits a path stands for.
+ghost use Rattle.std.specs.Prelude.{◌≡◌, ◌<◌, ◌^◌, None, Some, IfOk, IsTrue};
+ghost use Rattle.psl_layer_theory.specs.References as spec;
 
-use crate::matching::{NameIndex, look_up};
+use crate::bus_bits::bus;
+use crate::matching::look_up;
+use crate::paths::PathIndex;
 use crate::texts::indexed_text;
 use crate::values::number_of;
 use psl_base::NoMemory;
 use psl_layer_theory::{Found, Reference};
 use psl_lexer::Token;
+use psl_sugar::Vector;
 use std::alloc::Global;
 
-/// What a text stands for as a signal, perhaps with an index.
+/// What a text stands for, perhaps with an index.
 pub fn refers_to(
     alloc: Global,
-    names: &NameIndex,
+    names: &PathIndex,
     text: &[u8],
     index: Option<u64>,
 ) -> Result<Reference, NoMemory>
     ensures { IfOk result (λ reference. reference ≡ spec.refers_to names.now text.now index) }
 {
-    let Some(index) = index else {
-        return Ok(whole_of(look_up(names, text)));
-    };
+    match index {
+        Some(index) => with_index(alloc, names, text, index),
+        None => without_index(alloc, names, text),
+    }
+}
+
+// What a path without an index stands for: a signal, or, if none matches, a bus.
+fn without_index(alloc: Global, names: &PathIndex, text: &[u8]) -> Result<Reference, NoMemory>
+    ensures { IfOk result (λ reference. reference ≡ spec.refers_to names.now text.now None) }
+{
+    match look_up(names.names(), text) {
+        Found::Nothing => bus(alloc, names, text),
+        found => Ok(whole_of(found)),
+    }
+}
+
+// What a path with an index stands for: a signal of that name, or, if none matches, a bit.
+fn with_index(
+    alloc: Global,
+    names: &PathIndex,
+    text: &[u8],
+    index: u64,
+) -> Result<Reference, NoMemory>
+    ensures { IfOk result (λ reference. reference ≡ spec.refers_to names.now text.now (Some index)) }
+{
     let indexed = indexed_text(alloc, text, index)?;
-    Ok(match look_up(names, indexed.as_slice()) {
-        Found::Nothing => bit_of(look_up(names, text), index),
+    Ok(match look_up(names.names(), indexed.as_slice()) {
+        Found::Nothing => bit_of(look_up(names.names(), text), index),
         found => whole_of(found),
     })
 }
@@ -49,11 +74,10 @@ fn whole_of(found: Found) -> Reference
             signal,
             left,
             right,
-        } => Reference::Bits {
-            signal,
-            lowest: 0,
-            width: distance(u64::from(left), u64::from(right)) + 1,
-        },
+        } => {
+            let width = distance(u64::from(left), u64::from(right)) + 1;
+            Reference::Bits(Vector::side_by_side(signal, 0, width))
+        }
         Found::Several => Reference::Several,
     }
 }
@@ -72,11 +96,8 @@ fn bit_of(found: Found, index: u64) -> Reference
             if !is_index(left, right, index) {
                 return Reference::Nothing;
             }
-            Reference::Bits {
-                signal,
-                lowest: distance(index, u64::from(right)) as u32,
-                width: 1,
-            }
+            let place = distance(index, u64::from(right)) as u32;
+            Reference::Bits(Vector::side_by_side(signal, place, 1))
         }
         Found::Several => Reference::Several,
     }

@@ -1,21 +1,22 @@
 -- A comparison of two sides is the comparison of their numbers.
-use Rattle.std.proofs.Common.{◌≡◌, ℕ, zero, suc, ◌+◌, ◌-◌, ◌*◌, ◌/◌, ◌%◌, ◌^◌, ◌<◌, ◌≤◌, Bool, true, false, not, ◌&&◌, ◌||◌, eqb, ltb, leb, List, ◌⊎◌, inl, inr, refl, sym, ap, subst, ◌∙◌, arith, pow-suc, add-one}
-use Rattle.std.proofs.lemmas.Bool.{lt-ltb, le-ltb, and_from, and_parts, cases_lt, not-true, not_from_false}
+use Rattle.std.proofs.Common.{◌≡◌, ℕ, zero, suc, ◌+◌, ◌-◌, ◌*◌, ◌/◌, ◌%◌, ◌^◌, ◌<◌, ◌≤◌, Bool, true, false, not, ◌&&◌, ◌||◌, eqb, ltb, leb, List, length, ◌⊎◌, inl, inr, refl, sym, ap, subst, ◌∙◌, arith, pow-suc, add-one}
+use Rattle.std.proofs.lemmas.Bool.{and_from, and_parts, cases_lt, not-true, not_from_false}
 use Rattle.std.proofs.lemmas.Bool.Decides.{same_from_decides, Decides-eqb, nat_tests}
 use Rattle.std.proofs.lemmas.List.FromFn.{sum_by-map-range_with_len_more}
 use Rattle.std.proofs.lemmas.Nat.{mod-pow-add}
+use Rattle.std.proofs.lemmas.Option.{slice_get_past}
 use Rattle.std.proofs.Math.Nat.{mod-eq_of_lt, pow-le-pow_right}
 use Rattle.std.specs.Prelude.{Decides, if◌then◌else◌}
 use Rattle.psl_tree.specs.Holds.{holds_among}
 use Rattle.psl_tree.specs.Trees.{Boolean, Const}
 use Rattle.psl_tree.specs.declared.atom.Atom.{Atom}
 use Rattle.psl_tree.specs.declared.letter.Letter.TheVariants.{Holds}
-use Rattle.psl_sugar.specs.Booleans.{bit_at, has_bit, conjunction_of}
+use Rattle.psl_sugar.specs.Booleans.{bit_or_zero, has_bit, conjunction_of}
 use Rattle.psl_sugar.specs.Comparisons.{width_of, compared_width, side_bit, literal, same_bit, equality_from, equality, less_within, less, comparison_row}
 use Rattle.psl_sugar.specs.Numbers.{number_of_bits, number_on, FitsIn, compares, ComparesNumbers}
 use Rattle.psl_sugar.specs.declared.comparison.Comparison.{Comparison}
 use Rattle.psl_sugar.specs.declared.comparison.Comparison.TheVariants as comparisons
-use Rattle.psl_sugar.specs.declared.boolean.Vector.{Vector}
+use Rattle.psl_sugar.specs.declared.vector.Bit.{Bit}
 use Rattle.psl_sugar.specs.declared.operand.Operand.{Operand}
 use Rattle.psl_sugar.specs.declared.operand.Operand.TheVariants.{Bits, Value}
 
@@ -96,18 +97,13 @@ module _ (atoms : List Atom) where
   is_one side place = holds_among atoms (side_bit side place)
 
   -- the number that a side's bits are is the side's number
-  vector_number : (vector : Vector) (width : ℕ) → vector.width ≤ width → number_of_bits (is_one (Bits vector)) width ≡ number_on (Holds atoms) (Bits vector)
+  vector_number : (vector : List Bit) (width : ℕ) → length vector ≤ width → number_of_bits (is_one (Bits vector)) width ≡ number_on (Holds atoms) (Bits vector)
   vector_number vector width wide =
-      let end : vector.width + (width - vector.width) ≡ width = omega arith in
-      ap (number_of_bits (is_one (Bits vector))) (sym end)
-      ∙ zeros_on (is_one (Bits vector)) vector.width (width - vector.width) past
-      ∙ same_number (is_one (Bits vector)) (λ (place : ℕ). holds_among atoms (bit_at vector place)) vector.width within
+      let end : length vector + (width - length vector) ≡ width = omega arith in
+      ap (number_of_bits (is_one (Bits vector))) (sym end) ∙ zeros_on (is_one (Bits vector)) (length vector) (width - length vector) past
     where
-      past : (place : ℕ) → vector.width ≤ place → is_one (Bits vector) place ≡ false
-      past place least = rw (le-ltb place vector.width least) refl
-
-      within : (place : ℕ) → place < vector.width → is_one (Bits vector) place ≡ holds_among atoms (bit_at vector place)
-      within place below = rw (lt-ltb place vector.width below) refl
+      past : (place : ℕ) → length vector ≤ place → is_one (Bits vector) place ≡ false
+      past place least = ap (λ bit. holds_among atoms (bit_or_zero bit)) (slice_get_past vector place least)
 
   side_number : (side : Operand) (width : ℕ) → width_of side ≤ width → FitsIn width side → number_of_bits (is_one side) width ≡ number_on (Holds atoms) side
   side_number (Bits vector) width wide fits = vector_number vector width wide

@@ -1,27 +1,22 @@
 -- What each atom of the sides of a comparison has, each atom of the comparison has.
-use Rattle.std.proofs.Common.{◌≡◌, ℕ, zero, suc, ◌-◌, ◌<◌, Bool, true, false, nat_lt, refl}
-use Rattle.std.proofs.lemmas.Bool.{ltb-true}
-use Rattle.std.specs.Prelude.{if◌then◌else◌}
+use Rattle.std.proofs.Common.{ℕ, zero, suc, ◌-◌, Bool, true, false}
 use Rattle.psl_sugar.proofs.RangedBooleans.{conjunction-has}
 use Rattle.psl_sugar.specs.Booleans.{bit_at, has_bit}
 use Rattle.psl_sugar.specs.Comparisons.{compared_width, side_bit, literal, same_bit, equality, less_within, less}
 use Rattle.psl_sugar.specs.declared.operand.Operand.{Operand}
 use Rattle.psl_sugar.specs.declared.operand.Operand.TheVariants.{Bits, Value}
 use Rattle.psl_tree.specs.Atoms.{AtomsOfBoolean}
-use Rattle.psl_tree.specs.Trees.{Boolean, Const}
+use Rattle.psl_tree.specs.Trees.{Boolean}
 use Rattle.psl_tree.specs.declared.atom.Atom.{Atom}
 
 -- the bits of a side
 abbrev pub OperandHas : (Atom → Type 0) → Operand → Type 0
-OperandHas P (Bits vector) = (place : ℕ) → place < vector.width → AtomsOfBoolean P (bit_at vector place)
+OperandHas P (Bits vector) = (place : ℕ) → AtomsOfBoolean P (bit_at vector place)
 OperandHas P (Value value) = Unit {0}
 
 module _ (P : Atom → Type 0) where
   side-has : (side : Operand) → OperandHas P side → (place : ℕ) → AtomsOfBoolean P (side_bit side place)
-  side-has (Bits vector) has place = at (nat_lt place vector.width) refl where
-    at : (b : Bool) → nat_lt place vector.width ≡ b → AtomsOfBoolean P (if b then bit_at vector place else Const false)
-    at true below = has place (ltb-true place vector.width below)
-    at false past = tt
+  side-has (Bits vector) has place = has place
   side-has (Value value) has place = tt
 
   literal-has : (bit : Boolean) (is_one : Bool) → AtomsOfBoolean P bit → AtomsOfBoolean P (literal bit is_one)

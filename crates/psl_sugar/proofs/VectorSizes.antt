@@ -1,10 +1,10 @@
 -- Vectors, and comparisons of vectors, have as many constructors as bits.
-use Rattle.std.proofs.Common.{ℕ, zero, suc, ◌+◌, ◌-◌, ◌≤◌, arith}
+use Rattle.std.proofs.Common.{ℕ, zero, suc, ◌+◌, ◌-◌, ◌≤◌, List, length, arith}
 use Rattle.psl_tree.specs.Trees.{Boolean, Const, Test, Not, And, Or}
 use Rattle.psl_tree.specs.Counts.{boolean_size}
 use Rattle.psl_sugar.specs.Booleans.{conjunction_of, disjunction_of, bit_of, some_bit}
 use Rattle.psl_sugar.specs.Comparisons.{compared_width, same_bit, equality, less_within, less}
-use Rattle.psl_sugar.specs.declared.boolean.Vector.{Vector}
+use Rattle.psl_sugar.specs.declared.vector.Bit.{Bit}
 use Rattle.psl_sugar.specs.declared.operand.Operand.{Operand}
 
 boolean_is_some : (test : Boolean) → 1 ≤ boolean_size test
@@ -34,5 +34,5 @@ less_within_size left right (suc places) = omega (arith, less_within_size left r
 pub less_size : (left right : Operand) → compared_width left right ≤ boolean_size (less left right)
 less_size left right = less_within_size left right (compared_width left right)
 
-pub some_bit_size : (vector : Vector) → vector.width ≤ boolean_size (some_bit vector)
-some_bit_size vector = omega (arith, disjunction_size (bit_of vector) (vector.width - 1))
+pub some_bit_size : (vector : List Bit) → length vector ≤ boolean_size (some_bit vector)
+some_bit_size vector = omega (arith, disjunction_size (bit_of vector) (length vector - 1))

@@ -1,34 +1,24 @@
 -- Comparisons of two unsigned numbers, each the bits of a vector or a value: a row for each (IEEE 1850, clause 5).
-use Rattle.std.specs.Prelude.{ℕ, zero, suc, ◌+◌, ◌-◌, ◌≤◌, ◌^◌, max, nat_lt, Bool as Truth, false, if◌then◌else◌}
+use Rattle.std.specs.Prelude.{ℕ, zero, suc, ◌-◌, max, Bool as Truth, false, if◌then◌else◌, length}
 use Rattle.psl_tree.specs.Trees.{Boolean, Const, Not, And, Or}
 use Rattle.psl_sugar.specs.Booleans.{bit_at, has_bit, conjunction_of}
-use Rattle.psl_sugar.specs.declared.boolean.Vector.{Vector}
 use Rattle.psl_sugar.specs.declared.comparison.Comparison.{Comparison}
 use Rattle.psl_sugar.specs.declared.comparison.Comparison.TheVariants as comparisons
 use Rattle.psl_sugar.specs.declared.operand.Operand.{Operand}
 use Rattle.psl_sugar.specs.declared.operand.Operand.TheVariants.{Bits, Value}
 
--- the bits of a side have places of 32 bits
-abbrev pub HasPlaces : Operand → Type 0
-HasPlaces (Bits vector) = vector.lowest + vector.width ≤ 2 ^ 32
-HasPlaces (Value value) = Unit {0}
-
 -- how many bits a side has of its own: a value has those of the other side
 abbrev pub width_of : Operand → ℕ
-width_of (Bits vector) = vector.width
+width_of (Bits vector) = length vector
 width_of (Value value) = 0
 
 -- how many bits are compared: as many as the wider vector has
 abbrev pub compared_width : Operand → Operand → ℕ
 compared_width left right = max (width_of left) (width_of right)
 
--- the bit of a vector at a place, counted from the right, from 0, or a zero on its left
-abbrev pub extended_bit : Vector → ℕ → Boolean
-extended_bit vector place = if nat_lt place vector.width then bit_at vector place else Const false
-
 -- the bit of a side
 abbrev pub side_bit : Operand → ℕ → Boolean
-side_bit (Bits vector) place = extended_bit vector place
+side_bit (Bits vector) place = bit_at vector place
 side_bit (Value value) place = Const (has_bit value place)
 
 -- a bit as the bit of a value wants it: as it is for a 1, else negated

@@ -4,7 +4,9 @@ pub mod Codes
 pub mod Comparisons
 pub mod Connectives
 pub mod Counting
+pub mod Kept
 pub mod Numbers
 pub mod Properties
 pub mod Rows
 pub mod Sequences
+pub mod Vectors

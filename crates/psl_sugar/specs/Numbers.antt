@@ -1,5 +1,5 @@
 -- The numbers that the two sides of a comparison are on a letter, and what a comparison says of two numbers.
-use Rattle.std.specs.Prelude.{◌≡◌, ℕ, ◌^◌, ◌<◌, ◌==◌, nat_lt, nat_le, Bool as Truth, not, if◌then◌else◌, List, map}
+use Rattle.std.specs.Prelude.{◌≡◌, ℕ, ◌^◌, ◌<◌, ◌==◌, nat_lt, nat_le, Bool as Truth, not, if◌then◌else◌, List, length, map}
 use Rattle.std.specs.List.{sum, range_with_len}
 use Rattle.psl_tree.specs.Holds.{holds}
 use Rattle.psl_tree.specs.declared.atom.Atom.{Atom}
@@ -18,7 +18,7 @@ number_of_bits is_one width = sum (map (λ place. if is_one place then 2 ^ place
 
 -- the number that a side is on a letter
 abbrev pub number_on : Letter → Operand → ℕ
-number_on letter (Bits vector) = number_of_bits (λ place. holds letter (bit_at vector place)) vector.width
+number_on letter (Bits vector) = number_of_bits (λ place. holds letter (bit_at vector place)) (length vector)
 number_on letter (Value value) = value
 
 -- a side needs no more bits than these

@@ -34,15 +34,6 @@ impl Model for MeasuredBool {
     ghost invariant = { λ test. (boolean_size (boolean_of test.tree) ≡ test.size) × (test.size ≤ 4096) };
 }
 
-/// Bits of a signal that stand side by side: so many, of which the rightmost has this place in the
-/// signal, counted from the right from 0.
-#[derive(Clone, Copy, Debug, PartialEq, Eq)]
-pub struct Vector {
-    pub signal: u32,
-    pub lowest: u32,
-    pub width: u32,
-}
-
 // Written out, so that a caller's proof sees one call where a value is dropped.
 impl Drop for MeasuredBool {
     fn drop(self) {

@@ -1,6 +1,6 @@
 // Comparisons of vectors and numbers.
 ghost use Rattle.psl_sugar.specs.Budget.{GivesBoolean};
-ghost use Rattle.psl_sugar.specs.Comparisons.{HasPlaces, comparison_row};
+ghost use Rattle.psl_sugar.specs.Comparisons.{comparison_row};
 
 use crate::{MeasuredBool, Operand, SugarFault};
 use std::alloc::Global;
@@ -27,12 +27,10 @@ impl MeasuredBool {
     pub fn compared(
         alloc: Global,
         comparison: Comparison,
-        left: Operand,
-        right: Operand,
+        left: &Operand,
+        right: &Operand,
     ) -> Result<MeasuredBool, SugarFault>
-        requires left_places { HasPlaces left }
-        requires right_places { HasPlaces right }
-        ensures { GivesBoolean result (comparison_row comparison left right) }
+        ensures { GivesBoolean result (comparison_row comparison left.now right.now) }
     {
         match comparison {
             Comparison::Equal => MeasuredBool::equality(alloc, left, right),

@@ -1,7 +1,7 @@
 // The two sides of a comparison as equal numbers.
 ghost use Rattle.psl_tree.specs.Trees.{And};
 ghost use Rattle.psl_sugar.specs.Budget.{GivesBoolean};
-ghost use Rattle.psl_sugar.specs.Comparisons.{HasPlaces, literal, alike, same_bit, equality};
+ghost use Rattle.psl_sugar.specs.Comparisons.{literal, alike, same_bit, equality};
 
 use crate::boolean_sugar::has_bit;
 use crate::operand::compared_width;
@@ -29,17 +29,15 @@ impl MeasuredBool {
     // The two sides have the same bit at a place.
     fn same_bit(
         alloc: Global,
-        left: Operand,
-        right: Operand,
-        place: u32,
+        left: &Operand,
+        right: &Operand,
+        place: u64,
     ) -> Result<MeasuredBool, SugarFault>
-        requires left_places { HasPlaces left }
-        requires right_places { HasPlaces right }
-        ensures { GivesBoolean result (same_bit left right place) }
+        ensures { GivesBoolean result (same_bit left.now right.now place) }
     {
         match (left, right) {
-            (_, Operand::Value(value)) => left.bit(place).literal(alloc, has_bit(value, place)),
-            (Operand::Value(value), _) => right.bit(place).literal(alloc, has_bit(value, place)),
+            (_, Operand::Value(value)) => left.bit(place).literal(alloc, has_bit(*value, place)),
+            (Operand::Value(value), _) => right.bit(place).literal(alloc, has_bit(*value, place)),
             _ => left.bit(place).alike(alloc, right.bit(place)),
         }
     }
@@ -48,13 +46,11 @@ impl MeasuredBool {
     fn and_same_bit(
         self,
         alloc: Global,
-        left: Operand,
-        right: Operand,
-        place: u32,
+        left: &Operand,
+        right: &Operand,
+        place: u64,
     ) -> Result<MeasuredBool, SugarFault>
-        requires left_places { HasPlaces left }
-        requires right_places { HasPlaces right }
-        ensures { GivesBoolean result (And self (same_bit left right place)) }
+        ensures { GivesBoolean result (And self (same_bit left.now right.now place)) }
     {
         let here = MeasuredBool::same_bit(alloc, left, right, place)?;
         self.and(alloc, here)
@@ -63,12 +59,10 @@ impl MeasuredBool {
     /// The conjunction from the left of the bits that are the same, the leftmost first.
     pub(crate) fn equality(
         alloc: Global,
-        left: Operand,
-        right: Operand,
+        left: &Operand,
+        right: &Operand,
     ) -> Result<MeasuredBool, SugarFault>
-        requires left_places { HasPlaces left }
-        requires right_places { HasPlaces right }
-        ensures { GivesBoolean result (equality left right) }
+        ensures { GivesBoolean result (equality left.now right.now) }
     {
         let leftmost = compared_width(left, right).saturating_sub(1);
         let mut all = MeasuredBool::same_bit(alloc, left, right, leftmost)?;

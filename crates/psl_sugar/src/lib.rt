@@ -24,9 +24,10 @@ mod sequence_sugar;
 mod suffix;
 mod temporal;
 mod until;
+mod vector;
 
 pub use abort::AbortOperator;
-pub use boolean::{MeasuredBool, Vector};
+pub use boolean::MeasuredBool;
 pub use comparison::Comparison;
 pub use connectives::Connective;
 pub use count::Count;
@@ -39,3 +40,4 @@ pub use sequence::MeasuredSere;
 pub use sequence_operators::SequenceOperator;
 pub use suffix::SuffixOperator;
 pub use until::UntilOperator;
+pub use vector::{Bit, Vector};

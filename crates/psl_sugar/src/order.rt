@@ -1,6 +1,6 @@
 // The left side of a comparison as the smaller number.
 ghost use Rattle.psl_sugar.specs.Budget.{GivesBoolean};
-ghost use Rattle.psl_sugar.specs.Comparisons.{HasPlaces, less_there, less};
+ghost use Rattle.psl_sugar.specs.Comparisons.{less_there, less};
 
 use crate::operand::compared_width;
 use crate::{MeasuredBool, Operand, SugarFault};
@@ -25,12 +25,10 @@ impl MeasuredBool {
     /// The left side is less: the rightmost bits come first, and each bit to the left of them counts more.
     pub(crate) fn less(
         alloc: Global,
-        left: Operand,
-        right: Operand,
+        left: &Operand,
+        right: &Operand,
     ) -> Result<MeasuredBool, SugarFault>
-        requires left_places { HasPlaces left }
-        requires right_places { HasPlaces right }
-        ensures { GivesBoolean result (less left right) }
+        ensures { GivesBoolean result (less left.now right.now) }
     {
         let mut is_less = MeasuredBool::constant(false);
         for place in 0..compared_width(left, right) {

@@ -18,7 +18,7 @@ fits_before left right leftmost more last below same =
 
 pub returns-in_err-all-2 : goal.returns-in_err-all-2
 returns-in_err-all-2 c =
-    let last = compared_width c.args.left c.args.right - 1 in
+    let last = compared_width c.args.left.now c.args.right.now - 1 in
     let same : c.saturating_sub-leftmost.result ≡ last = omega arith in
-    let fits = fits_before c.args.left c.args.right c.saturating_sub-leftmost.result c.loop-more.more last (omega arith) same in
+    let fits = fits_before c.args.left.now c.args.right.now c.saturating_sub-leftmost.result c.loop-more.more last (omega arith) same in
     grind (arith, common_steps)

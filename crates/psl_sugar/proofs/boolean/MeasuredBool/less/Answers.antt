@@ -7,5 +7,5 @@ use Rattle.psl_sugar.proofs.boolean.MeasuredBool.less.Goals as goal
 
 pub returns-in_err-is_less : goal.returns-in_err-is_less
 returns-in_err-is_less c =
-    let fits = less_fits c.args.left c.args.right c.loop-place.place (compared_width c.args.left c.args.right) (omega arith) in
+    let fits = less_fits c.args.left.now c.args.right.now c.loop-place.place (compared_width c.args.left.now c.args.right.now) (omega arith) in
     grind (arith, common_steps)
