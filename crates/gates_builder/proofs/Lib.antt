@@ -1,0 +1,4 @@
+pub mod CubeSteps
+pub mod Growing
+pub mod Loops
+pub mod Places

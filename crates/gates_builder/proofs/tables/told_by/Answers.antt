@@ -1,0 +1,16 @@
+use Rattle.std.proofs.Common.{◌∙◌, ap, rules, w32}
+use mir.Val.{SFits}
+use Rattle.std.proofs.lemmas.Int.{to_z-of_z}
+use Rattle.gates_nodes.specs.Tables.{sole}
+use Rattle.gates_builder.proofs.CubeSteps.{told-literal}
+use Rattle.gates_builder.proofs.tables.told_by.Goals as goal
+
+pub returns-in-Some-clause-literal : goal.returns-in-Some-clause-literal
+returns-in-Some-clause-literal c =
+    let fits : SFits w32 c.in-Some.literal = search rules in
+    rw to_z-of_z (told-literal c.args.given c.args.cover.now.on c.args.literals.now c.in_ok-on.on c.in-Some.literal c.requires.given c.requires.literals c.in_ok-on.ensures (c.in-Some.ensures ∙ ap sole c.as_slice-3.ensures))
+
+pub negated-requires : goal.negated-requires
+negated-requires c =
+    let fits : SFits w32 c.in-Some-sole.literal = search rules in
+    rw to_z-of_z (told-literal c.args.given c.args.cover.now.off c.args.literals.now c.in_ok-off.off c.in-Some-sole.literal c.requires.given c.requires.literals c.in_ok-off.ensures (c.in-Some-sole.ensures ∙ ap sole c.as_slice-in-None.ensures))

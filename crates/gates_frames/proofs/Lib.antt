@@ -1,0 +1,4 @@
+pub mod FramePaths
+pub mod Outputs
+pub mod Shown
+pub mod Stages

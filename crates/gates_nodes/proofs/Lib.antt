@@ -1,0 +1,10 @@
+pub mod Cubes
+pub mod Evaluations
+pub mod Folds
+pub mod Literals
+pub mod Luts
+pub mod Making
+pub mod Models
+pub mod Rows
+pub mod Sizes
+pub mod Values
