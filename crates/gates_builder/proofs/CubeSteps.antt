@@ -6,8 +6,9 @@ use Rattle.clauses.specs.declared.flat.TheConstants.{MOST_VARIABLES}
 use Rattle.clauses.specs.Literals.{clause_within, clauses_within, is_literal, is_within}
 use Rattle.netlist.specs.declared.rows.Mark.{Mark}
 use Rattle.gates_nodes.proofs.Cubes.{cubes-within}
+use Rattle.gates_nodes.specs.Nodes.{variables_of}
 use Rattle.gates_nodes.specs.Tables.{asked, cubes, marked, sole, with_literal}
-use Rattle.gates_builder.specs.Adding.{AreLiterals}
+use Rattle.gates_builder.specs.Adding.{AreLiterals, AreOf, Making}
 
 -- the first literal that is left of a row
 pub asked-drop : (given : ℕ) (row : List Mark) (literals : List ℤ) (i : ℕ) (m : Mark) (d : ℤ) → i < length row → i < length literals →
@@ -79,10 +80,19 @@ sole-literal n ((x ∷ y ∷ xs) ∷ []) l is within = cc
 sole-literal n (c ∷ d ∷ cubes) l is within = cc
 
 -- so it is of what is left of rows
+pub told-within : (n given : ℕ) (rows : List (List Mark)) (literals : List ℤ) (found : List (List ℤ)) (l : ℤ) → given < n → IsTrue (clause_within n literals) → found ≡ cubes given rows literals → Some l ≡ sole found →
+    IsTrue (is_within n l)
+told-within n given rows literals found l few within is told = sole-literal n (cubes given rows literals) l (told ∙ ap sole is) (cubes-within n given rows literals few within)
+
 pub told-literal : (given : ℕ) (rows : List (List Mark)) (literals : List ℤ) (found : List (List ℤ)) (l : ℤ) → given < MOST_VARIABLES → AreLiterals literals → found ≡ cubes given rows literals →
     Some l ≡ sole found → IsTrue (is_literal l)
-told-literal given rows literals found l few each is told =
-    sole-literal MOST_VARIABLES (cubes given rows literals) l (told ∙ ap sole is) (cubes-within MOST_VARIABLES given rows literals few (within-all literals each))
+told-literal given rows literals found l few each is told = told-within MOST_VARIABLES given rows literals found l few (within-all literals each) is told
+
+-- literals of a making, as a clause
+pub within-of : (making : Making) (literals : List ℤ) → AreOf making literals → IsTrue (clause_within (variables_of making.given making.nodes) literals)
+within-of making [] of = refl
+within-of making (l ∷ literals) of =
+    and_from (is_within (variables_of making.given making.nodes) l) (clause_within (variables_of making.given making.nodes) literals) (of 0 l (omega arith)).within (within-of making literals (λ k d below. of (suc k) d (omega arith)))
 
 pub get-is : {X : Type 0} (xs : List X) (i : ℕ) (x d : X) → slice_get xs i ≡ Some x → get_or xs i d ≡ x
 get-is [] i x d found = cc

@@ -1,17 +1,22 @@
 -- Nodes only become more, so that a part is too large only where the whole is.
-use Rattle.std.proofs.Common.{◌≡◌, ℕ, suc, ◌+◌, ◌<◌, ◌≤◌, ℤ, neg_ℤ, true, false, cond, List, [], ◌∷◌, ◌++◌, length, fold, Option, None, Some, Err, Ok, sym, ap, ◌∙◌, subst, arith, length-append}
+use Rattle.std.proofs.Common.{◌≡◌, ℕ, suc, ◌+◌, ◌<◌, ◌≤◌, ℤ, neg_ℤ, true, false, cond, List, [], ◌∷◌, ◌++◌, length, get_or, fold, Option, None, Some, Err, Ok, sym, ap, ◌∙◌, subst, arith, length-append}
 use Rattle.std.specs.Bool.{IsTrue}
 use Rattle.std.specs.Prelude.{Result, int_lt}
+use Rattle.std.proofs.lemmas.Bool.{and_from}
 use Rattle.clauses.specs.declared.flat.CnfFault.{CnfFault}
 use Rattle.clauses.specs.declared.flat.TheConstants.{MOST_VARIABLES}
-use Rattle.clauses.specs.Literals.{is_literal}
+use Rattle.clauses.specs.Literals.{is_literal, is_within}
+use Rattle.gates_theory.proofs.Within.{negated_within}
 use Rattle.netlist.specs.declared.rows.Mark.{Mark}
 use Rattle.gates_nodes.specs.declared.node.Node.{Node}
 use Rattle.gates_nodes.specs.declared.node.Node.TheVariants.{And}
 use Rattle.gates_nodes.specs.Folding.{Built, at_place, conjoined, conjoined_all, folded, higher, lower, place_of, shared, unless_folded}
-use Rattle.gates_nodes.specs.Nodes.{variables_of}
+use Rattle.gates_nodes.specs.Makes.{AreSound}
+use Rattle.gates_nodes.specs.Nodes.{node_within, variables_of}
+use Rattle.gates_nodes.proofs.Literals.{wider_literal}
+use Rattle.gates_nodes.proofs.Values.{nodes_within-append}
 use Rattle.gates_nodes.specs.Tables.{asked, with_row}
-use Rattle.gates_builder.specs.Adding.{Adds, Making, with_nodes}
+use Rattle.gates_builder.specs.Adding.{Adds, AreLiterals, AreOf, IsOf, Making, with_nodes}
 
 module _ (given : ℕ) where
   pub more-push : (nodes : List Node) (node : Node) → variables_of given (nodes ++ node ∷ []) ≡ suc (variables_of given nodes)
@@ -53,8 +58,8 @@ pub adds-as : (old new : Making) (built other : Built) (result : Result ℤ CnfF
 adds-as old new built other result e adds = subst (λ b. Adds old new b result) e adds
 
 -- a literal that needs no node
-pub adds-none : (old : Making) (built : Built) (l : ℤ) → IsTrue (is_literal l) → record { nodes = old.nodes; output = l } ≡ built → Adds old old built (Ok l)
-adds-none old built l literal e = subst (λ b. Adds old old b (Ok l)) e (record { making = refl_making; output = refl_literal; literal = literal; large = tt })
+pub adds-none : (old : Making) (built : Built) (l : ℤ) → IsOf old l → record { nodes = old.nodes; output = l } ≡ built → Adds old old built (Ok l)
+adds-none old built l of e = subst (λ b. Adds old old b (Ok l)) e (record { making = refl_making; output = refl_literal; within = of.within; literal = of.literal; large = tt })
   where
     refl_making : old ≡ with_nodes old old.nodes
     refl_making = Rattle.std.proofs.Common.refl
@@ -65,9 +70,35 @@ adds-none old built l literal e = subst (λ b. Adds old old b (Ok l)) e (record 
 -- where the first part fails
 pub adds-fails : (old new : Making) (part whole : Built) (fault : CnfFault) → variables_of old.given part.nodes ≤ variables_of old.given whole.nodes → Adds old new part (Err fault) → Adds old new whole (Err fault)
 adds-fails old new part whole fault more adds =
-    record { making = tt; output = tt; literal = tt; large = λ is. (let large : MOST_VARIABLES < variables_of old.given part.nodes = adds.large is in omega arith) }
+    record { making = tt; output = tt; within = tt; literal = tt; large = λ is. (let large : MOST_VARIABLES < variables_of old.given part.nodes = adds.large is in omega arith) }
 
 -- the negation of a literal that was added
 pub adds-negated : (old new : Making) (built : Built) (l opposite : ℤ) → opposite ≡ neg_ℤ l → IsTrue (is_literal opposite) → Adds old new built (Ok l) →
     Adds old new (record { nodes = built.nodes; output = neg_ℤ built.output }) (Ok opposite)
-adds-negated old new built l opposite e literal adds = record { making = adds.making; output = e ∙ ap neg_ℤ adds.output; literal = literal; large = tt }
+adds-negated old new built l opposite e literal adds = record { making = adds.making; output = e ∙ ap neg_ℤ adds.output; within = subst (λ x. IsTrue (is_within (variables_of new.given new.nodes) x)) (sym e) (negated_within (variables_of new.given new.nodes) l adds.within); literal = literal; large = tt }
+
+-- a literal stays one of the variables while nodes become more
+pub of-more : (old new : Making) (l : ℤ) → variables_of old.given old.nodes ≤ variables_of new.given new.nodes → IsOf old l → IsOf new l
+of-more old new l more of = record { within = wider_literal (variables_of old.given old.nodes) (variables_of new.given new.nodes) more l of.within; literal = of.literal }
+
+pub of-added : (old new : Making) (built : Built) (l : ℤ) → Adds old new built (Ok l) → IsOf new l
+of-added old new built l adds = record { within = adds.within; literal = adds.literal }
+
+pub all-more : (old new : Making) (literals : List ℤ) → variables_of old.given old.nodes ≤ variables_of new.given new.nodes → AreOf old literals → AreOf new literals
+all-more old new literals more of = λ k d below. of-more old new (get_or literals k d) more (of k d below)
+
+pub all-literals : (making : Making) (literals : List ℤ) → AreOf making literals → AreLiterals literals
+all-literals making literals of = λ k d below. (of k d below).literal
+
+pub negated-of : (making : Making) (l : ℤ) → IsTrue (is_literal (neg_ℤ l)) → IsOf making l → IsOf making (neg_ℤ l)
+negated-of making l literal of = record { within = negated_within (variables_of making.given making.nodes) l of.within; literal = literal }
+
+-- so they do when some were added
+pub more-added : (old new : Making) (built : Built) (l : ℤ) → variables_of old.given old.nodes ≤ variables_of old.given built.nodes → Adds old new built (Ok l) →
+    variables_of old.given old.nodes ≤ variables_of new.given new.nodes
+more-added old new built l more adds = omega (arith, more, ap (λ (m : Making). variables_of m.given m.nodes) adds.making)
+
+-- one node more names earlier literals
+pub sound-push : (given : ℕ) (nodes : List Node) (node : Node) → AreSound given nodes → IsTrue (node_within (variables_of given nodes) node) → AreSound given (nodes ++ node ∷ [])
+sound-push given nodes node sound within =
+    nodes_within-append (suc given) (variables_of given nodes) nodes (node ∷ []) (omega arith) sound (and_from (node_within (variables_of given nodes) node) true within (let one : true ≡ true = Rattle.std.proofs.Common.refl in one))

@@ -7,9 +7,10 @@ ghost use Rattle.gates_nodes.specs.declared.node.Node.{Node};
 ghost use Rattle.gates_nodes.specs.declared.node.Node.TheVariants.{And, Free};
 ghost use Rattle.gates_nodes.specs.Folding as spec;
 ghost use Rattle.gates_nodes.specs.Folding.{conjoined, either, folded, higher, lower, place_of, shared, with_node};
+ghost use Rattle.gates_nodes.specs.Makes.{AreSound};
 ghost use Rattle.gates_nodes.specs.Nodes as nodes;
-ghost use Rattle.gates_nodes.specs.Nodes.{variables_of};
-ghost use Rattle.gates_builder.specs.Adding.{with_nodes, Adds, AreLiterals};
+ghost use Rattle.gates_nodes.specs.Nodes.{node_within, variables_of};
+ghost use Rattle.gates_builder.specs.Adding.{Adds, IsOf};
 
 use crate::literals::{negated, no, yes};
 use clauses::{CnfFault, MOST_VARIABLES};
@@ -79,9 +80,10 @@ impl Builder {
         &self.covers
     }
 
-    /// The nodes.
+    /// The nodes. They name earlier literals.
     pub fn nodes(&self) -> &[Node]
         ensures is { result.now ≡ self.now.nodes }
+        ensures sound { AreSound self.now.given self.now.nodes }
         ensures few { variables_of self.now.given self.now.nodes ≤ MOST_VARIABLES }
     {
         self.nodes.as_slice()
@@ -98,7 +100,7 @@ impl Builder {
     /// The literal that is true.
     pub fn yes(&self) -> i32
         ensures is { result ≡ nodes.yes self.now.given }
-        ensures literal { IsTrue (is_literal result) }
+        ensures of { IsOf self.now result }
     {
         yes(self.given)
     }
@@ -106,14 +108,15 @@ impl Builder {
     /// The literal that is false.
     pub fn no(&self) -> i32
         ensures is { result ≡ nodes.no self.now.given }
-        ensures literal { IsTrue (is_literal result) }
+        ensures of { IsOf self.now result }
     {
         no(self.given)
     }
 
     // One node more, which is not a conjunction.
     pub(crate) fn push(&mut self, node: Node) -> Result<i32, CnfFault>
-        requires { (first second : ℤ) → spec.is_conjunction first second node ≡ false }
+        requires other { (first second : ℤ) → spec.is_conjunction first second node ≡ false }
+        requires within { IsTrue (node_within (variables_of self.old.given self.old.nodes) node) }
         ensures { Adds self.old self.new (with_node self.old.given self.old.nodes node) result }
     {
         let before = self.variables();
@@ -143,7 +146,9 @@ impl Builder {
 
     // A conjunction that is not there.
     fn add(&mut self, first: i32, second: i32) -> Result<i32, CnfFault>
-        requires { place_of first second self.old.nodes ≡ None }
+        requires new { place_of first second self.old.nodes ≡ None }
+        requires first { IsOf self.old first }
+        requires second { IsOf self.old second }
         ensures { Adds self.old self.new (with_node self.old.given self.old.nodes (And first second)) result }
     {
         let before = self.variables();
@@ -165,6 +170,8 @@ impl Builder {
 
     // The conjunction of two literals, in this order.
     fn share(&mut self, first: i32, second: i32) -> Result<i32, CnfFault>
+        requires first { IsOf self.old first }
+        requires second { IsOf self.old second }
         ensures { Adds self.old self.new (shared self.old.given self.old.nodes first second) result }
     {
         match self.find(first, second) {
@@ -175,10 +182,10 @@ impl Builder {
 
     // The literal that a conjunction is folded to.
     fn fold(&self, first: i32, second: i32) -> Option<i32>
-        requires first { IsTrue (is_literal first) }
-        requires second { IsTrue (is_literal second) }
+        requires first { IsOf self.now first }
+        requires second { IsOf self.now second }
         ensures is { result ≡ folded self.now.given first second }
-        ensures literal { IfSome result (λ literal. IsTrue (is_literal literal)) }
+        ensures of { IfSome result (λ literal. IsOf self.now literal) }
     {
         if first == second {
             Some(first)
@@ -197,8 +204,8 @@ impl Builder {
 
     /// The conjunction of two literals.
     pub fn and(&mut self, first: i32, second: i32) -> Result<i32, CnfFault>
-        requires first { IsTrue (is_literal first) }
-        requires second { IsTrue (is_literal second) }
+        requires first { IsOf self.old first }
+        requires second { IsOf self.old second }
         ensures { Adds self.old self.new (conjoined self.old.given self.old.nodes first second) result }
     {
         match self.fold(first, second) {
@@ -215,8 +222,8 @@ impl Builder {
 
     /// One of two literals.
     pub fn or(&mut self, first: i32, second: i32) -> Result<i32, CnfFault>
-        requires first { IsTrue (is_literal first) }
-        requires second { IsTrue (is_literal second) }
+        requires first { IsOf self.old first }
+        requires second { IsOf self.old second }
         ensures { Adds self.old self.new (either self.old.given self.old.nodes first second) result }
     {
         let neither = self.and(negated(first), negated(second))?;

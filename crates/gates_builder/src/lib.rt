@@ -1,10 +1,11 @@
-//! Nodes in the making, with folding and sharing, and the formula of clauses over them.
+//! Nodes in the making, with folding and sharing.
 #![tactic(auto)]
 
 mod builder;
-mod cubes;
+mod left;
 mod literals;
 mod tables;
 
 pub use builder::Builder;
+pub use left::{Cubes, cubes};
 pub use literals::negated;

@@ -1,15 +1,15 @@
 // The nodes of tables.
-ghost use Rattle.std.specs.Prelude.{◌≡◌, ◌<◌, [], ◌∷◌, length, ℤ, Some, IfOk, IfSome, IsTrue};
+ghost use Rattle.std.specs.Prelude.{◌≡◌, ◌<◌, ℕ, [], ◌∷◌, length, IfOk, IfSome, IsTrue};
 ghost use Rattle.clauses.specs.declared.flat.TheConstants.{MOST_VARIABLES};
-ghost use Rattle.clauses.specs.Literals.{is_literal};
+ghost use Rattle.clauses.specs.Literals.{clause_within, is_within};
 ghost use Rattle.gates_nodes.specs.Folding.{conjoined_all};
 ghost use Rattle.gates_nodes.specs.Nodes.{cover_at};
 ghost use Rattle.gates_nodes.specs.Tables as spec;
 ghost use Rattle.gates_nodes.specs.Tables.{asked, some_row, tabled};
-ghost use Rattle.gates_builder.specs.Adding.{Adds, AreLiterals};
+ghost use Rattle.gates_builder.specs.Adding.{Adds, AreLiterals, AreOf};
 
 use crate::Builder;
-use crate::cubes::{cubes, has_nil, marked, sole};
+use crate::left::{cubes, has_nil, marked, sole};
 use crate::literals::{negated, no, yes};
 use clauses::CnfFault;
 use gates_nodes::{Cover, Node};
@@ -20,7 +20,7 @@ use std::alloc::Global;
 impl Builder {
     /// All of some literals.
     pub fn all(&mut self, literals: &[i32]) -> Result<i32, CnfFault>
-        requires { AreLiterals literals.now }
+        requires { AreOf self.old literals.now }
         ensures { Adds self.old self.new (conjoined_all self.old.given self.old.nodes literals.now) result }
     {
         let mut output = self.yes();
@@ -32,7 +32,7 @@ impl Builder {
 
     /// A row fits literals: they are true or false as its marks ask.
     pub fn row(&mut self, row: &[Mark], literals: &[i32]) -> Result<i32, CnfFault>
-        requires { AreLiterals literals.now }
+        requires { AreOf self.old literals.now }
         ensures { Adds self.old self.new
             (conjoined_all self.old.given self.old.nodes (asked self.old.given row.now literals.now)) result }
     {
@@ -47,7 +47,7 @@ impl Builder {
 
     /// Some row fits literals.
     pub fn rows(&mut self, rows: &Rows, literals: &[i32]) -> Result<i32, CnfFault>
-        requires { AreLiterals literals.now }
+        requires { AreOf self.old literals.now }
         ensures { Adds self.old self.new (some_row self.old.given self.old.nodes rows.now literals.now) result }
     {
         let mut output = self.no();
@@ -69,7 +69,7 @@ impl Builder {
         fourth: i32,
     ) -> Result<i32, CnfFault>
         requires listed { cover < length self.old.covers }
-        requires literals { AreLiterals (first ∷ second ∷ third ∷ fourth ∷ []) }
+        requires literals { AreOf self.old (first ∷ second ∷ third ∷ fourth ∷ []) }
         ensures { Adds self.old self.new
             (tabled self.old.covers self.old.given self.old.nodes cover first second third fourth) result }
     {
@@ -94,7 +94,8 @@ fn told_by(
     requires literals { AreLiterals literals.now }
     ensures is { IfOk result (λ told. told
         ≡ spec.told_by given (spec.cubes given cover.now.on literals.now) (spec.cubes given cover.now.off literals.now)) }
-    ensures literal { IfOk result (λ told. IfSome told (λ literal. IsTrue (is_literal literal))) }
+    ensures within { IfOk result (λ told. IfSome told (λ literal. (n : ℕ) → given < n → IsTrue (clause_within n literals.now)
+        → IsTrue (is_within n literal))) }
 {
     let on = cubes(alloc, given, &cover.on, literals)?;
     let off = cubes(alloc, given, &cover.off, literals)?;

@@ -17,7 +17,7 @@ use Rattle.gates_nodes.specs.Tables.{cubes}
 use Rattle.gates_nodes.proofs.Cubes.{cubes-within}
 use Rattle.gates_nodes.proofs.Literals.{first_within, more_within, rest_within, wider_literal, yes-within}
 
-negated_all : (n : ℕ) (literals : List ℤ) → IsTrue (clause_within n literals) → IsTrue (clause_within n (map neg_ℤ literals))
+pub negated_all : (n : ℕ) (literals : List ℤ) → IsTrue (clause_within n literals) → IsTrue (clause_within n (map neg_ℤ literals))
 negated_all n [] within = refl
 negated_all n (l ∷ literals) within =
     more_within n (neg_ℤ l) (map neg_ℤ literals) (negated_within n l (first_within n l literals within)) (negated_all n literals (rest_within n l literals within))

@@ -13,4 +13,6 @@ mod hierarchies;
 #[cfg(test)]
 mod netlists;
 #[cfg(test)]
+mod node_formulas;
+#[cfg(test)]
 mod orders;

@@ -4,8 +4,20 @@ use Rattle.std.proofs.lemmas.Int.{to_z-of_z}
 use Rattle.std.proofs.lemmas.List.{drop_more}
 use Rattle.std.proofs.lemmas.Result.{err_from_is_err_and}
 use Rattle.gates_nodes.specs.Tables.{some_row, with_row}
-use Rattle.gates_builder.proofs.Loops.{SoFar, rows-fail, rows-fail_or, rows-step}
+use Rattle.gates_builder.proofs.Growing.{more-added, of-more}
+use Rattle.gates_builder.proofs.Loops.{SoFar, fits_of, more-fits, rows-fail, rows-fail_or, rows-step}
 use Rattle.gates_builder.proofs.builder.Builder.rows.Goals as goal
+
+pub or-requires-clause-first : goal.or-requires-clause-first
+or-requires-clause-first c =
+    let i = c.loop-i.i in
+    let rows = c.args.rows.now in
+    let literals = c.args.literals.now in
+    let mid = c.loop-i.self in
+    let row = get_or rows i [] in
+    let first = rw c.at.ensures at c.in_ok-fits.ensures in
+    let more = more-added mid c.row.new.self (fits_of mid.given mid.nodes row literals) c.in_ok-fits.fits (more-fits mid.given mid.nodes row literals) first in
+    of-more mid c.row.new.self (to_z w32 c.loop-i.output-bits) more (record { within = c.loop-i.invariant.within; literal = c.loop-i.invariant.literal })
 
 pub loop-i-preserved : goal.loop-i-preserved
 loop-i-preserved c =

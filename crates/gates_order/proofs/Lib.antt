@@ -1,0 +1,6 @@
+mod Depths
+mod Graphs
+mod Orders
+mod Places
+mod Rising
+mod Steps

@@ -1,0 +1,5 @@
+mod Folds
+mod Growing
+mod Keeping
+mod Later
+mod Reading
