@@ -2,6 +2,7 @@ pub mod Adding
 pub mod Additions
 pub mod Asked
 pub mod AskedRows
+pub mod Chains
 pub mod Circuits
 pub mod Evaluated
 pub mod FoundPairs

@@ -1,4 +1,5 @@
 pub mod Asked
+pub mod Guards
 pub mod Joined
 pub mod JointView
 pub mod Kept

@@ -12,6 +12,7 @@ mod each;
 mod evaluating;
 mod facts;
 mod found;
+mod guards;
 mod joined;
 mod keeping;
 mod kept;

@@ -1,64 +1,150 @@
 // Nothing is owed or pending next that nothing asks for.
-ghost use Rattle.std.specs.Prelude.{◌≡◌, ◌++◌, ◌<◌, map, neg_ℤ, All, IfErr, IfOk, OnOk, IsTrue};
+ghost use Rattle.std.specs.Prelude.{◌≡◌, ◌<◌, All, IfErr, IfOk, IsTrue, true};
+ghost use Rattle.alternating.specs.Views.{positive_of};
+ghost use Rattle.alternating_theory.specs.Atoms.{AtomsOfObligations, AtomsOfPositive};
 ghost use Rattle.clauses.specs.declared.flat.CnfFault.{CnfFault};
 ghost use Rattle.clauses.specs.Literals.{is_literal};
+ghost use Rattle.gates_theory.specs.Terms.Term.{Literal, Negation};
 ghost use Rattle.joint.specs.Asked.{asked_rows};
-ghost use Rattle.joint_theory.specs.Bits.{count_of, owed_bit, pending_bit};
+ghost use Rattle.joint.specs.Guards.{asker_bit, guard_of};
+ghost use Rattle.joint_theory.specs.Bits.{count_of};
+ghost use Rattle.joint_theory.specs.Guards.{guards, AtomsOfGuard};
 ghost use Rattle.joint_theory.specs.Relation as spec;
 ghost use Rattle.run_gates.specs.Building.{Builds, BuildsAll};
 
 use crate::askers::{AskedRows, askers_of, rows_of};
 use crate::each::{Asking, add_each};
+use crate::guards::{Guard, add_unless, and_guard, or_guard};
 use crate::product::Product;
+use alternating::Positive;
 use clauses::CnfFault;
-use gates_theory::Literals;
-use psl_base::NoMemory;
-use run_gates::{Builder, Held, add_all, negated};
+use psl_base::{NoMemory, Numbers};
+use run_gates::{Builder, Held, negated};
 use std::alloc::Global;
 
-/// Not all of some literals are true.
-fn add_not_all(gates: &mut Builder, literals: &[i32]) -> Result<i32, CnfFault>
-    requires { All (λ literal. IsTrue (is_literal literal)) literals.now }
-    ensures { Builds gates.old gates.new (spec.not_all_of literals.now) result }
+// What a literal says, and under none of its guards does a combination ask for the obligation of a number, where another
+// literal says that it is owed or pending.
+fn add_unless_asked(
+    gates: &mut Builder,
+    product: Product<'_>,
+    all: i32,
+    asker: i32,
+    guard: Guard<'_>,
+    delta: &Positive,
+    number: u32,
+) -> Result<i32, CnfFault>
+    requires all { IsTrue (is_literal all) }
+    requires asker { IsTrue (is_literal asker) }
+    requires guard { AtomsOfGuard (λ atom. atom.signal < product.netlist.now.signals) (guard_of guard) }
+    requires delta { AtomsOfPositive (λ atom. atom.signal < product.netlist.now.signals) (positive_of delta.now) }
+    ensures { Builds gates.old gates.new (spec.unless_asking product.entry.netlist.now asker (Literal all)
+        (guards (guard_of guard.entry) (positive_of delta.now) number)) result }
 {
-    let all = add_all(gates, literals)?;
-    Ok(negated(all))
+    match delta {
+        Positive::Const(_) | Positive::Holds(_) => Ok(all),
+        Positive::Owed(other) => {
+            if *other == number {
+                add_unless(gates, product, all, asker, guard)
+            } else {
+                Ok(all)
+            }
+        }
+        Positive::And(left, right) => {
+            let (first, second) = (and_guard(guard, right), and_guard(guard, left));
+            let all = add_unless_asked(gates, product, all, asker, first, left, number)?;
+            add_unless_asked(gates, product, all, asker, second, right, number)
+        }
+        Positive::Or(left, right) => {
+            let (first, second) = (or_guard(guard, right), or_guard(guard, left));
+            let all = add_unless_asked(gates, product, all, asker, first, left, number)?;
+            add_unless_asked(gates, product, all, asker, second, right, number)
+        }
+    }
 }
 
-// One literal more for each of some obligations: it is not owed.
-fn push_not_owed(
-    literals: &mut Literals,
-    product: Product<'_>,
-    askers: &[u32],
-) -> Result<(), NoMemory>
-    requires askers { All (λ other. other < count_of product.violation.now) askers.now }
-    requires literals { All (λ literal. IsTrue (is_literal literal)) literals.old }
-    ensures is { OnOk result (literals.new ≡ literals.old
-        ++ map (λ other. neg_ℤ (owed_bit product.entry.netlist.now 0 other)) askers.now) }
-    ensures literals { OnOk result (All (λ literal. IsTrue (is_literal literal)) literals.new) }
+// Whether an obligation is owed, or is pending.
+fn asker_of(product: Product<'_>, pending: bool, number: u32) -> i32
+    requires { number < count_of product.violation.now }
+    ensures is { result ≡ asker_bit product.entry.netlist.now product.entry.violation.now pending number }
+    ensures literal { IsTrue (is_literal result) }
 {
-    for other in askers {
-        literals.push(negated(product.owed(0, *other)))?;
+    if pending {
+        product.pending(0, number)
+    } else {
+        product.owed(0, number)
     }
-    Ok(())
 }
 
-// One literal more for each of some obligations: it is not pending.
-fn push_not_pending(
-    literals: &mut Literals,
+// What a literal says, and none of some obligations that are owed, or pending, asks for the one of a number.
+fn add_unasked(
+    gates: &mut Builder,
+    product: Product<'_>,
+    pending: bool,
+    first: i32,
+    askers: &[u32],
+    number: u32,
+) -> Result<i32, CnfFault>
+    requires first { IsTrue (is_literal first) }
+    requires askers { All (λ other. other < count_of product.violation.now) askers.now }
+    requires atoms { AtomsOfObligations (λ atom. atom.signal < product.netlist.now.signals) product.violation.now.obligations }
+    ensures { Builds gates.old gates.new (spec.unasked product.entry.netlist.now product.entry.violation.now
+        (asker_bit product.entry.netlist.now product.entry.violation.now pending) number (Literal first) askers.now) result }
+{
+    let mut all = first;
+    for i in 0..askers.len() {
+        let other = askers[i];
+        let asker = asker_of(product, pending, other);
+        let delta = product.violation.delta(other);
+        all = add_unless_asked(gates, product, all, asker, Guard::Always, delta, number)?;
+    }
+    Ok(all)
+}
+
+// An obligation is pending next, and something was pending.
+fn add_still(gates: &mut Builder, product: Product<'_>, number: u32) -> Result<i32, CnfFault>
+    requires { number < count_of product.violation.now }
+    ensures { Builds gates.old gates.new (spec.pending_still
+        product.entry.netlist.now product.entry.violation.now product.entry.width number) result }
+{
+    let pending = product.pending(product.width, number);
+    gates.and(pending, negated(product.emptied()))
+}
+
+// So it is, and none of some obligations that were pending asks for it.
+fn add_unasked_still(
+    gates: &mut Builder,
     product: Product<'_>,
     askers: &[u32],
-) -> Result<(), NoMemory>
+    number: u32,
+) -> Result<i32, CnfFault>
+    requires below { number < count_of product.violation.now }
     requires askers { All (λ other. other < count_of product.violation.now) askers.now }
-    requires literals { All (λ literal. IsTrue (is_literal literal)) literals.old }
-    ensures is { OnOk result (literals.new ≡ literals.old
-        ++ map (λ other. neg_ℤ (pending_bit product.entry.netlist.now product.entry.violation.now 0 other)) askers.now) }
-    ensures literals { OnOk result (All (λ literal. IsTrue (is_literal literal)) literals.new) }
+    requires atoms { AtomsOfObligations (λ atom. atom.signal < product.netlist.now.signals) product.violation.now.obligations }
+    ensures { Builds gates.old gates.new (spec.unasked product.entry.netlist.now product.entry.violation.now
+        (asker_bit product.entry.netlist.now product.entry.violation.now true) number (spec.pending_still
+        product.entry.netlist.now product.entry.violation.now product.entry.width number) askers.now) result }
 {
-    for other in askers {
-        literals.push(negated(product.pending(0, *other)))?;
+    let still = add_still(gates, product, number)?;
+    add_unasked(gates, product, true, still, askers, number)
+}
+
+// The obligations whose deltas name the one of a number.
+fn named_by(
+    alloc: Global,
+    product: Product<'_>,
+    rows: &AskedRows,
+    number: u32,
+) -> Result<Numbers, CnfFault>
+    requires rows { rows.now ≡ asked_rows product.violation.now }
+    requires below { number < count_of product.violation.now }
+    ensures is { IfOk result (λ numbers. numbers ≡ spec.askers product.entry.violation.now number) }
+    ensures below { IfOk result (All (λ other. other < count_of product.entry.violation.now)) }
+    ensures err { IfErr result (λ fault. fault ≡ CnfFault.NoMemory) }
+{
+    match askers_of(alloc, product.violation, rows, number) {
+        Ok(askers) => Ok(askers),
+        Err(NoMemory) => Err(CnfFault::NoMemory),
     }
-    Ok(())
 }
 
 // An obligation is owed next only where one that is owed asks for it.
@@ -69,37 +155,21 @@ struct OwedAsked<'a> {
     rows: &'a AskedRows,
 }
 
-impl<'a> OwedAsked<'a> {
-    // It is owed next, and none is owed that asks for it.
-    fn unasked(self, number: u32) -> Result<Literals, NoMemory>
-        requires rows { self.rows.now ≡ asked_rows self.product.violation.now }
-        requires below { number < count_of self.product.violation.now }
-        ensures is { IfOk result (λ literals. literals ≡ spec.unasked_owed
-            self.entry.product.netlist.now self.entry.product.violation.now self.entry.product.width number) }
-        ensures literals { IfOk result (All (λ literal. IsTrue (is_literal literal))) }
-    {
-        let product = self.product;
-        let askers = askers_of(self.alloc, product.violation, self.rows, number)?;
-        let mut literals = Literals::new(self.alloc);
-        literals.push(product.owed(product.width, number))?;
-        push_not_owed(&mut literals, product, askers.as_slice())?;
-        Ok(literals)
-    }
-}
-
 impl<'a> Asking for OwedAsked<'a> {
     ghost count = { λ this. count_of this.product.violation.now };
 
-    ghost allows = { λ this. this.rows.now ≡ asked_rows this.product.violation.now };
+    ghost allows = { λ this. (this.rows.now ≡ asked_rows this.product.violation.now)
+        × AtomsOfObligations (λ atom. atom.signal < this.product.netlist.now.signals) this.product.violation.now.obligations };
 
-    ghost term = { λ this number. spec.not_all_of
+    ghost term = { λ this number. Negation
         (spec.unasked_owed this.product.netlist.now this.product.violation.now this.product.width number) };
 
     fn add_asked(&self, gates: &mut Builder, number: u32) -> Result<i32, CnfFault> {
-        match self.unasked(number) {
-            Ok(literals) => add_not_all(gates, literals.as_slice()),
-            Err(NoMemory) => Err(CnfFault::NoMemory),
-        }
+        let product = self.product;
+        let askers = named_by(self.alloc, product, self.rows, number)?;
+        let owed = product.owed(product.width, number);
+        let unasked = add_unasked(gates, product, false, owed, askers.as_slice(), number)?;
+        Ok(negated(unasked))
     }
 }
 
@@ -111,38 +181,20 @@ struct PendingAsked<'a> {
     rows: &'a AskedRows,
 }
 
-impl<'a> PendingAsked<'a> {
-    // It is pending next, something is pending, and nothing of that asks for it.
-    fn unasked(self, number: u32) -> Result<Literals, NoMemory>
-        requires rows { self.rows.now ≡ asked_rows self.product.violation.now }
-        requires below { number < count_of self.product.violation.now }
-        ensures is { IfOk result (λ literals. literals ≡ spec.unasked_pending
-            self.entry.product.netlist.now self.entry.product.violation.now self.entry.product.width number) }
-        ensures literals { IfOk result (All (λ literal. IsTrue (is_literal literal))) }
-    {
-        let product = self.product;
-        let askers = askers_of(self.alloc, product.violation, self.rows, number)?;
-        let mut literals = Literals::new(self.alloc);
-        literals.push(product.pending(product.width, number))?;
-        literals.push(negated(product.emptied()))?;
-        push_not_pending(&mut literals, product, askers.as_slice())?;
-        Ok(literals)
-    }
-}
-
 impl<'a> Asking for PendingAsked<'a> {
     ghost count = { λ this. count_of this.product.violation.now };
 
-    ghost allows = { λ this. this.rows.now ≡ asked_rows this.product.violation.now };
+    ghost allows = { λ this. (this.rows.now ≡ asked_rows this.product.violation.now)
+        × AtomsOfObligations (λ atom. atom.signal < this.product.netlist.now.signals) this.product.violation.now.obligations };
 
-    ghost term = { λ this number. spec.not_all_of
+    ghost term = { λ this number. Negation
         (spec.unasked_pending this.product.netlist.now this.product.violation.now this.product.width number) };
 
     fn add_asked(&self, gates: &mut Builder, number: u32) -> Result<i32, CnfFault> {
-        match self.unasked(number) {
-            Ok(literals) => add_not_all(gates, literals.as_slice()),
-            Err(NoMemory) => Err(CnfFault::NoMemory),
-        }
+        let product = self.product;
+        let askers = named_by(self.alloc, product, self.rows, number)?;
+        let unasked = add_unasked_still(gates, product, askers.as_slice(), number)?;
+        Ok(negated(unasked))
     }
 }
 
@@ -153,6 +205,7 @@ pub(crate) fn add_support(
     held: &mut Held,
     product: Product<'_>,
 ) -> Result<(), CnfFault>
+    requires { AtomsOfObligations (λ atom. atom.signal < product.netlist.now.signals) product.violation.now.obligations }
     ensures { BuildsAll gates.old gates.new held.old held.new
         (spec.support_terms product.entry.netlist.now product.entry.violation.now product.entry.width) result }
 {

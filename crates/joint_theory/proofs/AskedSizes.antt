@@ -1,18 +1,32 @@
--- How many obligations ask for others: in sum over all that are asked for at most the constructors of their deltas.
-use Rattle.std.proofs.Common.{◌≡◌, ◌⊎◌, inl, inr, refl, ap, subst, ℕ, zero, suc, ◌+◌, ◌*◌, ◌≤◌, ◌<◌, Bool as Truth, true, false, cond, ◌||◌, eqb, List, [], ◌∷◌, map, length, arith, suc-mul}
-use Rattle.std.specs.Prelude.{count_by, filter, sum_by}
+-- The gates of what nothing asks for: in sum over all obligations at most three for each constructor of their deltas.
+use Rattle.std.proofs.Common.{◌≡◌, ◌⊎◌, inl, inr, refl, ap, subst, ℕ, zero, suc, ◌+◌, ◌*◌, ◌≤◌, ◌<◌, ℤ, Bool as Truth, true, false, cond, eqb, List, [], ◌∷◌, ◌++◌, map, length, arith, suc-mul}
+use Rattle.std.specs.Prelude.{filter, sum_by, if◌then◌else◌}
 use Rattle.std.specs.List.{range_with_len}
 use Rattle.std.proofs.lemmas.Bool.{cases_eq, eq-eqb, ne_eqb}
-use Rattle.std.proofs.lemmas.List.Sums.{sum_by-cons}
+use Rattle.std.proofs.lemmas.List.Sums.{sum_by-append, sum_by-cons}
 use Rattle.alternating_theory.specs.Obligations.{Automaton, Obligation, obligation_at}
-use Rattle.alternating_theory.specs.Positive.{Positive, Const, Holds, Owed, And, Or, owes}
+use Rattle.alternating_theory.specs.Positive.{owes, Positive, Const, Holds, Owed, And, Or}
 use Rattle.gates_theory.specs.Terms.{Term, term_size}
+use Rattle.gates_theory.specs.Terms.Term.{Conjunction, Negation}
+use Rattle.netlist.specs.Design.{Design}
+use Rattle.psl_tree.specs.Counts.{boolean_size}
+use Rattle.psl_tree.specs.Trees as trees
+use Rattle.psl_tree.specs.Trees.{Boolean}
 use Rattle.run_terms.specs.Sizes.{constructors, positive_size, terms_size}
+use Rattle.run_terms.proofs.BooleanValues.{boolean-gates}
 use Rattle.joint_theory.specs.Bits.{numbers_of}
-use Rattle.joint_theory.specs.Relation.{askers}
+use Rattle.joint_theory.specs.Guards.{and_guard, guards, if_test, or_guard, unless_test, Guard, Always, If, IfNot}
+use Rattle.joint_theory.specs.Relation.{askers, asking_term, unasked, unless_asking}
+use Rattle.joint_theory.specs.States.{delta_of}
 
-abbrev one_if : Truth → ℕ
-one_if test = cond test 1 0
+-- what a guard takes at most
+abbrev cost : Guard → ℕ
+cost Always = 1
+cost (If test) = 2 * boolean_size test + 2
+cost (IfNot test) = 2 * boolean_size test + 2
+
+abbrev costs : List Guard → ℕ
+costs list = sum_by cost list
 
 -- sums
 
@@ -25,80 +39,181 @@ split-sum all one two [] each = omega arith
 split-sum all one two (first ∷ numbers) each =
     omega (arith, sum_by-cons all first numbers, sum_by-cons one first numbers, sum_by-cons two first numbers, each first, split-sum all one two numbers each)
 
--- the numbers that a delta owes
+-- an obligation is asked for at one number
+one-at : (guard : Guard) (wanted first count : ℕ) → wanted < first → sum_by (λ number. costs (if eqb wanted number then guard ∷ [] else [])) (range_with_len first count) ≡ 0
+one-at guard wanted first zero low = refl
+one-at guard wanted first (suc count) low =
+    let here : costs (if eqb wanted first then guard ∷ [] else []) ≡ 0 = ap (λ (t : Truth). costs (if t then guard ∷ [] else [])) (ne_eqb wanted first (λ e. omega (arith, e))) in
+    omega (arith, sum_by-cons (λ number. costs (if eqb wanted number then guard ∷ [] else [])) first (range_with_len (first + 1) count), here, one-at guard wanted (first + 1) count (omega arith))
 
-one-at : (wanted first count : ℕ) → wanted < first → count_by (λ number. eqb wanted number) (range_with_len first count) ≡ 0
-one-at wanted first zero low = refl
-one-at wanted first (suc count) low =
-    let here : one_if (eqb wanted first) ≡ 0 = ap one_if (ne_eqb wanted first (λ e. omega (arith, e))) in
-    omega (arith, sum_by-cons (λ number. one_if (eqb wanted number)) first (range_with_len (first + 1) count), here, one-at wanted (first + 1) count (omega arith))
-
-one-most : (wanted first count : ℕ) → count_by (λ number. eqb wanted number) (range_with_len first count) ≤ 1
-one-most wanted first zero = omega arith
-one-most wanted first (suc count) = by (one-most wanted (first + 1) count) (cases_eq wanted first)
+one-most : (guard : Guard) (wanted first count : ℕ) → sum_by (λ number. costs (if eqb wanted number then guard ∷ [] else [])) (range_with_len first count) ≤ cost guard
+one-most guard wanted first zero = omega arith
+one-most guard wanted first (suc count) = by (one-most guard wanted (first + 1) count) (cases_eq wanted first)
   where
-    by : count_by (λ number. eqb wanted number) (range_with_len (first + 1) count) ≤ 1 → (wanted ≡ first) ⊎ (wanted ≡ first → ⊥)
-        → count_by (λ number. eqb wanted number) (range_with_len first (suc count)) ≤ 1
+    one : costs (guard ∷ []) ≡ cost guard
+    one = omega (arith, sum_by-cons cost guard [])
+
+    by : sum_by (λ number. costs (if eqb wanted number then guard ∷ [] else [])) (range_with_len (first + 1) count) ≤ cost guard → (wanted ≡ first) ⊎ (wanted ≡ first → ⊥)
+        → sum_by (λ number. costs (if eqb wanted number then guard ∷ [] else [])) (range_with_len first (suc count)) ≤ cost guard
     by rest (inl same) =
-        let here : one_if (eqb wanted first) ≡ 1 = ap one_if (eq-eqb wanted first same) in
-        omega (arith, sum_by-cons (λ number. one_if (eqb wanted number)) first (range_with_len (first + 1) count), here, one-at wanted (first + 1) count (omega (arith, same)))
+        let here : costs (if eqb wanted first then guard ∷ [] else []) ≡ costs (guard ∷ []) = ap (λ (t : Truth). costs (if t then guard ∷ [] else [])) (eq-eqb wanted first same) in
+        omega (
+          arith,
+          sum_by-cons (λ number. costs (if eqb wanted number then guard ∷ [] else [])) first (range_with_len (first + 1) count),
+          here,
+          one,
+          one-at guard wanted (first + 1) count (omega (arith, same)),
+        )
     by rest (inr other) =
-        let here : one_if (eqb wanted first) ≡ 0 = ap one_if (ne_eqb wanted first other) in
-        omega (arith, sum_by-cons (λ number. one_if (eqb wanted number)) first (range_with_len (first + 1) count), here, rest)
+        let here : costs (if eqb wanted first then guard ∷ [] else []) ≡ 0 = ap (λ (t : Truth). costs (if t then guard ∷ [] else [])) (ne_eqb wanted first other) in
+        omega (arith, sum_by-cons (λ number. costs (if eqb wanted number then guard ∷ [] else [])) first (range_with_len (first + 1) count), here, rest)
 
-either-few : (a b : Truth) → one_if (a || b) ≤ one_if a + one_if b
-either-few true b = omega arith
-either-few false b = omega arith
+-- what a combination's guards take, over all numbers
+abbrev spent : Guard → Positive → ℕ → ℕ → ℕ
+spent guard delta first count = sum_by (λ number. costs (guards guard delta number)) (range_with_len first count)
 
-owes-few : (delta : Positive) (first count : ℕ) → count_by (owes delta) (range_with_len first count) ≤ positive_size delta
-owes-few (Const value) first count = omega (arith, none-sum (range_with_len first count))
-owes-few (Holds test) first count = omega (arith, none-sum (range_with_len first count))
-owes-few (Owed number) first count = one-most number first count
-owes-few (And left right) first count =
-    omega (
-      arith,
-      split-sum (λ number. one_if (owes left number || owes right number)) (λ number. one_if (owes left number)) (λ number. one_if (owes right number))
-          (range_with_len first count) (λ number. either-few (owes left number) (owes right number)),
-      owes-few left first count,
-      owes-few right first count,
-    )
-owes-few (Or left right) first count =
-    omega (
-      arith,
-      split-sum (λ number. one_if (owes left number || owes right number)) (λ number. one_if (owes left number)) (λ number. one_if (owes right number))
-          (range_with_len first count) (λ number. either-few (owes left number) (owes right number)),
-      owes-few left first count,
-      owes-few right first count,
-    )
+if-cost : (guard : Guard) (test : Boolean) → cost (if_test guard test) ≤ cost guard + 2 * (boolean_size test + 1)
+if-cost guard (trees.Const true) = omega arith
+if-cost guard (trees.Const false) = omega arith
+if-cost guard (trees.Test atom) = omega arith
+if-cost guard (trees.Not part) = omega arith
+if-cost guard (trees.And left right) = omega arith
+if-cost guard (trees.Or left right) = omega arith
 
--- the obligations that ask for one
+unless-cost : (guard : Guard) (test : Boolean) → cost (unless_test guard test) ≤ cost guard + 2 * (boolean_size test + 1)
+unless-cost guard (trees.Const true) = omega arith
+unless-cost guard (trees.Const false) = omega arith
+unless-cost guard (trees.Test atom) = omega arith
+unless-cost guard (trees.Not part) = omega arith
+unless-cost guard (trees.And left right) = omega arith
+unless-cost guard (trees.Or left right) = omega arith
 
-length-filter : (test : ℕ → Truth) (first : ℕ) (numbers : List ℕ) → length (filter test (first ∷ numbers)) ≤ one_if (test first) + length (filter test numbers)
-length-filter test first numbers = by (test first)
-  where
-    by : (passes : Truth) → length (cond passes (first ∷ filter test numbers) (filter test numbers)) ≤ one_if passes + length (filter test numbers)
-    by true = omega arith
-    by false = omega arith
+-- a test asks for nothing, and what stands beside it takes no more for it than its size; what stands beside another
+-- combination stands under no guard
+abbrev Beside : (Guard → Positive → Guard) → Positive → Type 0
+Beside toward sibling =
+    (((guard : Guard) (first count : ℕ) → spent guard sibling first count ≡ 0) × ((guard : Guard) → cost (toward guard sibling) ≤ cost guard + 2 * positive_size sibling))
+    ⊎ ((guard : Guard) → cost (toward guard sibling) ≡ 1)
+
+beside-and : (sibling : Positive) → Beside and_guard sibling
+beside-and (Const value) = inr (λ guard. refl)
+beside-and (Holds test) = inl (λ guard first count. none-sum (range_with_len first count), λ guard. if-cost guard test)
+beside-and (Owed number) = inr (λ guard. refl)
+beside-and (And left right) = inr (λ guard. refl)
+beside-and (Or left right) = inr (λ guard. refl)
+
+beside-or : (sibling : Positive) → Beside or_guard sibling
+beside-or (Const value) = inr (λ guard. refl)
+beside-or (Holds test) = inl (λ guard first count. none-sum (range_with_len first count), λ guard. unless-cost guard test)
+beside-or (Owed number) = inr (λ guard. refl)
+beside-or (And left right) = inr (λ guard. refl)
+beside-or (Or left right) = inr (λ guard. refl)
+
+module _ (toward : Guard → Positive → Guard) (left right : Positive) (guard : Guard) (first count : ℕ) where
+  pair-most : Beside toward left → Beside toward right
+      → spent (toward guard right) left first count ≤ 2 * positive_size left + cost (toward guard right)
+      → spent (toward guard left) right first count ≤ 2 * positive_size right + cost (toward guard left)
+      → sum_by (λ number. costs (guards (toward guard right) left number ++ guards (toward guard left) right number)) (range_with_len first count)
+      ≤ 2 * (positive_size left + positive_size right + 1) + cost guard
+  pair-most l r one two = by l r
+    where
+      both : sum_by (λ number. costs (guards (toward guard right) left number ++ guards (toward guard left) right number)) (range_with_len first count)
+          ≤ spent (toward guard right) left first count + spent (toward guard left) right first count
+      both =
+          split-sum (λ number. costs (guards (toward guard right) left number ++ guards (toward guard left) right number))
+          (λ number. costs (guards (toward guard right) left number)) (λ number. costs (guards (toward guard left) right number)) (range_with_len first count)
+          (λ number. omega (arith, sum_by-append cost (guards (toward guard right) left number) (guards (toward guard left) right number)))
+
+      by : Beside toward left → Beside toward right
+          → sum_by (λ number. costs (guards (toward guard right) left number ++ guards (toward guard left) right number)) (range_with_len first count)
+          ≤ 2 * (positive_size left + positive_size right + 1) + cost guard
+      by (inl l) (inl r) = omega (arith, both, l.0 (toward guard right) first count, r.0 (toward guard left) first count)
+      by (inl l) (inr r) = omega (arith, both, l.0 (toward guard right) first count, l.1 guard, two)
+      by (inr l) (inl r) = omega (arith, both, r.0 (toward guard left) first count, r.1 guard, one)
+      by (inr l) (inr r) = omega (arith, both, l guard, r guard, one, two)
+
+guards-few : (delta : Positive) (guard : Guard) (first count : ℕ) → spent guard delta first count ≤ 2 * positive_size delta + cost guard
+guards-few (Const value) guard first count = omega (arith, none-sum (range_with_len first count))
+guards-few (Holds test) guard first count = omega (arith, none-sum (range_with_len first count))
+guards-few (Owed number) guard first count = omega (arith, one-most guard number first count)
+guards-few (And left right) guard first count =
+    pair-most and_guard left right guard first count (beside-and left) (beside-and right)
+    (guards-few left (and_guard guard right) first count) (guards-few right (and_guard guard left) first count)
+guards-few (Or left right) guard first count =
+    pair-most or_guard left right guard first count (beside-or left) (beside-or right)
+    (guards-few left (or_guard guard right) first count) (guards-few right (or_guard guard left) first count)
+
+some-size : (delta : Positive) → 1 ≤ positive_size delta
+some-size (Const value) = omega arith
+some-size (Holds test) = omega arith
+some-size (Owed number) = omega arith
+some-size (And left right) = omega arith
+some-size (Or left right) = omega arith
+
+-- and those of all obligations
 
 asked-sum : (count : ℕ) (delta : ℕ → Positive) (first : ℕ) (obligations : List Obligation)
     → ((q : ℕ) → q < length obligations → delta (first + q) ≡ (obligation_at obligations q).delta)
-    → sum_by (λ number. length (filter (λ other. owes (delta other) number) (range_with_len first (length obligations)))) (range_with_len 0 count)
-    ≤ sum_by (λ obligation. positive_size obligation.delta) obligations
+    → sum_by (λ number. sum_by (λ other. costs (guards Always (delta other) number)) (range_with_len first (length obligations))) (range_with_len 0 count)
+    ≤ 3 * sum_by (λ obligation. positive_size obligation.delta) obligations
 asked-sum count delta first [] each = omega (arith, none-sum (range_with_len 0 count))
 asked-sum count delta first (obligation ∷ obligations) each =
-    let numbers = range_with_len 0 count in
-    let others = range_with_len (first + 1) (length obligations) in
     let here : delta first ≡ obligation.delta = subst (λ (k : ℕ). delta k ≡ obligation.delta) (omega arith) (each 0 (omega arith)) in
-    let few : count_by (owes (delta first)) (range_with_len 0 count) ≤ positive_size obligation.delta =
-    subst (λ (p : Positive). count_by (owes (delta first)) (range_with_len 0 count) ≤ positive_size p) here (owes-few (delta first) 0 count) in
+    let size : positive_size (delta first) ≡ positive_size obligation.delta = ap positive_size here in
     let rest = asked-sum count delta (first + 1) obligations
     (λ q low. subst (λ (k : ℕ). delta k ≡ (obligation_at obligations q).delta) (omega arith) (each (suc q) (omega arith))) in
-    let split = split-sum (λ number. length (filter (λ other. owes (delta other) number) (range_with_len first (length (obligation ∷ obligations)))))
-    (λ number. one_if (owes (delta first) number)) (λ number. length (filter (λ other. owes (delta other) number) (range_with_len (first + 1) (length obligations))))
-    (range_with_len 0 count) (λ number. length-filter (λ other. owes (delta other) number) first (range_with_len (first + 1) (length obligations))) in
-    omega (arith, split, few, rest, sum_by-cons (λ (other : Obligation). positive_size other.delta) obligation obligations)
+    let split = split-sum (λ number. sum_by (λ other. costs (guards Always (delta other) number)) (range_with_len first (length (obligation ∷ obligations))))
+    (λ number. costs (guards Always (delta first) number)) (λ number. sum_by (λ other. costs (guards Always (delta other) number)) (range_with_len (first + 1) (length obligations)))
+    (range_with_len 0 count)
+    (λ number. omega (arith, sum_by-cons (λ other. costs (guards Always (delta other) number)) first (range_with_len (first + 1) (length obligations)))) in
+    omega (
+      arith,
+      split,
+      guards-few (delta first) Always 0 count,
+      some-size (delta first),
+      size,
+      rest,
+      sum_by-cons (λ (other : Obligation). positive_size other.delta) obligation obligations,
+    )
 
--- terms that take a gate for each obligation that asks for one, and some more
+-- the terms
+
+asking-size : (design : Design) (literal : ℤ) (guard : Guard) → term_size (asking_term design literal guard) + 1 ≤ cost guard
+asking-size design literal Always = omega arith
+asking-size design literal (If test) = omega (arith, boolean-gates design.signals 0 test)
+asking-size design literal (IfNot test) = omega (arith, boolean-gates design.signals 0 test)
+
+unless-size : (design : Design) (literal : ℤ) (term : Term) (list : List Guard) → term_size (unless_asking design literal term list) ≤ term_size term + costs list
+unless-size design literal term [] = omega arith
+unless-size design literal term (guard ∷ list) =
+    omega (
+      arith,
+      unless-size design literal (Conjunction term (Negation (asking_term design literal guard))) list,
+      asking-size design literal guard,
+      sum_by-cons cost guard list,
+    )
+
+unasked-size : (design : Design) (automaton : Automaton) (bit : ℕ → ℤ) (number : ℕ) (term : Term) (numbers : List ℕ)
+    → term_size (unasked design automaton bit number term numbers) ≤ term_size term + sum_by (λ other. costs (guards Always (delta_of automaton other) number)) numbers
+unasked-size design automaton bit number term [] = omega arith
+unasked-size design automaton bit number term (asker ∷ numbers) =
+    let list = guards Always (delta_of automaton asker) number in
+    omega (
+      arith,
+      unasked-size design automaton bit number (unless_asking design (bit asker) term list) numbers,
+      unless-size design (bit asker) term list,
+      sum_by-cons (λ other. costs (guards Always (delta_of automaton other) number)) asker numbers,
+    )
+
+filter-less : (test : ℕ → Truth) (size : ℕ → ℕ) (numbers : List ℕ) → sum_by size (filter test numbers) ≤ sum_by size numbers
+filter-less test size [] = omega arith
+filter-less test size (first ∷ numbers) = by (test first) (filter-less test size numbers)
+  where
+    by : (passes : Truth) → sum_by size (filter test numbers) ≤ sum_by size numbers → sum_by size (cond passes (first ∷ filter test numbers) (filter test numbers)) ≤ sum_by size (first ∷ numbers)
+    by true rest = omega (arith, sum_by-cons size first (filter test numbers), sum_by-cons size first numbers, rest)
+    by false rest = omega (arith, sum_by-cons size first numbers, rest)
+
+-- terms that take so many gates each, and some more
 terms-most : (term : ℕ → Term) (more : ℕ → ℕ) (extra : ℕ) (numbers : List ℕ) → ((number : ℕ) → term_size (term number) ≤ extra + more number)
     → terms_size (map term numbers) ≤ length numbers * extra + sum_by more numbers
 terms-most term more extra [] each = omega arith
@@ -112,11 +227,18 @@ terms-most term more extra (first ∷ numbers) each =
       terms-most term more extra numbers each,
     )
 
-pub askers-size : (automaton : Automaton) (term : ℕ → Term) (extra : ℕ) → ((number : ℕ) → term_size (term number) ≤ extra + length (askers automaton number))
-    → terms_size (map term (numbers_of automaton)) ≤ length (numbers_of automaton) * extra + constructors automaton
-askers-size automaton term extra each =
-    let obligations = automaton.obligations in
-    let most = terms-most term (λ number. length (askers automaton number)) extra (numbers_of automaton) each in
-    let sum = asked-sum (length automaton.obligations) (λ other. (obligation_at automaton.obligations other).delta) 0 automaton.obligations
+pub askers-size : (design : Design) (automaton : Automaton) (bit : ℕ → ℤ) (term : ℕ → Term) (extra : ℕ) → ((number : ℕ) → term_size (term number) ≤ extra)
+    → terms_size (map (λ number. Negation (unasked design automaton bit number (term number) (askers automaton number))) (numbers_of automaton))
+    ≤ length (numbers_of automaton) * extra + 3 * constructors automaton
+askers-size design automaton bit term extra each =
+    let more : ℕ → ℕ = λ number. sum_by (λ other. costs (guards Always (delta_of automaton other) number)) (numbers_of automaton) in
+    let most = terms-most (λ number. Negation (unasked design automaton bit number (term number) (askers automaton number))) more extra (numbers_of automaton)
+    (λ number. omega (
+      arith,
+      each number,
+      unasked-size design automaton bit number (term number) (askers automaton number),
+      filter-less (λ other. owes (delta_of automaton other) number) (λ other. costs (guards Always (delta_of automaton other) number)) (numbers_of automaton),
+    )) in
+    let sum = asked-sum (length automaton.obligations) (delta_of automaton) 0 automaton.obligations
     (λ q low. ap (λ (k : ℕ). (obligation_at automaton.obligations k).delta) (omega arith)) in
     omega (arith, most, sum)

@@ -13,7 +13,6 @@ use Rattle.psl_tree.specs.declared.letter.Letter.{Letter}
 use Rattle.alternating_theory.specs.Obligations.{Automaton}
 use Rattle.alternating_theory.specs.Positive.{met}
 use Rattle.alternating_theory.specs.Acceptance.{serves, IsRun}
-use Rattle.alternating_theory.proofs.MetOwed.{met-grows}
 use Rattle.netlist.specs.Design.{Design}
 use Rattle.netlist.specs.Valuations.{IsValuation, IsInitial as IsInitialValuation, IsStep}
 use Rattle.run_terms.specs.Letters.{letter_after}
@@ -21,6 +20,7 @@ use Rattle.joint_theory.specs.States.{is_listed, is_accepting, is_asked, delta_o
 use Rattle.joint_theory.specs.declared.path.JointState.{JointState}
 use Rattle.joint_theory.proofs.Asked.{asked-by}
 use Rattle.joint_theory.proofs.Closed.{IsJointWalk}
+use Rattle.joint_theory.proofs.Guards.{met-asked}
 use Rattle.joint_theory.proofs.Numbers.{at-listed, from-listed, rising-filter, rising-one, listed-range, listed-filter, filter-same, among-filter}
 
 some-of : (o : Option ℕ) → IsTrue (is_some o) → (k : ℕ) × (o ≡ Some k)
@@ -78,12 +78,12 @@ module _ (design : Design) (automaton : Automaton) (visits count : ℕ) (letter 
   abbrev has_entry : ℕ → ℕ → Truth
   has_entry place number = is_some (entry place number)
 
-  abbrev is_owed : List ℕ → ℕ → ℕ → Truth
-  is_owed owed place number = has_entry place number && is_asked automaton owed number
+  abbrev is_owed : Letter → List ℕ → ℕ → ℕ → Truth
+  is_owed x owed place number = has_entry place number && is_asked automaton x owed number
 
   abbrev owed_at : ℕ → List ℕ
   owed_at zero = automaton.start ∷ []
-  owed_at (suc time) = filter (is_owed (owed_at time) (place_at (suc time))) (range_with_len 0 many)
+  owed_at (suc time) = filter (is_owed (letter (place_at time)) (owed_at time) (place_at (suc time))) (range_with_len 0 many)
 
   -- what is pending, of what may be so
   abbrev is_pending : (ℕ → Truth) → ℕ → ℕ → ℕ → Truth
@@ -93,14 +93,14 @@ module _ (design : Design) (automaton : Automaton) (visits count : ℕ) (letter 
   pending_below allowed time bound = filter (is_pending allowed (place_at time) bound) (owed_at time)
 
   -- all may be pending where nothing was, and what is asked for where something was
-  abbrev may_stay : List ℕ → ℕ → Truth
-  may_stay pending number = (length pending == 0) || is_asked automaton pending number
+  abbrev may_stay : Letter → List ℕ → ℕ → Truth
+  may_stay x pending number = (length pending == 0) || is_asked automaton x pending number
 
   -- what may be pending, and the bound of the ranks
   abbrev course_at : ℕ → (ℕ → Truth) × ℕ
   course_at zero = (λ number. true, highest)
   course_at (suc time) = (
-    may_stay (pending_below (course_at time).0 time (course_at time).1),
+    may_stay (letter (place_at time)) (pending_below (course_at time).0 time (course_at time).1),
     if length (pending_below (course_at time).0 time (course_at time).1) == 0 then highest else (course_at time).1 - 1,
   )
 
@@ -148,26 +148,26 @@ module _ (design : Design) (automaton : Automaton) (visits count : ℕ) (letter 
   abbrev HasEntry : ℕ → ℕ → Type 0
   HasEntry time number = IsTrue (has_entry (place_at time) number)
 
-  owed-passes : (time : ℕ) → All (λ number. is_owed (owed_at time) (place_at (suc time)) number ≡ true) (owed_at (suc time))
-  owed-passes time = filter_passes (is_owed (owed_at time) (place_at (suc time))) (range_with_len 0 many)
+  owed-passes : (time : ℕ) → All (λ number. is_owed (letter (place_at time)) (owed_at time) (place_at (suc time)) number ≡ true) (owed_at (suc time))
+  owed-passes time = filter_passes (is_owed (letter (place_at time)) (owed_at time) (place_at (suc time))) (range_with_len 0 many)
 
   owed-entries : (time : ℕ) → All (HasEntry time) (owed_at time)
   owed-entries zero = All-cons (HasEntry 0) automaton.start [] run.begins (All-nil (HasEntry 0))
   owed-entries (suc time) =
-      All-weaker (λ number. is_owed (owed_at time) (place_at (suc time)) number ≡ true) (HasEntry (suc time))
-      (λ number h. (and_parts (has_entry (place_at (suc time)) number) (is_asked automaton (owed_at time) number) h).0) (owed_at (suc time)) (owed-passes time)
+      All-weaker (λ number. is_owed (letter (place_at time)) (owed_at time) (place_at (suc time)) number ≡ true) (HasEntry (suc time))
+      (λ number h. (and_parts (has_entry (place_at (suc time)) number) (is_asked automaton (letter (place_at time)) (owed_at time) number) h).0) (owed_at (suc time)) (owed-passes time)
 
-  owed-asked : (time : ℕ) → AreAsked automaton (owed_at time) (owed_at (suc time))
+  owed-asked : (time : ℕ) → AreAsked automaton (letter (place_at time)) (owed_at time) (owed_at (suc time))
   owed-asked time =
-      All-weaker (λ number. is_owed (owed_at time) (place_at (suc time)) number ≡ true) (λ number. IsTrue (is_asked automaton (owed_at time) number))
-      (λ number h. (and_parts (has_entry (place_at (suc time)) number) (is_asked automaton (owed_at time) number) h).1) (owed_at (suc time)) (owed-passes time)
+      All-weaker (λ number. is_owed (letter (place_at time)) (owed_at time) (place_at (suc time)) number ≡ true) (λ number. IsTrue (is_asked automaton (letter (place_at time)) (owed_at time) number))
+      (λ number h. (and_parts (has_entry (place_at (suc time)) number) (is_asked automaton (letter (place_at time)) (owed_at time) number) h).1) (owed_at (suc time)) (owed-passes time)
 
-  entries-owed : (time number : ℕ) → IsTrue (is_asked automaton (owed_at time) number) → IsTrue (has_entry (place_at (suc time)) number) → IsTrue (is_listed (owed_at (suc time)) number)
+  entries-owed : (time number : ℕ) → IsTrue (is_asked automaton (letter (place_at time)) (owed_at time) number) → IsTrue (has_entry (place_at (suc time)) number) → IsTrue (is_listed (owed_at (suc time)) number)
   entries-owed time number asked h =
-      listed-filter (is_owed (owed_at time) (place_at (suc time))) (range_with_len 0 many) number
-      ∙ and_from (is_listed (range_with_len 0 many) number) (is_owed (owed_at time) (place_at (suc time)) number)
+      listed-filter (is_owed (letter (place_at time)) (owed_at time) (place_at (suc time))) (range_with_len 0 many) number
+      ∙ and_from (is_listed (range_with_len 0 many) number) (is_owed (letter (place_at time)) (owed_at time) (place_at (suc time)) number)
       (listed-range 0 many number (omega arith) (omega (arith, entry-number (place_at (suc time)) number h)))
-      (and_from (has_entry (place_at (suc time)) number) (is_asked automaton (owed_at time) number) h asked)
+      (and_from (has_entry (place_at (suc time)) number) (is_asked automaton (letter (place_at time)) (owed_at time) number) h asked)
 
   -- where all may be pending, below the highest bound that is all that is owed and not accepting
   pending-all : (allowed : ℕ → Truth) → ((number : ℕ) → allowed number ≡ true) → (time : ℕ) → pending_below allowed time highest ≡ not_accepting automaton (owed_at time)
@@ -190,7 +190,7 @@ module _ (design : Design) (automaton : Automaton) (visits count : ℕ) (letter 
 
   owed-rises : (time : ℕ) → IsStrictlyIncreasing (owed_at time)
   owed-rises zero = rising-one automaton.start
-  owed-rises (suc time) = rising-filter (is_owed (owed_at time) (place_at (suc time))) many
+  owed-rises (suc time) = rising-filter (is_owed (letter (place_at time)) (owed_at time) (place_at (suc time))) many
 
   before-some : (time : ℕ) → IfSome (before (place_at time)) (IsValuation design)
   before-some zero = subst (λ (o : Option (List Truth)). IfSome o (IsValuation design)) (sym none) tt
@@ -241,6 +241,9 @@ module _ (design : Design) (automaton : Automaton) (visits count : ℕ) (letter 
   at-letter : (time number : ℕ) (f : ℕ → Truth) → IsTrue (met (delta_of automaton number) (letter (place_at time)) f) → IsTrue (met (delta_of automaton number) (letter_in design (state_at time)) f)
   at-letter time number f = subst (λ (x : Letter). IsTrue (met (delta_of automaton number) x f)) (letters (place_at time) (place-below time))
 
+  at-asked : (time : ℕ) (numbers asked : List ℕ) → AreAsked automaton (letter (place_at time)) numbers asked → AreAsked automaton (letter_in design (state_at time)) numbers asked
+  at-asked time numbers asked = subst (λ (x : Letter). AreAsked automaton x numbers asked) (letters (place_at time) (place-below time))
+
   -- what is owed is met by what it asks for
   number-met : (time number : ℕ) → IsTrue (is_listed (owed_at time) number) → HasEntry time number
       → IsTrue (met (delta_of automaton number) (letter_in design (state_at time)) (is_listed (owed_at (suc time))))
@@ -249,10 +252,10 @@ module _ (design : Design) (automaton : Automaton) (visits count : ℕ) (letter 
       let place = place_at time in
       at-letter time number (is_listed (owed_at (suc time)))
       (elim (cases_Bool (is_accepting automaton number)) [
-        | inl a ↦ met-grows (delta_of automaton number) (letter place) (λ other. is_some (entry (next place) other)) (is_listed (owed_at (suc time)))
-            (λ other owed w. entries-owed time other (asked-by automaton (owed_at time) number other listed owed) w) (run.accepting place number k.0 k.1 a)
-        | inr n ↦ met-grows (delta_of automaton number) (letter place) (λ other. serves (entry (next place) other) (is_accepting automaton other) k.0) (is_listed (owed_at (suc time)))
-            (λ other owed w. entries-owed time other (asked-by automaton (owed_at time) number other listed owed)
+        | inl a ↦ met-asked (delta_of automaton number) (letter place) (λ other. is_some (entry (next place) other)) (is_listed (owed_at (suc time)))
+            (λ other owed w. entries-owed time other (asked-by automaton (letter (place_at time)) (owed_at time) number other listed owed) w) (run.accepting place number k.0 k.1 a)
+        | inr n ↦ met-asked (delta_of automaton number) (letter place) (λ other. serves (entry (next place) other) (is_accepting automaton other) k.0) (is_listed (owed_at (suc time)))
+            (λ other owed w. entries-owed time other (asked-by automaton (letter (place_at time)) (owed_at time) number other listed owed)
             (serves-some (entry (next place) other) (is_accepting automaton other) k.0 w)) (run.others place number k.0 k.1 n)
       ])
 
@@ -262,8 +265,8 @@ module _ (design : Design) (automaton : Automaton) (visits count : ℕ) (letter 
       (λ number listed. number-met time number listed (at-listed (HasEntry time) (owed_at time) (owed-entries time) number listed))
 
   -- what serves a rank below the bound may meet what is pending, where that asks for it
-  serves-may_meet : (time other rank : ℕ) → 0 < length (pending_at time) → rank < bound_at time → IsTrue (is_asked automaton (owed_at time) other)
-      → IsTrue (is_asked automaton (pending_at time) other)
+  serves-may_meet : (time other rank : ℕ) → 0 < length (pending_at time) → rank < bound_at time → IsTrue (is_asked automaton (letter (place_at time)) (owed_at time) other)
+      → IsTrue (is_asked automaton (letter (place_at time)) (pending_at time) other)
       → IsTrue (serves (entry (place_at (suc time)) other) (is_accepting automaton other) rank) → IsTrue (may_meet automaton (state_at (suc time)) other)
   serves-may_meet time other rank some_pending below owed asked h =
       let listed = is_listed (owed_at (suc time)) other in
@@ -275,7 +278,7 @@ module _ (design : Design) (automaton : Automaton) (visits count : ℕ) (letter 
       subst (λ (t : Truth). IsTrue (is_listed (owed_at (suc time)) other && (is_accepting automaton other || t))) (sym e)
       (may-be (is_accepting automaton other) (serves (entry (place_at (suc time)) other) false (bound_at time - 1)) (allowed_at (suc time) other) (is_listed (owed_at (suc time)) other)
       (entries-owed time other owed (serves-some (entry (place_at (suc time)) other) (is_accepting automaton other) rank h))
-      (or_right (length (pending_at time) == 0) (is_asked automaton (pending_at time) other) asked)
+      (or_right (length (pending_at time) == 0) (is_asked automaton (letter (place_at time)) (pending_at time) other) asked)
       (serves-less (entry (place_at (suc time)) other) (is_accepting automaton other) rank (bound_at time) below h))
 
   pending-met : (time : ℕ) → 0 < length (pending_at time) → AreMet automaton (letter_in design (state_at time)) (may_meet automaton (state_at (suc time))) (pending_at time)
@@ -293,15 +296,15 @@ module _ (design : Design) (automaton : Automaton) (visits count : ℕ) (letter 
           let owed = (and_parts (is_listed (owed_at time) number) (is_pending (allowed_at time) (place_at time) (bound_at time) number)
           (sym (listed-filter (is_pending (allowed_at time) (place_at time) (bound_at time)) (owed_at time) number) ∙ listed)).0 in
           at-letter time number (may_meet automaton (state_at (suc time)))
-          (met-grows (delta_of automaton number) (letter place) (λ other. serves (entry (next place) other) (is_accepting automaton other) k.0) (may_meet automaton (state_at (suc time)))
-          (λ other by w. serves-may_meet time other k.0 some_pending below (asked-by automaton (owed_at time) number other owed by)
-          (asked-by automaton (pending_at time) number other listed by) w) (run.others place number k.0 k.1 (put-off time number h)))
+          (met-asked (delta_of automaton number) (letter place) (λ other. serves (entry (next place) other) (is_accepting automaton other) k.0) (may_meet automaton (state_at (suc time)))
+          (λ other by w. serves-may_meet time other k.0 some_pending below (asked-by automaton (letter (place_at time)) (owed_at time) number other owed by)
+          (asked-by automaton (letter (place_at time)) (pending_at time) number other listed by) w) (run.others place number k.0 k.1 (put-off time number h)))
 
   -- where something was pending, it asks for what is pending next
-  pending-asked : (time : ℕ) → 0 < length (pending_at time) → AreAsked automaton (pending_at time) (pending_at (suc time))
+  pending-asked : (time : ℕ) → 0 < length (pending_at time) → AreAsked automaton (letter (place_at time)) (pending_at time) (pending_at (suc time))
   pending-asked time some_pending =
-      All-weaker (IsPending (suc time)) (λ number. IsTrue (is_asked automaton (pending_at time) number))
-      (λ number h. sym (ap (λ (t : Truth). t || is_asked automaton (pending_at time) number) (ne_eqb (length (pending_at time)) 0 (λ e. omega (arith, e))))
+      All-weaker (IsPending (suc time)) (λ number. IsTrue (is_asked automaton (letter (place_at time)) (pending_at time) number))
+      (λ number h. sym (ap (λ (t : Truth). t || is_asked automaton (letter (place_at time)) (pending_at time) number) (ne_eqb (length (pending_at time)) 0 (λ e. omega (arith, e))))
       ∙ (pending-parts (suc time) number h).2) (pending_at (suc time)) (pending-passes (suc time))
 
   neighbours : (time : ℕ) → AreNeighbours design automaton visits (state_at time) (state_at (suc time))
@@ -309,11 +312,11 @@ module _ (design : Design) (automaton : Automaton) (visits count : ℕ) (letter 
     step = steps (place_at time) (place-below time);
     before = befores (place_at time) (place-below time);
     owed = owed-met time;
-    supported = owed-asked time;
-    put_off = λ l. record { met = pending-met time l; supported = pending-asked time l; count = count-stays time l };
+    supported = at-asked time (owed_at time) (owed_at (suc time)) (owed-asked time);
+    put_off = λ l. record { met = pending-met time l; supported = at-asked time (pending_at time) (pending_at (suc time)) (pending-asked time l); count = count-stays time l };
     anew = λ e. record {
       pending = ap (pending_below (allowed_at (suc time)) (suc time)) (bound-anew time e)
-          ∙ pending-all (allowed_at (suc time)) (λ number. or_left (length (pending_at time) == 0) (is_asked automaton (pending_at time) number)
+          ∙ pending-all (allowed_at (suc time)) (λ number. or_left (length (pending_at time) == 0) (is_asked automaton (letter (place_at time)) (pending_at time) number)
           (eq-eqb (length (pending_at time)) 0 e)) (suc time);
       count = count-anew time e;
     };

@@ -4,6 +4,7 @@ pub mod BaseModels
 pub mod Breakpoints
 pub mod Clauses
 pub mod Closed
+pub mod Guards
 pub mod InductionModels
 pub mod Listed
 pub mod Numbers

@@ -10,7 +10,7 @@ use Rattle.clauses.specs.Literals.{clause_words}
 use Rattle.gates_theory.specs.Distinct.{distinct, pairs}
 use Rattle.gates_theory.specs.Relations.{Relation}
 use Rattle.gates_theory.specs.Terms.{Term, term_size}
-use Rattle.gates_theory.specs.Terms.Term.{Literal}
+use Rattle.gates_theory.specs.Terms.Term.{Literal, Negation}
 use Rattle.gates_theory.specs.Unrolled.{units}
 use Rattle.gates_theory.proofs.Sizes.{distinct-words, length-following, words-append, words-cons}
 use Rattle.netlist.specs.Design.{marks_of, Design}
@@ -31,7 +31,7 @@ use Rattle.run_terms.proofs.Ranges.{sum-most}
 use Rattle.run_terms.proofs.TableSizes.{all_of-size}
 use Rattle.joint_theory.specs.Bits.{bad_bit, count_bit, count_of, joint_width, numbers_of, owed_bit, pending_bit}
 use Rattle.joint_theory.specs.Queries.{bad_at, base, base_variables, induction, induction_variables, joint_circuit, joint_size, start_literals, with_sign}
-use Rattle.joint_theory.specs.Relation.{anew_term, askers, count_term, earlier_terms, emptied_term, joint, not_all_of, owed_term, pending_term, put_off_literal, put_off_term, state_terms, step_terms, unary_terms, unasked_owed, unasked_pending, unless_bad}
+use Rattle.joint_theory.specs.Relation.{anew_term, count_term, earlier_terms, emptied_term, joint, owed_term, pending_still, pending_term, put_off_literal, put_off_term, state_terms, step_terms, unary_terms, unasked_owed, unasked_pending, unless_bad}
 use Rattle.joint_theory.specs.States.{delta_of, is_accepting, is_listed, not_accepting}
 use Rattle.joint_theory.proofs.AskedSizes.{askers-size}
 use Rattle.joint_theory.proofs.QueryWithin.{induction_front}
@@ -83,10 +83,10 @@ module _ (design : Design) (automaton : Automaton) (visits : ℕ) (sound : netli
   count_list = map (count_term design automaton width) (range_with_len 0 (suc visits))
 
   abbrev owed_asked_list : List Term
-  owed_asked_list = map (λ number. not_all_of (unasked_owed design automaton width number)) (numbers_of automaton)
+  owed_asked_list = map (λ number. Negation (unasked_owed design automaton width number)) (numbers_of automaton)
 
   abbrev pending_asked_list : List Term
-  pending_asked_list = map (λ number. not_all_of (unasked_pending design automaton width number)) (numbers_of automaton)
+  pending_asked_list = map (λ number. Negation (unasked_pending design automaton width number)) (numbers_of automaton)
 
   abbrev steps : List Term
   steps = step_terms design automaton visits width
@@ -188,27 +188,17 @@ module _ (design : Design) (automaton : Automaton) (visits : ℕ) (sound : netli
       each zero = omega arith
       each (suc number) = omega arith
 
-  owed_asked-size : terms_size owed_asked_list ≤ many + constructors automaton
+  owed_asked-size : terms_size owed_asked_list ≤ 3 * constructors automaton
   owed_asked-size =
-      let sum = askers-size automaton (λ number. not_all_of (unasked_owed design automaton width number)) 1 each in
-      omega (arith, sum, length-range_with_len 0 many)
-    where
-      each : (number : ℕ) → term_size (not_all_of (unasked_owed design automaton width number)) ≤ 1 + length (askers automaton number)
-      each number =
-          all_of-size (1 + length (askers automaton number)) (unasked_owed design automaton width number) (omega arith)
-          (omega (arith, length-map (askers automaton number) (λ other. neg_ℤ (owed_bit design 0 other))))
+      let sum = askers-size design automaton (owed_bit design 0) (λ number. Literal (owed_bit design width number)) 0 (λ number. omega arith) in
+      omega (arith, sum)
 
-  pending_asked-size : terms_size pending_asked_list ≤ 2 * many + constructors automaton
+  pending_asked-size : terms_size pending_asked_list ≤ many + 3 * constructors automaton
   pending_asked-size =
-      let sum = askers-size automaton (λ number. not_all_of (unasked_pending design automaton width number)) 2 each in
+      let sum = askers-size design automaton (pending_bit design automaton 0) (pending_still design automaton width) 1 (λ number. omega arith) in
       omega (arith, sum, length-range_with_len 0 many)
-    where
-      each : (number : ℕ) → term_size (not_all_of (unasked_pending design automaton width number)) ≤ 2 + length (askers automaton number)
-      each number =
-          all_of-size (2 + length (askers automaton number)) (unasked_pending design automaton width number) (omega arith)
-          (omega (arith, length-map (askers automaton number) (λ other. neg_ℤ (pending_bit design automaton 0 other))))
 
-  step-size : terms_size steps ≤ 3 * s + 3 * length design.latches + 8 * many + 6 * constructors automaton + 5 * suc visits + 4
+  step-size : terms_size steps ≤ 3 * s + 3 * length design.latches + 6 * many + 10 * constructors automaton + 5 * suc visits + 4
   step-size =
       omega (
         arith,
@@ -236,8 +226,8 @@ module _ (design : Design) (automaton : Automaton) (visits : ℕ) (sound : netli
         arith,
         length-append ((moves_list ++ owed_list ++ put_off_list) ++ (emptied_list ++ anew_list ++ count_list)) (owed_asked_list ++ pending_asked_list),
         length-append owed_asked_list pending_asked_list,
-        length-map-range_with_len (λ number. not_all_of (unasked_owed design automaton width number)) 0 many,
-        length-map-range_with_len (λ number. not_all_of (unasked_pending design automaton width number)) 0 many,
+        length-map-range_with_len (λ number. Negation (unasked_owed design automaton width number)) 0 many,
+        length-map-range_with_len (λ number. Negation (unasked_pending design automaton width number)) 0 many,
         length-append (moves_list ++ owed_list ++ put_off_list) (emptied_list ++ anew_list ++ count_list),
         length-append (moves_list ++ owed_list) put_off_list,
         length-append moves_list owed_list,
@@ -275,7 +265,7 @@ module _ (design : Design) (automaton : Automaton) (visits : ℕ) (sound : netli
         many-constructors,
       )
 
-  holds-size : terms_size r.holds ≤ 20 * bulk
+  holds-size : terms_size r.holds ≤ 22 * bulk
   holds-size =
       omega (
         arith,
@@ -291,14 +281,14 @@ module _ (design : Design) (automaton : Automaton) (visits : ℕ) (sound : netli
   width-most : width ≤ 3 * bulk
   width-most = omega (arith, many-constructors)
 
-  gates-most : joint_size design automaton visits ≤ 30 * bulk
+  gates-most : joint_size design automaton visits ≤ 34 * bulk
   gates-most = omega (arith, gates-length r (joint-closed design automaton visits sound right tests), holds-size, width-most)
 
   -- words
 
   whole-most : (last : ℕ) → clause_words (whole r last) ≤ suc last * (300 * bulk)
   whole-most last =
-      let one : suc last * (10 * terms_size r.holds) ≤ suc last * (10 * (20 * bulk)) = mul-le-mul_left (suc last) (omega (arith, holds-size)) in
+      let one : suc last * (10 * terms_size r.holds) ≤ suc last * (10 * (22 * bulk)) = mul-le-mul_left (suc last) (omega (arith, holds-size)) in
       let two : last * (2 * length r.holds + 6 * r.width) ≤ last * (2 * (10 * bulk) + 6 * (3 * bulk)) = mul-le-mul_left last (omega (arith, holds-length, width-most)) in
       omega (arith, whole-size r last (joint-closed design automaton visits sound right tests), one, two, holds-length)
 
@@ -362,9 +352,9 @@ module _ (design : Design) (automaton : Automaton) (visits : ℕ) (sound : netli
 
   pub base-variables : (window : ℕ) → base_variables design automaton visits window ≤ 1000 * suc window * suc window * bulk
   base-variables window =
-      let most : window * joint_size design automaton visits ≤ window * (30 * bulk) = mul-le-mul_left window gates-most in
-      let more : window * (30 * bulk) ≤ suc window * (30 * bulk) = omega (arith, suc-mul window (30 * bulk)) in
-      square (suc window) (base_variables design automaton visits window) bulk 30 (omega arith) (omega arith) (omega (arith, most, more))
+      let most : window * joint_size design automaton visits ≤ window * (34 * bulk) = mul-le-mul_left window gates-most in
+      let more : window * (34 * bulk) ≤ suc window * (34 * bulk) = omega (arith, suc-mul window (34 * bulk)) in
+      square (suc window) (base_variables design automaton visits window) bulk 34 (omega arith) (omega arith) (omega (arith, most, more))
 
   -- the clauses that the states are different
 
@@ -432,10 +422,10 @@ module _ (design : Design) (automaton : Automaton) (visits : ℕ) (sound : netli
 
   pub induction-variables : (window : ℕ) → induction_variables design automaton visits window ≤ 1000 * suc window * suc window * bulk
   induction-variables window =
-      let most : suc window * joint_size design automaton visits ≤ suc window * (30 * bulk) = mul-le-mul_left (suc window) gates-most in
-      let front : suc window * (30 * bulk) ≤ suc window * suc window * (30 * bulk) = grow (suc window) (suc window * (30 * bulk)) (suc window * suc window * (30 * bulk)) (omega arith) (grind arith) in
+      let most : suc window * joint_size design automaton visits ≤ suc window * (34 * bulk) = mul-le-mul_left (suc window) gates-most in
+      let front : suc window * (34 * bulk) ≤ suc window * suc window * (34 * bulk) = grow (suc window) (suc window * (34 * bulk)) (suc window * suc window * (34 * bulk)) (omega arith) (grind arith) in
       let more = times-most window (length (joint_circuit design automaton visits).now) (3 * bulk) (omega (arith, length-following 0 width, width-most)) in
-      let sum : suc window * suc window * (30 * bulk) + suc window * suc window * (3 * bulk) ≤ 1000 * suc window * suc window * bulk =
+      let sum : suc window * suc window * (34 * bulk) + suc window * suc window * (3 * bulk) ≤ 1000 * suc window * suc window * bulk =
       both (suc window * suc window) bulk (1000 * suc window * suc window * bulk) (grind arith) in
       omega (arith, most, front, more, sum)
     where
@@ -443,8 +433,8 @@ module _ (design : Design) (automaton : Automaton) (visits : ℕ) (sound : netli
       grow zero z w some e = absurd (omega arith)
       grow (suc p) z w some e = omega (arith, suc-mul p z)
 
-      both : (q y z : ℕ) → z ≡ q * (1000 * y) → q * (30 * y) + q * (3 * y) ≤ z
+      both : (q y z : ℕ) → z ≡ q * (1000 * y) → q * (34 * y) + q * (3 * y) ≤ z
       both q y z e =
-          let f : q * (30 * y) + q * (3 * y) ≡ q * (33 * y) = grind arith in
-          let g : q * (33 * y) ≤ q * (1000 * y) = mul-le-mul_left q (omega arith) in
+          let f : q * (34 * y) + q * (3 * y) ≡ q * (37 * y) = grind arith in
+          let g : q * (37 * y) ≤ q * (1000 * y) = mul-le-mul_left q (omega arith) in
           omega arith

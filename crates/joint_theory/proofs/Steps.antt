@@ -12,7 +12,7 @@ use Rattle.alternating_theory.proofs.MetLaws.{met-same}
 use Rattle.clauses.specs.Models.{Assignment, is_true}
 use Rattle.gates_theory.specs.Circuits.{same}
 use Rattle.gates_theory.specs.Terms.{Term, value}
-use Rattle.gates_theory.specs.Terms.Term.{Literal, Conjunction}
+use Rattle.gates_theory.specs.Terms.Term.{Literal, Negation, Conjunction}
 use Rattle.gates_theory.proofs.Literals.{true-neg}
 use Rattle.gates_theory.proofs.Parts.{same-is, same-from}
 use Rattle.netlist.specs.Design.{Design}
@@ -30,10 +30,10 @@ use Rattle.run_terms.proofs.PositiveValues.{positive-value}
 use Rattle.run_terms.proofs.Ranges.{all-below, below-all}
 use Rattle.run_terms.proofs.TableValues.{all_of-value}
 use Rattle.joint_theory.specs.Bits.{count_bit, count_of, numbers_of, owed_bit, pending_bit, AreBits}
-use Rattle.joint_theory.specs.Relation.{anew_term, askers, count_term, emptied_bit, emptied_term, not_all_of, owed_term, put_off_literal, put_off_term, step_terms, unasked_owed, unasked_pending}
+use Rattle.joint_theory.specs.Relation.{anew_term, askers, count_term, emptied_bit, emptied_term, owed_term, pending_still, put_off_literal, put_off_term, step_terms, unasked_owed, unasked_pending}
 use Rattle.joint_theory.specs.States.{delta_of, is_accepting, is_asked, is_listed, letter_in, may_meet, not_accepting, AreNeighbours, IsState}
 use Rattle.joint_theory.specs.declared.path.JointState.{JointState}
-use Rattle.joint_theory.proofs.Asked.{unasked-value}
+use Rattle.joint_theory.proofs.Asked.{asked-bits, unasked-value}
 use Rattle.joint_theory.proofs.Numbers.{at-listed, contains-listed, from-listed, listed-filter}
 use Rattle.joint_theory.proofs.Parts.{append-from, append-parts, one-from, one-part}
 use Rattle.joint_theory.proofs.Rising.{rising-same, same-count}
@@ -252,28 +252,33 @@ module _ (design : Design) (automaton : Automaton) (visits : ℕ) (sound : netli
   -- what nothing asks for
 
   abbrev owed_asked : ℕ → Term
-  owed_asked number = not_all_of (unasked_owed design automaton next number)
+  owed_asked number = Negation (unasked_owed design automaton next number)
 
   abbrev pending_asked : ℕ → Term
-  pending_asked number = not_all_of (unasked_pending design automaton next number)
+  pending_asked number = Negation (unasked_pending design automaton next number)
 
-  owed_asked-value : (number : ℕ) → number < many → value v (owed_asked number) ≡ not (is_listed y.owed number && not (is_asked automaton x.owed number))
+  owed_asked-value : (number : ℕ) → number < many → value v (owed_asked number) ≡ not (is_listed y.owed number && not (is_asked automaton (letter_in design x) x.owed number))
   owed_asked-value number below =
-      ap not (all_of-value v (unasked_owed design automaton next number)
-      ∙ ap (λ t. t && list_all (is_true v) (map (λ other. neg_ℤ (owed_bit design 0 other)) (askers automaton number))) (later.owed number below)
-      ∙ ap (λ t. is_listed y.owed number && t)
-      (unasked-value automaton v (owed_bit design 0) x.owed number (λ other. omega arith) is.owed is.numbers bits.owed))
+      ap not (unasked-value design automaton v x.before x.valuation sound.names tests bits.position (owed_bit design 0) number (Literal (owed_bit design next number)) (askers automaton number)
+      ∙ ap (λ t. is_true v (owed_bit design next number) && not t)
+      (asked-bits automaton (letter_in design x) v (owed_bit design 0) x.owed number is.owed is.numbers bits.owed)
+      ∙ ap (λ t. t && not (is_asked automaton (letter_in design x) x.owed number)) (later.owed number below))
 
   pending_asked-value : (number : ℕ) → number < many
-      → value v (pending_asked number) ≡ not (is_listed y.pending number && (not (is_true v (emptied_bit next)) && not (is_asked automaton x.pending number)))
+      → value v (pending_asked number) ≡ not (is_listed y.pending number && (not (is_true v (emptied_bit next)) && not (is_asked automaton (letter_in design x) x.pending number)))
   pending_asked-value number below =
-      let none = list_all (is_true v) (map (λ other. neg_ℤ (pending_bit design automaton 0 other)) (askers automaton number)) in
-      ap not (all_of-value v (unasked_pending design automaton next number)
-      ∙ ap (λ t. t && (is_true v (neg_ℤ (emptied_bit next)) && none)) (later.pending number below)
-      ∙ ap (λ t. is_listed y.pending number && (t && none)) (true-neg v (emptied_bit next) (omega arith))
-      ∙ ap (λ t. is_listed y.pending number && (not (is_true v (emptied_bit next)) && t))
-      (unasked-value automaton v (pending_bit design automaton 0) x.pending number (λ other. omega arith) is.pending
-      (pending-numbers design automaton visits x is) bits.pending))
+      let asked = is_asked automaton (letter_in design x) x.pending number in
+      ap not (unasked-value design automaton v x.before x.valuation sound.names tests bits.position (pending_bit design automaton 0) number (pending_still design automaton next number)
+      (askers automaton number)
+      ∙ ap (λ t. (is_true v (pending_bit design automaton next number) && is_true v (neg_ℤ (emptied_bit next))) && not t)
+      (asked-bits automaton (letter_in design x) v (pending_bit design automaton 0) x.pending number is.pending (pending-numbers design automaton visits x is) bits.pending)
+      ∙ ap (λ t. (t && is_true v (neg_ℤ (emptied_bit next))) && not asked) (later.pending number below)
+      ∙ ap (λ t. (is_listed y.pending number && t) && not asked) (true-neg v (emptied_bit next) (omega arith))
+      ∙ three (is_listed y.pending number) (not (is_true v (emptied_bit next))) (not asked))
+    where
+      three : (a b c : Truth) → ((a && b) && c) ≡ (a && (b && c))
+      three true b c = refl
+      three false b c = refl
 
   -- if one holds and another does not, a third does
   either-way : (a b c : Truth) → IsTrue (not (a && (not b && not c))) → a ≡ true → b ≡ false → c ≡ true
@@ -288,24 +293,24 @@ module _ (design : Design) (automaton : Automaton) (visits : ℕ) (sound : netli
   from-either true true c h = refl
   from-either false b c h = refl
 
-  owed_asked-says : (number : ℕ) → number < many → IsTrue (value v (owed_asked number)) → IsTrue (is_listed y.owed number) → IsTrue (is_asked automaton x.owed number)
+  owed_asked-says : (number : ℕ) → number < many → IsTrue (value v (owed_asked number)) → IsTrue (is_listed y.owed number) → IsTrue (is_asked automaton (letter_in design x) x.owed number)
   owed_asked-says number below h listed =
-      either-way (is_listed y.owed number) false (is_asked automaton x.owed number) (sym (owed_asked-value number below) ∙ h) listed refl
+      either-way (is_listed y.owed number) false (is_asked automaton (letter_in design x) x.owed number) (sym (owed_asked-value number below) ∙ h) listed refl
 
-  owed_asked-from : (number : ℕ) → number < many → (IsTrue (is_listed y.owed number) → IsTrue (is_asked automaton x.owed number)) → IsTrue (value v (owed_asked number))
+  owed_asked-from : (number : ℕ) → number < many → (IsTrue (is_listed y.owed number) → IsTrue (is_asked automaton (letter_in design x) x.owed number)) → IsTrue (value v (owed_asked number))
   owed_asked-from number below h =
-      owed_asked-value number below ∙ from-either (is_listed y.owed number) false (is_asked automaton x.owed number) (λ on _. h on)
+      owed_asked-value number below ∙ from-either (is_listed y.owed number) false (is_asked automaton (letter_in design x) x.owed number) (λ on _. h on)
 
   pending_asked-says : (number : ℕ) → number < many → IsTrue (value v (pending_asked number)) → is_true v (emptied_bit next) ≡ false
-      → IsTrue (is_listed y.pending number) → IsTrue (is_asked automaton x.pending number)
+      → IsTrue (is_listed y.pending number) → IsTrue (is_asked automaton (letter_in design x) x.pending number)
   pending_asked-says number below h some listed =
-      either-way (is_listed y.pending number) (is_true v (emptied_bit next)) (is_asked automaton x.pending number)
+      either-way (is_listed y.pending number) (is_true v (emptied_bit next)) (is_asked automaton (letter_in design x) x.pending number)
       (sym (pending_asked-value number below) ∙ h) listed some
 
   pending_asked-from : (number : ℕ) → number < many
-      → (IsTrue (is_listed y.pending number) → is_true v (emptied_bit next) ≡ false → IsTrue (is_asked automaton x.pending number)) → IsTrue (value v (pending_asked number))
+      → (IsTrue (is_listed y.pending number) → is_true v (emptied_bit next) ≡ false → IsTrue (is_asked automaton (letter_in design x) x.pending number)) → IsTrue (value v (pending_asked number))
   pending_asked-from number below h =
-      pending_asked-value number below ∙ from-either (is_listed y.pending number) (is_true v (emptied_bit next)) (is_asked automaton x.pending number) h
+      pending_asked-value number below ∙ from-either (is_listed y.pending number) (is_true v (emptied_bit next)) (is_asked automaton (letter_in design x) x.pending number) h
 
   -- all terms of a step
 
@@ -410,13 +415,13 @@ module _ (design : Design) (automaton : Automaton) (visits : ℕ) (sound : netli
         before = moved.0;
         owed = from-listed (λ number. IsTrue (met (delta_of automaton number) (letter_in design x) (is_listed y.owed))) x.owed
             (λ number h. let below = at-listed (λ n. n < many) x.owed is.numbers number h in owed-says number below (says.owed number below) h);
-        supported = from-listed (λ number. IsTrue (is_asked automaton x.owed number)) y.owed
+        supported = from-listed (λ number. IsTrue (is_asked automaton (letter_in design x) x.owed number)) y.owed
             (λ number h. let below = at-listed (λ n. n < many) y.owed also.numbers number h in owed_asked-says number below (says.owed_support number below) h);
         put_off = λ some. let full = emptied-says says.emptied ∙ ne_eqb (length x.pending) 0 (λ e. omega (arith, e)) in record {
           met = from-listed (λ number. IsTrue (met (delta_of automaton number) (letter_in design x) (may_meet automaton y))) x.pending
               (λ number h. let below = at-listed (λ n. n < many) x.pending (pending-numbers design automaton visits x is) number h in
               pending-says number below (says.put_off number below) h);
-          supported = from-listed (λ number. IsTrue (is_asked automaton x.pending number)) y.pending
+          supported = from-listed (λ number. IsTrue (is_asked automaton (letter_in design x) x.pending number)) y.pending
               (λ number h. let below = at-listed (λ n. n < many) y.pending (pending-numbers design automaton visits y also) number h in
               pending_asked-says number below (says.pending_support number below) full h);
           count = count-says false full says.counts;
@@ -443,9 +448,9 @@ module _ (design : Design) (automaton : Automaton) (visits : ℕ) (sound : netli
         ∙ and_from (is_listed y.owed number) (not (is_accepting automaton number)) h (not_from_false (is_accepting automaton number) accepting));
     counts = by (cases_eq (length x.pending) 0);
     owed_support = λ number below. owed_asked-from number below
-        (at-listed (λ n. IsTrue (is_asked automaton x.owed n)) y.owed neighbours.supported number);
+        (at-listed (λ n. IsTrue (is_asked automaton (letter_in design x) x.owed n)) y.owed neighbours.supported number);
     pending_support = λ number below. pending_asked-from number below
-        (λ h full. at-listed (λ n. IsTrue (is_asked automaton x.pending n)) y.pending
+        (λ h full. at-listed (λ n. IsTrue (is_asked automaton (letter_in design x) x.pending n)) y.pending
         (neighbours.put_off (some-pending (sym e ∙ full))).supported number h);
   }
     where

@@ -7,7 +7,7 @@ use Rattle.alternating_theory.specs.Obligations.{Automaton}
 use Rattle.clauses.specs.Literals.{clause_within, is_within}
 use Rattle.gates_theory.specs.Relations.{variables_of, IsClosed}
 use Rattle.gates_theory.specs.Terms.{Term, term_within}
-use Rattle.gates_theory.specs.Terms.Term.{Literal}
+use Rattle.gates_theory.specs.Terms.Term.{Literal, Negation}
 use Rattle.gates_theory.proofs.Within.{negated_within}
 use Rattle.netlist.specs.Design.{Design}
 use Rattle.netlist.specs.Sound as netlists
@@ -26,9 +26,9 @@ use Rattle.run_terms.proofs.Ranges.{below-all}
 use Rattle.run_terms.proofs.TableSizes.{all_of-within}
 use Rattle.joint_theory.specs.Bits.{bad_bit, count_bit, count_of, joint_width, numbers_of, owed_bit, pending_bit}
 use Rattle.joint_theory.specs.Queries.{start_literals, with_sign}
-use Rattle.joint_theory.specs.Relation.{anew_term, askers, breakpoint_terms, count_term, earlier_terms, emptied_bit, emptied_term, joint, met_terms, not_all_of, owed_term, pending_term, put_off_literal, put_off_term, state_terms, step_terms, support_terms, unary_terms, unasked_owed, unasked_pending, unless_bad}
+use Rattle.joint_theory.specs.Relation.{anew_term, askers, breakpoint_terms, count_term, earlier_terms, emptied_bit, emptied_term, joint, met_terms, owed_term, pending_still, pending_term, put_off_literal, put_off_term, state_terms, step_terms, support_terms, unary_terms, unasked_owed, unasked_pending, unless_bad}
 use Rattle.joint_theory.specs.States.{delta_of, is_accepting, is_listed, not_accepting}
-use Rattle.joint_theory.proofs.Asked.{askers-all}
+use Rattle.joint_theory.proofs.Asked.{askers-all, unasked-within}
 use Rattle.joint_theory.proofs.Parts.{all-weaker, append-from, map-parts, one-from}
 use Rattle.joint_theory.proofs.Steps.{atoms-at}
 
@@ -181,30 +181,25 @@ module _ (design : Design) (automaton : Automaton) (visits : ℕ) (sound : netli
         (below-all (term_within n) (anew_term design automaton width) many anew-term_within))
         (below-all (term_within n) (count_term design automaton width) (suc visits) count-term_within)
 
-    owed_asked-within : (number : ℕ) → number < many → IsTrue (term_within n (not_all_of (unasked_owed design automaton width number)))
+    owed_asked-within : (number : ℕ) → number < many → IsTrue (term_within n (Negation (unasked_owed design automaton width number)))
     owed_asked-within number below =
-        all_of-within n (unasked_owed design automaton width number) (omega arith)
-        (and_from (is_within n (owed_bit design width number)) (list_all (is_within n) (map (λ other. neg_ℤ (owed_bit design 0 other)) (askers automaton number)))
+        unasked-within design automaton n sound.names tests (omega arith) (owed_bit design 0) number (Literal (owed_bit design width number)) (askers automaton number)
+        (askers-all automaton (λ other. IsTrue (is_within n (owed_bit design 0 other))) number (λ other low. owed-within n 0 step-fits other low))
         (owed-within n width next-fits number below)
-        (askers-all automaton (is_within n) (λ other. neg_ℤ (owed_bit design 0 other)) number
-        (λ other low. negated_within n (owed_bit design 0 other) (owed-within n 0 step-fits other low))))
 
-    pending_asked-within : (number : ℕ) → number < many → IsTrue (term_within n (not_all_of (unasked_pending design automaton width number)))
+    pending_asked-within : (number : ℕ) → number < many → IsTrue (term_within n (Negation (unasked_pending design automaton width number)))
     pending_asked-within number below =
-        let others = list_all (is_within n) (map (λ other. neg_ℤ (pending_bit design automaton 0 other)) (askers automaton number)) in
-        all_of-within n (unasked_pending design automaton width number) (omega arith)
-        (and_from (is_within n (pending_bit design automaton width number)) (is_within n (neg_ℤ (emptied_bit width)) && others)
-        (pending-within n width next-fits number below)
-        (and_from (is_within n (neg_ℤ (emptied_bit width))) others (negated_within n (emptied_bit width) emptied-within)
-        (askers-all automaton (is_within n) (λ other. neg_ℤ (pending_bit design automaton 0 other)) number
-        (λ other low. negated_within n (pending_bit design automaton 0 other) (pending-within n 0 step-fits other low)))))
+        unasked-within design automaton n sound.names tests (omega arith) (pending_bit design automaton 0) number (pending_still design automaton width number) (askers automaton number)
+        (askers-all automaton (λ other. IsTrue (is_within n (pending_bit design automaton 0 other))) number (λ other low. pending-within n 0 step-fits other low))
+        (and_from (is_within n (pending_bit design automaton width number)) (is_within n (neg_ℤ (emptied_bit width)))
+        (pending-within n width next-fits number below) (negated_within n (emptied_bit width) emptied-within))
 
     support-within : IsTrue (list_all (term_within n) (support_terms design automaton width))
     support-within =
-        append-from (term_within n) (map (λ number. not_all_of (unasked_owed design automaton width number)) (numbers_of automaton))
-        (map (λ number. not_all_of (unasked_pending design automaton width number)) (numbers_of automaton))
-        (below-all (term_within n) (λ number. not_all_of (unasked_owed design automaton width number)) many owed_asked-within)
-        (below-all (term_within n) (λ number. not_all_of (unasked_pending design automaton width number)) many pending_asked-within)
+        append-from (term_within n) (map (λ number. Negation (unasked_owed design automaton width number)) (numbers_of automaton))
+        (map (λ number. Negation (unasked_pending design automaton width number)) (numbers_of automaton))
+        (below-all (term_within n) (λ number. Negation (unasked_owed design automaton width number)) many owed_asked-within)
+        (below-all (term_within n) (λ number. Negation (unasked_pending design automaton width number)) many pending_asked-within)
 
     pub step-within : IsTrue (list_all (term_within n) (step_terms design automaton visits width))
     step-within =

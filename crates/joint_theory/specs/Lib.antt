@@ -1,4 +1,5 @@
 pub mod Bits
+pub mod Guards
 pub mod Paths
 pub mod Queries
 pub mod Reaching

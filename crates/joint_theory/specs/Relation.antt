@@ -1,19 +1,20 @@
 -- The relation of a joint state and one that may follow it, as terms over the bits of both. Behind these comes one
 -- choice: whether nothing is pending. What is asked of the next state counts only where the state is not bad, so that a
 -- path may go on from a bad one.
-use Rattle.std.specs.Prelude.{ℕ, zero, suc, ◌+◌, ℤ, pos, neg_ℤ, if◌then◌else◌, List, [], ◌∷◌, ◌++◌, map, filter}
+use Rattle.std.specs.Prelude.{ℕ, zero, suc, ◌+◌, ℤ, pos, neg_ℤ, if◌then◌else◌, List, [], ◌∷◌, ◌++◌, map, filter, fold}
 use Rattle.std.specs.List.{range_with_len}
 use Rattle.alternating_theory.specs.Obligations.{Automaton}
 use Rattle.alternating_theory.specs.Positive.{owes}
 use Rattle.gates_theory.specs.Relations.{Relation}
 use Rattle.gates_theory.specs.Terms.{Term, Literal, Negation, Conjunction, Equality}
 use Rattle.netlist.specs.Design.{Design}
-use Rattle.run_terms.specs.Booleans.{either}
+use Rattle.run_terms.specs.Booleans.{boolean_term, either}
 use Rattle.run_terms.specs.Combinations.{positive_term}
 use Rattle.run_terms.specs.Moves.{move_terms}
 use Rattle.run_terms.specs.Positions.{earlier, had}
 use Rattle.run_terms.specs.Tables.{all_of, before_terms, guarded, valuation_terms}
 use Rattle.joint_theory.specs.Bits.{bad_bit, count_bit, joint_width, numbers_of, owed_bit, pending_bit}
+use Rattle.joint_theory.specs.Guards.{guards, Guard, Always, If, IfNot}
 use Rattle.joint_theory.specs.States.{delta_of, is_accepting}
 
 -- a bit of the valuation before is 1 only where there is one
@@ -99,30 +100,46 @@ breakpoint_terms design automaton visits width =
     ++ map (anew_term design automaton width) (numbers_of automaton)
     ++ map (count_term design automaton width) (range_with_len 0 (suc visits))
 
--- the obligations that ask for the one of a number at the next place
+-- the obligations whose deltas name the one of a number
 abbrev pub askers : Automaton → ℕ → List ℕ
 askers automaton number = filter (λ other. owes (delta_of automaton other) number) (numbers_of automaton)
 
+-- an obligation is asked for under a guard, where a literal says that what asks for it is owed or pending
+abbrev pub asking_term : Design → ℤ → Guard → Term
+asking_term design literal Always = Literal literal
+asking_term design literal (If test) = Conjunction (Literal literal) (boolean_term design.signals 0 test)
+asking_term design literal (IfNot test) = Conjunction (Literal literal) (Negation (boolean_term design.signals 0 test))
+
+-- a term, and under none of some guards it is asked for
+abbrev pub unless_asking : Design → ℤ → Term → List Guard → Term
+unless_asking design literal term guards =
+    fold (λ other guard. Conjunction other (Negation (asking_term design literal guard))) term guards
+
+-- a term, and none of some obligations asks for the one of a number, where each has a literal
+abbrev pub unasked : Design → Automaton → (ℕ → ℤ) → ℕ → Term → List ℕ → Term
+unasked design automaton bit number term numbers =
+    fold (λ other asker. unless_asking design (bit asker) other (guards Always (delta_of automaton asker) number)) term numbers
+
 -- an obligation is owed next, and nothing that is owed asks for it
-abbrev pub unasked_owed : Design → Automaton → ℕ → ℕ → List ℤ
+abbrev pub unasked_owed : Design → Automaton → ℕ → ℕ → Term
 unasked_owed design automaton width number =
-    owed_bit design width number ∷ map (λ other. neg_ℤ (owed_bit design 0 other)) (askers automaton number)
+    unasked design automaton (owed_bit design 0) number (Literal (owed_bit design width number)) (askers automaton number)
 
 -- an obligation is pending next, something was pending, and nothing of that asks for it
-abbrev pub unasked_pending : Design → Automaton → ℕ → ℕ → List ℤ
-unasked_pending design automaton width number =
-    pending_bit design automaton width number ∷ neg_ℤ (emptied_bit width)
-    ∷ map (λ other. neg_ℤ (pending_bit design automaton 0 other)) (askers automaton number)
+abbrev pub pending_still : Design → Automaton → ℕ → ℕ → Term
+pending_still design automaton width number =
+    Conjunction (Literal (pending_bit design automaton width number)) (Literal (neg_ℤ (emptied_bit width)))
 
--- not all of some literals are true
-abbrev pub not_all_of : List ℤ → Term
-not_all_of literals = Negation (all_of literals)
+abbrev pub unasked_pending : Design → Automaton → ℕ → ℕ → Term
+unasked_pending design automaton width number =
+    unasked design automaton (pending_bit design automaton 0) number (pending_still design automaton width number)
+    (askers automaton number)
 
 -- Nothing is owed or pending next that nothing asks for.
 abbrev pub support_terms : Design → Automaton → ℕ → List Term
 support_terms design automaton width =
-    map (λ number. not_all_of (unasked_owed design automaton width number)) (numbers_of automaton)
-    ++ map (λ number. not_all_of (unasked_pending design automaton width number)) (numbers_of automaton)
+    map (λ number. Negation (unasked_owed design automaton width number)) (numbers_of automaton)
+    ++ map (λ number. Negation (unasked_pending design automaton width number)) (numbers_of automaton)
 
 -- the next state may follow the first
 abbrev pub step_terms : Design → Automaton → ℕ → ℕ → List Term

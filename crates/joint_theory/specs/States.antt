@@ -4,11 +4,12 @@ use Rattle.std.specs.Prelude.{◌≡◌, ℕ, suc, ◌<◌, ◌≤◌, min, Bool
 use Rattle.std.specs.List.{list_any}
 use Rattle.std.specs.List.Sorted.{IsStrictlyIncreasing}
 use Rattle.alternating_theory.specs.Obligations.{Automaton, obligation_at}
-use Rattle.alternating_theory.specs.Positive.{Positive, met, owes}
+use Rattle.alternating_theory.specs.Positive.{Positive, met}
 use Rattle.netlist.specs.Design.{Design}
 use Rattle.netlist.specs.Valuations.{IsValuation, IsInitial as IsInitialValuation, IsStep}
 use Rattle.psl_tree.specs.declared.letter.Letter.{Letter}
 use Rattle.run_terms.specs.Letters.{letter_after}
+use Rattle.joint_theory.specs.Guards.{asks}
 use Rattle.joint_theory.specs.declared.path.JointState.{JointState}
 
 -- whether a number stands in a list
@@ -22,12 +23,13 @@ is_accepting automaton number = (obligation_at automaton.obligations number).acc
 abbrev pub delta_of : Automaton → ℕ → Positive
 delta_of automaton number = (obligation_at automaton.obligations number).delta
 
--- whether one of some obligations asks for the one of a number at the next place, and each of some is so asked for
-abbrev pub is_asked : Automaton → List ℕ → ℕ → Truth
-is_asked automaton numbers number = list_any (λ other. owes (delta_of automaton other) number) numbers
+-- whether one of some obligations asks for the one of a number at the next place, on a letter, and each of some is so
+-- asked for
+abbrev pub is_asked : Automaton → Letter → List ℕ → ℕ → Truth
+is_asked automaton letter numbers number = list_any (λ other. asks letter (delta_of automaton other) number) numbers
 
-abbrev pub AreAsked : Automaton → List ℕ → List ℕ → Type 0
-AreAsked automaton numbers asked = All (λ number. IsTrue (is_asked automaton numbers number)) asked
+abbrev pub AreAsked : Automaton → Letter → List ℕ → List ℕ → Type 0
+AreAsked automaton letter numbers asked = All (λ number. IsTrue (is_asked automaton letter numbers number)) asked
 
 -- those of some obligations that are not accepting
 abbrev pub not_accepting : Automaton → List ℕ → List ℕ
@@ -75,7 +77,7 @@ may_meet automaton next number = is_listed next.owed number && (is_accepting aut
 -- what it asks for
 pub record PutsOff (design : Design) (automaton : Automaton) (state next : JointState) : Type 0 where
   pub met : AreMet automaton (letter_in design state) (may_meet automaton next) state.pending
-  pub supported : AreAsked automaton state.pending next.pending
+  pub supported : AreAsked automaton (letter_in design state) state.pending next.pending
   pub count : next.count ≡ state.count
 
 -- where nothing is pending, all that is owed next and not accepting becomes so, and the count rises up to one more than
@@ -91,6 +93,6 @@ pub record AreNeighbours (design : Design) (automaton : Automaton) (visits : ℕ
   pub step : IsStep design state.valuation next.valuation
   pub before : next.before ≡ Some state.valuation
   pub owed : AreMet automaton (letter_in design state) (is_listed next.owed) state.owed
-  pub supported : AreAsked automaton state.owed next.owed
+  pub supported : AreAsked automaton (letter_in design state) state.owed next.owed
   pub put_off : 0 < length state.pending → PutsOff design automaton state next
   pub anew : length state.pending ≡ 0 → BeginsAnew automaton visits state next

@@ -171,11 +171,11 @@ fn one_valuation_does_not_tell(rt: HostRuntime) -> Result<(), Fail> {
 
 #[test]
 fn inductive_clauses_tell(rt: HostRuntime) -> Result<(), Fail> {
-    let Finding::Depth(paths) = found_of_latch(rt.alloc(), 3, false)? else {
-        return Err("a window of 3 was enough".into());
+    let Finding::Depth(paths) = found_of_latch(rt.alloc(), 2, false)? else {
+        return Err("a window of 2 was enough".into());
     };
     assert_eq!(rt; paths.len(), 2);
-    let Finding::ProvedReach(certificate) = found_of_latch(rt.alloc(), 3, true)? else {
+    let Finding::ProvedReach(certificate) = found_of_latch(rt.alloc(), 2, true)? else {
         return Err("no clauses were found".into());
     };
     assert_eq!(rt; certificate.visits, 0);

@@ -39,8 +39,8 @@ const EVER_3: Violation = Violation::Eventually(Test::Both(0, 1));
 // bad: 3 for each signal and latch, as in a search, and a term that there is a valuation before; twice for each
 // obligation 1 and what its delta takes, with nothing for what is owed next; m + 2 that nothing is pending; 2 for
 // each obligation, where it begins anew; 4 for the first bit of the count, and 5 for each further one; and that nothing
-// is owed or pending that nothing asks for: 1 for each obligation, 2 for each pair of which one asks for the other, and
-// 2 * m terms.
+// is owed or pending that nothing asks for: 1 for each obligation, twice for each time that one asks for another 1, and
+// 1 and what the test takes where it does so under a guard, and 2 * m terms.
 //
 // Words: p * 10 * T of gates at p positions, (p - 1) * (2 * H + 6 * W) of steps, and 2 * H at the last position. In
 // `base` p is the window: 2 for each first literal, which are that nothing is before, the latches' first values, 2 *
@@ -49,8 +49,9 @@ const EVER_3: Violation = Violation::Eventually(Test::Both(0, 1));
 // n * (n - 1) / 2 pairs, for which there are W further variables. They stand in this order.
 //
 // THREE has s = 4, two tables of 4 gates and two latches. Beside the obligation there is the start, its copy, which
-// nothing owes: m is 2, and each asks for the obligation. With v = 0: W 14; of a state 8 + 10 + 4 + 2 = 24 by 10 terms;
-// of a step 12 + 6 + 4 * (1 + delta) + 4 + 4 + 4 + 2 + 4, and 19 for as many terms, so T = 83 + 4 * delta, H 29.
+// nothing owes: m is 2, and each asks for the obligation, where the test does not hold, which takes delta - 3. With v =
+// 0: W 14; of a state 8 + 10 + 4 + 2 = 24 by 10 terms; of a step 12 + 6 + 4 * (1 + delta) + 4 + 4 + 4 + 2 + 4 *
+// (delta - 1), and 19 for as many terms, so T = 75 + 8 * delta, H 29.
 const ROWS: [Row<'static>; 10] = [
     // Without a position there is no state: the empty clause.
     Row {
@@ -63,29 +64,29 @@ const ROWS: [Row<'static>; 10] = [
         words: 1,
         path: "none",
     },
-    // delta 3, T 95, g 124. Words: 3800 + 426 + 58, 16, 5.
+    // delta 3, T 99, g 128. Words: 3960 + 426 + 58, 16, 5.
     Row {
         netlist: THREE,
         violation: EVER_2,
         visits: 0,
         window: 4,
         is_initial: true,
-        variables: 496,
-        words: 4305,
+        variables: 512,
+        words: 4465,
         path: "none",
     },
-    // At 2 what is pending is met; nothing is then, which is counted one state later. Words: 4750 + 568 + 58, 16, 6.
+    // At 2 what is pending is met; nothing is then, which is counted one state later. Words: 4950 + 568 + 58, 16, 6.
     Row {
         netlist: THREE,
         violation: EVER_2,
         visits: 0,
         window: 5,
         is_initial: true,
-        variables: 620,
-        words: 5398,
+        variables: 640,
+        words: 5598,
         path: " 0010/0 1001/0 0100/0 0010/0 1001/1",
     },
-    // v 1: W 15; 1 more gate and term of a state, and 6 and a term of a step; T 102, H 31, g 133. Words: 5100 + 608 +
+    // v 1: W 15; 1 more gate and term of a state, and 6 and a term of a step; T 106, H 31, g 137. Words: 5300 + 608 +
     // 62, 18, 6.
     Row {
         netlist: THREE,
@@ -93,44 +94,44 @@ const ROWS: [Row<'static>; 10] = [
         visits: 1,
         window: 5,
         is_initial: true,
-        variables: 665,
-        words: 5794,
+        variables: 685,
+        words: 5994,
         path: "none",
     },
-    // Words: 6120 + 760 + 62, 18, 7.
+    // Words: 6360 + 760 + 62, 18, 7.
     Row {
         netlist: THREE,
         violation: EVER_2,
         visits: 1,
         window: 6,
         is_initial: true,
-        variables: 798,
-        words: 6967,
+        variables: 822,
+        words: 7207,
         path: " 0010/0 1001/0 0100/0 0010/0 1001/1 0100/2",
     },
-    // The counter is never 3. delta 4, T 99, g 128. Words: 2970 + 284 + 58, 16, 4.
+    // The counter is never 3. delta 4, T 107, g 136. Words: 3210 + 284 + 58, 16, 4.
     Row {
         netlist: THREE,
         violation: EVER_3,
         visits: 0,
         window: 3,
         is_initial: true,
-        variables: 384,
-        words: 3332,
+        variables: 408,
+        words: 3572,
         path: "none",
     },
-    // A path may begin at 3, where what is pending is met. 1 pair: words 2970 + 284 + 58, 6, 127.
+    // A path may begin at 3, where what is pending is met. 1 pair: words 3210 + 284 + 58, 6, 127.
     Row {
         netlist: THREE,
         violation: EVER_3,
         visits: 0,
         window: 2,
         is_initial: false,
-        variables: 398,
-        words: 3445,
+        variables: 422,
+        words: 3685,
         path: " 1100/0 0010/0 1001/1",
     },
-    // No state is before it: with the base at this window, the counter is proved. 3 pairs: words 3960 + 426 + 58, 8,
+    // No state is before it: with the base at this window, the counter is proved. 3 pairs: words 4280 + 426 + 58, 8,
     // 381.
     Row {
         netlist: THREE,
@@ -138,33 +139,33 @@ const ROWS: [Row<'static>; 10] = [
         visits: 0,
         window: 3,
         is_initial: false,
-        variables: 554,
-        words: 4833,
+        variables: 586,
+        words: 5153,
         path: "none",
     },
     // TOGGLE has s = 2, a table of 3 gates and a latch; m 3, v 0: W 12. The deltas take 3, 6 and 6, and the inner
-    // obligation is accepting; it asks for itself, and the others for both but the start: of a state 3 + 4 + 2 + 2 = 11
-    // by 7 terms; of a step 6 + 3 + 2 * (4 + 7 + 7) + 5 + 6 + 4 + 3 + 10 and 21 for as many terms; T 105, H 28, g 130.
-    // Words: 2100 + 128 + 56, 18, 3.
+    // obligation is accepting; it asks for itself, and the others for both but the start, for the inner one beside a
+    // constant, which takes 1: of a state 3 + 4 + 2 + 2 = 11 by 7 terms; of a step 6 + 3 + 2 * (4 + 7 + 7) + 5 +
+    // 6 + 4 + 3 + 2 * (3 * 3 + 2) and 21 for as many terms; T 117, H 28, g 142. Words: 2340 + 128 + 56, 18, 3.
     Row {
         netlist: TOGGLE,
         violation: Violation::EventuallyAlways(Test::High(0)),
         visits: 0,
         window: 2,
         is_initial: true,
-        variables: 260,
-        words: 2305,
+        variables: 284,
+        words: 2545,
         path: "none",
     },
-    // What is pending could be met only at a 1 with a 1 behind it. 1 pair: words 3150 + 256 + 56, 6, 109.
+    // What is pending could be met only at a 1 with a 1 behind it. 1 pair: words 3510 + 256 + 56, 6, 109.
     Row {
         netlist: TOGGLE,
         violation: Violation::EventuallyAlways(Test::High(0)),
         visits: 0,
         window: 2,
         is_initial: false,
-        variables: 402,
-        words: 3577,
+        variables: 438,
+        words: 3937,
         path: "none",
     },
 ];
