@@ -7,3 +7,8 @@ pub mod Loading
 pub mod Modelling
 pub mod Refuting
 pub mod Reducing
+pub mod Meeting
+pub mod Standing
+pub mod Rests
+pub mod Cores
+pub mod Asking

@@ -34,7 +34,7 @@ pub loading_none : (cnf : Cnf) → IsLoading cnf 0 (nothing_yet cnf.variables)
 loading_none cnf = record { clauses_are = refl; numbers = refl; words = refl; variables = refl; limits = refl; head = refl }
 
 -- the words with one clause more are no more than all
-words_more : (formula : List (List ℤ)) (place : ℕ) → place < length formula → clause_words (take place formula) + (length (get_or formula place []) + 1) ≤ clause_words formula
+pub words_more : (formula : List (List ℤ)) (place : ℕ) → place < length formula → clause_words (take place formula) + (length (get_or formula place []) + 1) ≤ clause_words formula
 words_more formula place within = sum_by_more_le (λ (c : List ℤ). length c + 1) formula place [] within
 
 -- each clause has a word

@@ -33,7 +33,7 @@ pub renames : (clauses : Numbered ℕ) (named : Numbered ℤ) → signed_clauses
 renames clauses named same number = ap (λ (cs : Numbered ℤ). clause_of cs number) (sym same) ∙ renames_number clauses number
 
 -- literals within the variables are so under their signed names
-variable_signed : (literal : ℕ) → variable_of (signed literal) ≡ suc (literal / 2)
+pub variable_signed : (literal : ℕ) → variable_of (signed literal) ≡ suc (literal / 2)
 variable_signed literal =
     elim (cases_eq (literal % 2) 0) [
       | inl even ↦ rw even refl

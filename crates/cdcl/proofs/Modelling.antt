@@ -62,13 +62,13 @@ formula_live formula log place clause at =
     stays (length formula) (all_live formula) log place clause first.1 first.0
 
 -- what stands for a clause
-stands_for : (was : Option (List ℕ)) (clause : List ℤ) → option_map (map signed) was ≡ Some clause → (old : List ℕ) × (was ≡ Some old) × (map signed old ≡ clause)
+pub stands_for : (was : Option (List ℕ)) (clause : List ℤ) → option_map (map signed) was ≡ Some clause → (old : List ℕ) × (was ≡ Some old) × (map signed old ≡ clause)
 stands_for None clause is = cc
 stands_for (Some old) clause is = (old, refl, cc)
 
 -- a clause has a true literal
-on_trail : (path : Path) (literal : ℕ) → IsComplete path → literal < 2 * path.variables → (Contains path.literals (opposite literal) → ⊥) → Contains path.literals literal
-on_trail path literal complete within not_false =
+on_trail : (path : Path) (variables literal : ℕ) → IsComplete path variables → literal < 2 * variables → (Contains path.literals (opposite literal) → ⊥) → Contains path.literals literal
+on_trail path variables literal complete within not_false =
     let two : (literal ≡ 2 * (literal / 2)) ⊎ (literal ≡ 2 * (literal / 2) + 1) =
     elim (cases_eq (literal % 2) 0) [ inl even ↦ inl (omega arith) | inr odd ↦ inr (omega arith) ] in
     elim (complete (literal / 2) (omega arith)) [
@@ -84,10 +84,10 @@ on_trail path literal complete within not_false =
           ]
     ]
 
-true_literal : (path : Path) (clause : List ℕ) → IsComplete path → All (λ literal. literal < 2 * path.variables) clause → IsOpen opposite path.literals clause → (literal : ℕ) × Contains clause literal × Contains path.literals literal
-true_literal path clause complete within (inl found) = found
-true_literal path clause complete within (inr two) =
-    (two.0, two.2, on_trail path two.0 complete (All-contains (λ l. l < 2 * path.variables) clause two.0 within two.2) two.5)
+true_literal : (path : Path) (variables : ℕ) (clause : List ℕ) → IsComplete path variables → All (λ literal. literal < 2 * variables) clause → IsOpen opposite path.literals clause → (literal : ℕ) × Contains clause literal × Contains path.literals literal
+true_literal path variables clause complete within (inl found) = found
+true_literal path variables clause complete within (inr two) =
+    (two.0, two.2, on_trail path variables two.0 complete (All-contains (λ l. l < 2 * variables) clause two.0 within two.2) two.5)
 
 -- a literal of the trail is true
 value_false : (values : List Bool) (variable : ℕ) → (get_or values variable false ≡ true → ⊥) → not (get_or values variable false) ≡ true
@@ -97,9 +97,9 @@ value_false values variable never = by (get_or values variable false) refl
     by true is = absurd (never is)
     by false is = refl
 
-is_true_at : (path : Path) (values : List Bool) (literal : ℕ) → IsPath path → AreValues path values → literal < 2 * path.variables → Contains path.literals literal → is_true (values_of values) (signed literal) ≡ true
-is_true_at path values literal is are within there =
-    let inside : literal / 2 < path.variables = omega arith in
+pub is_true_at : (path : Path) (variables : ℕ) (values : List Bool) (literal : ℕ) → IsPath path → AreValues path variables values → literal < 2 * variables → Contains path.literals literal → is_true (values_of values) (signed literal) ≡ true
+is_true_at path variables values literal is are within there =
+    let inside : literal / 2 < variables = omega arith in
     elim (cases_eq (literal % 2) 0) [
       | inl even ↦
           let same : 2 * (literal / 2) ≡ literal = omega arith in
@@ -114,28 +114,28 @@ is_true_at path values literal is are within there =
           rw one (ap (λ p. not (get_or values p false)) place ∙ value_false values (literal / 2) never)
     ]
 
-meets_member : (values : Assignment) (clause : List ℤ) (literal : ℤ) → Contains clause literal → is_true values literal ≡ true → meets values clause ≡ true
+pub meets_member : (values : Assignment) (clause : List ℤ) (literal : ℤ) → Contains clause literal → is_true values literal ≡ true → meets values clause ≡ true
 meets_member values clause literal there holds = list_any_at (is_true values) clause there.0 literal there.1 (ap (is_true values) there.2 ∙ holds)
 
-pub clause_met : (state : State) (values : List Bool) (clause : List ℕ) → IsSettled state → IsSolved state → AreValues state.path values → All (λ literal. literal < 2 * state.path.variables) clause
+pub clause_met : (state : State) (variables : ℕ) (values : List Bool) (clause : List ℕ) → IsSettled state → IsSolved state variables → AreValues state.path variables values → All (λ literal. literal < 2 * variables) clause
     → IsOpen opposite state.path.literals clause → meets (values_of values) (map signed clause) ≡ true
-clause_met state values clause settled solved are within open_ =
-    let found = true_literal state.path clause solved.complete within open_ in
-    let below = All-contains (λ l. l < 2 * state.path.variables) clause found.0 within found.1 in
+clause_met state variables values clause settled solved are within open_ =
+    let found = true_literal state.path variables clause solved.complete within open_ in
+    let below = All-contains (λ l. l < 2 * variables) clause found.0 within found.1 in
     meets_member (values_of values) (map signed clause) (signed found.0) (contains-map signed clause found.0 found.1)
-    (is_true_at state.path values found.0 settled.path are below found.2)
+    (is_true_at state.path variables values found.0 settled.path are below found.2)
 
 all_from : {X : Type 0} (test : X → Bool) (xs : List X) → ((place : ℕ) (x : X) → slice_get xs place ≡ Some x → test x ≡ true) → list_all test xs ≡ true
 all_from test [] each = refl
 all_from test (x ∷ xs) each = and_from (test x) (list_all test xs) (each 0 x refl) (all_from test xs (λ place y at. each (suc place) y at))
 
 pub model_of : (cnf : Cnf) (state : State) (log : List LogEntry) (values : List Bool) → state.path.variables ≡ cnf.variables → signed_clauses state.clauses ≡ clauses_after cnf.clauses log
-    → IsSettled state → IsSolved state → AreValues state.path values → IsModelOf cnf values
+    → IsSettled state → IsSolved state cnf.variables → AreValues state.path cnf.variables values → IsModelOf cnf values
 model_of cnf state log values variables clauses settled solved are = record {
-  size = are.size ∙ variables;
+  size = are.size;
   model = all_from (meets (values_of values)) cnf.clauses (λ place clause at.
       let live = formula_live cnf.clauses log place clause at in
       let was = stands_for (clause_of state.clauses (suc place)) clause (sym (renames state.clauses (clauses_after cnf.clauses log) clauses (suc place)) ∙ live) in
       ap (meets (values_of values)) (sym was.2)
-      ∙ clause_met state values was.0 settled solved are (settled.within (suc place) was.0 was.1) (settled.ended solved.head (suc place) was.0 was.1));
+      ∙ clause_met state cnf.variables values was.0 settled solved are (rw variables at (settled.within (suc place) was.0 was.1)) (settled.ended solved.head (suc place) was.0 was.1));
 }

@@ -28,20 +28,20 @@ pub record IsFree (path : Path) (literal : ℕ) : Type 0 where
   pub not_true : Contains path.literals literal → ⊥
   pub not_false : Contains path.literals (opposite literal) → ⊥
 
--- each variable has a value
-abbrev pub IsComplete : Path → Type 0
-IsComplete path =
-    (variable : ℕ) → variable < path.variables → Contains path.literals (2 * variable) ⊎ Contains path.literals (2 * variable + 1)
+-- each of the first so many variables has a value
+abbrev pub IsComplete : Path → ℕ → Type 0
+IsComplete path variables =
+    (variable : ℕ) → variable < variables → Contains path.literals (2 * variable) ⊎ Contains path.literals (2 * variable + 1)
 
--- all of the trail was propagated, and each variable has a value
-pub record IsSolved (state : State) : Type 0 where
+-- all of the trail was propagated, and each of the first so many variables has a value
+pub record IsSolved (state : State) (variables : ℕ) : Type 0 where
   pub head : state.head ≡ length state.path.literals
-  pub complete : IsComplete state.path
+  pub complete : IsComplete state.path variables
 
--- the values of the variables, counted from 0, by the literals that are true
-pub record AreValues (path : Path) (values : List Bool) : Type 0 where
-  pub size : length values ≡ path.variables
-  pub is : (variable : ℕ) → variable < path.variables
+-- the values of the first so many variables, counted from 0, by the literals that are true
+pub record AreValues (path : Path) (variables : ℕ) (values : List Bool) : Type 0 where
+  pub size : length values ≡ variables
+  pub is : (variable : ℕ) → variable < variables
       → (slice_index_or values variable false ≡ true) ↔ Contains path.literals (2 * variable)
 
 -- a lemma can be added to the clauses, at a lower level

@@ -1,6 +1,7 @@
 // Going back to a lower level with a lemma.
-ghost use Rattle.std.specs.Prelude.{◌≡◌, ◌++◌, ◌∷◌, [], ◌<◌, List, ℕ, length, Some, OnOk};
+ghost use Rattle.std.specs.Prelude.{◌≡◌, ◌++◌, ◌∷◌, [], ◌<◌, List, ℕ, length, Some, OnOk, OnErr};
 ghost use Rattle.cdcl_trail.specs.Path.{undone, start_of};
+ghost use Rattle.cdcl_propagation.specs.Adding.{KeepsClauses};
 ghost use Rattle.cdcl.specs.Turns.{CanAttach, IsLower, IsLevelOf};
 
 use crate::decide::Decider;
@@ -18,7 +19,8 @@ pub(crate) fn attach_lemma(
 ) -> Result<(), NoMemory>
     requires { CanAttach propagator.old lemma.now }
     ensures clauses { OnOk result (propagator.new.clauses ≡ propagator.old.clauses ++ Some lemma.now ∷ []) }
-    ensures variables { OnOk result (propagator.new.path.variables ≡ propagator.old.path.variables) }
+    ensures variables { propagator.new.path.variables ≡ propagator.old.path.variables }
+    ensures err { OnErr result (KeepsClauses propagator.old.clauses propagator.new.clauses) }
 {
     match lemma {
         [] => unreachable!(),
@@ -49,7 +51,7 @@ fn level_below(propagator: &Propagator, literal: u32) -> usize
 }
 
 /// Takes back all above a level.
-fn go_back(propagator: &mut Propagator, decider: &mut Decider, level: usize)
+pub(crate) fn go_back(propagator: &mut Propagator, decider: &mut Decider, level: usize)
     requires { level < length propagator.old.path.limits }
     ensures { propagator.new ≡ record propagator.old {
       path = undone propagator.old.path level;

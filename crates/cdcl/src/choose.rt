@@ -20,10 +20,10 @@ pub(crate) fn has_value(trail: &Trail, variable: u32) -> bool
 
 /// The first variable that has no value.
 pub(crate) fn free_variable(trail: &Trail, variables: u32) -> Option<u32>
-    requires all { variables ≡ trail.now.variables }
-    requires few { variables ≤ MOST_VARIABLES }
+    requires all { variables ≤ trail.now.variables }
+    requires few { trail.now.variables ≤ MOST_VARIABLES }
     ensures some { IfSome result (λ variable. IsFree trail.now (2 * variable) × IsFree trail.now (2 * variable + 1)) }
-    ensures none { IfNone result (IsComplete trail.now) }
+    ensures none { IfNone result (IsComplete trail.now variables) }
 {
     for variable in 0..variables {
         if !has_value(trail, variable) {

@@ -27,10 +27,10 @@ impl Decider {
 
     /// A literal that is to be decided, of a variable that has no value.
     pub(crate) fn next(&mut self, trail: &Trail, variables: u32) -> Option<u32>
-        requires all { variables ≡ trail.now.variables }
-        requires few { variables ≤ MOST_VARIABLES }
+        requires all { variables ≤ trail.now.variables }
+        requires few { trail.now.variables ≤ MOST_VARIABLES }
         ensures some { IfSome result (IsFree trail.now) }
-        ensures none { IfNone result (IsComplete trail.now) }
+        ensures none { IfNone result (IsComplete trail.now variables) }
     {
         match self.next_variable(trail, variables) {
             Some(variable) if self.phase(variable) => Some(2 * variable),
@@ -41,11 +41,11 @@ impl Decider {
 
     /// The most active variable that has no value; where the order has none left, any that has none.
     fn next_variable(&mut self, trail: &Trail, variables: u32) -> Option<u32>
-        requires all { variables ≡ trail.now.variables }
-        requires few { variables ≤ MOST_VARIABLES }
+        requires all { variables ≤ trail.now.variables }
+        requires few { trail.now.variables ≤ MOST_VARIABLES }
         ensures some { IfSome result
             (λ variable. IsFree trail.now (2 * variable) × IsFree trail.now (2 * variable + 1)) }
-        ensures none { IfNone result (IsComplete trail.now) }
+        ensures none { IfNone result (IsComplete trail.now variables) }
     {
         while let Some(variable) = self.order.take() {
             if variable < variables && !has_value(trail, variable) {
@@ -71,6 +71,19 @@ impl Decider {
                 self.phases[variable as usize] = *literal % 2 == 0;
             }
             self.order.put(variable);
+        }
+    }
+
+    /// Puts a variable among those that can be decided.
+    pub(crate) fn put(&mut self, variable: u32) {
+        self.order.put(variable);
+    }
+
+    /// Takes a literal for the one of its variable that is to be decided.
+    pub(crate) fn prefer(&mut self, literal: u32) {
+        let variable = (literal / 2) as usize;
+        if variable < self.phases.len() {
+            self.phases[variable] = literal % 2 == 0;
         }
     }
 

@@ -12,6 +12,9 @@ use std::alloc::Global;
 /// How many lemmas there are when the first are dropped.
 const FIRST_DROP: usize = 32;
 
+/// How many lemmas come between two times at which lemmas of a growing formula are dropped.
+const NEXT_DROP: usize = 300;
+
 /// The choices of a solver: what to decide, when to restart, which lemmas to drop.
 #[derive(Drop)]
 pub(crate) struct Heuristics {
@@ -46,6 +49,36 @@ impl Heuristics {
         let levels = self.spread.of(trail, &lemma.literals);
         self.usage.add(levels, &lemma.hints, clauses)?;
         Ok(self.restarts.count(levels))
+    }
+
+    /// Counts a lemma of a growing formula, where so many clauses and lemmas are numbered before it.
+    pub(crate) fn count_at(
+        &mut self,
+        trail: &Trail,
+        reached: &[u32],
+        lemma: &Lemma,
+        clauses: usize,
+    ) -> Result<(), NoMemory> {
+        self.usage.pass(clauses)?;
+        self.count(trail, reached, lemma, 0)?;
+        Ok(())
+    }
+
+    /// The less useful half of the lemmas of a growing formula that might be dropped, where there are so many lemmas.
+    /// None while it is too early.
+    pub(crate) fn least_useful(
+        &mut self,
+        alloc: Global,
+        propagator: &Propagator,
+        lemmas: usize,
+    ) -> Result<Vec<Candidate>, NoMemory> {
+        if lemmas < self.next_drop {
+            return Ok(Vec::new(alloc));
+        }
+        self.next_drop = lemmas.saturating_add(NEXT_DROP);
+        let mut candidates = self.usage.candidates(alloc, propagator, 0)?;
+        candidates.truncate(candidates.len() / 2);
+        Ok(candidates)
     }
 
     /// The lemmas that might be dropped, the least useful first, where there are so many lemmas and clauses of the

@@ -82,7 +82,7 @@ impl<'a> Solver<'a> {
         ensures keeps { KeepsLog self.old self.new }
         ensures conflict { IfOk result
             (λ conflict. IfSome conflict (IsConflict self.new.propagator.clauses self.new.propagator.path)) }
-        ensures solved { IfOk result (λ conflict. IfNone conflict (IsSolved self.new.propagator)) }
+        ensures solved { IfOk result (λ conflict. IfNone conflict (IsSolved self.new.propagator self.new.formula.now.variables)) }
     {
         loop {
             if let Some(conflict) = self.propagator.propagate()? {
@@ -192,7 +192,7 @@ impl<'a> Solver<'a> {
     /// The model, where each variable has a value.
     pub(crate) fn model(&self, alloc: Global) -> Result<Bits, NoMemory>
         requires ready { IsReady self.now }
-        requires solved { IsSolved self.now.propagator }
+        requires solved { IsSolved self.now.propagator self.now.formula.now.variables }
         ensures { IfOk result (IsModelOf self.now.formula.now) }
     {
         values(alloc, self.propagator.trail(), self.formula.variables)

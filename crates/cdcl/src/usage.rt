@@ -58,6 +58,14 @@ impl Usage {
         Ok(())
     }
 
+    /// Passes over numbers of clauses that are no lemmas, up to so many.
+    pub(crate) fn pass(&mut self, count: usize) -> Result<(), NoMemory> {
+        for _ in self.uses.len()..count {
+            self.uses.push(Use { levels: 0, last: 0 })?;
+        }
+        Ok(())
+    }
+
     /// The lemmas that might be dropped, the least useful first.
     pub(crate) fn candidates(
         &self,

@@ -9,9 +9,9 @@ use std::alloc::Global;
 
 /// The value of each variable: whether its literal is true.
 pub(crate) fn values(alloc: Global, trail: &Trail, variables: u32) -> Result<Bits, NoMemory>
-    requires all { variables ≡ trail.now.variables }
-    requires few { variables ≤ MOST_VARIABLES }
-    ensures { IfOk result (AreValues trail.now) }
+    requires all { variables ≤ trail.now.variables }
+    requires few { trail.now.variables ≤ MOST_VARIABLES }
+    ensures { IfOk result (AreValues trail.now variables) }
 {
     let mut values = Vec::with_capacity(alloc, variables as usize)?;
     for variable in 0..variables {

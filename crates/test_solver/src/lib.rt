@@ -6,6 +6,8 @@ mod checking;
 #[cfg(test)]
 mod conflicts;
 #[cfg(test)]
+mod growing;
+#[cfg(test)]
 mod pools;
 #[cfg(test)]
 mod propagators;

@@ -40,7 +40,7 @@ fn three_clauses_have_a_model(rt: HostRuntime) -> Result<(), Fail> {
 }
 
 // Whether a literal is of one of so many variables.
-fn is_within(literal: i32, variables: u32) -> bool
+pub(crate) fn is_within(literal: i32, variables: u32) -> bool
     ensures { result ≡ within variables literal }
 {
     literal != 0 && literal.unsigned_abs() <= variables
@@ -58,7 +58,7 @@ fn add(cnf: &mut Cnf, clause: &[i32]) -> Result<(), Fail> {
 }
 
 // That a pigeon is in a hole.
-fn is_in(pigeon: i32, hole: i32, holes: i32) -> i32 {
+pub(crate) fn is_in(pigeon: i32, hole: i32, holes: i32) -> i32 {
     pigeon
         .wrapping_mul(holes)
         .wrapping_add(hole)

@@ -8,6 +8,6 @@ pub returns : goal.returns
 returns c =
     let solver = c.args.self.now in
     let are = rw c.trail.ensures.is at c.values.ensures in
-    IfOk-weaker c.values.result (AreValues solver.propagator.path) (IsModelOf solver.formula.now)
+    IfOk-weaker c.values.result (AreValues solver.propagator.path solver.formula.now.variables) (IsModelOf solver.formula.now)
     (λ values at. model_of solver.formula.now solver.propagator solver.log values c.requires.ready.variables c.requires.ready.logged.clauses_are c.trail.ensures.settled c.requires.solved at)
     are
