@@ -26,7 +26,7 @@ pub(crate) type Joints<'a> = Items<Joint<'a>>;
 /// joint states and so is the more promising one. Hence the searches for larger numbers wait while one goes on, and begin
 /// once it has ended: most of those that end have found a path, and none of them comes to inductive clauses at a larger
 /// depth either, since such a path stays open.
-#[derive(Debug, Drop)]
+#[derive(Drop)]
 pub(crate) struct Reaching<'j, 'a> {
     pub joints: &'j Joints<'a>,
     /// How those for the first numbers of visits have ended.

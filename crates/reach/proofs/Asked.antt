@@ -1,8 +1,6 @@
 -- What the machine answers, by what is told of its queries.
-use Rattle.std.proofs.Common.{◌≡◌, sym, ap, ◌∙◌, subst, ℕ, ◌≤◌, ℤ, Bool as Truth, false, List, [], ◌∷◌, arith}
+use Rattle.std.proofs.Common.{◌≡◌, sym, ap, ◌∙◌, subst, ℕ, ℤ, Bool as Truth, false, List, [], ◌∷◌}
 use Rattle.std.specs.Prelude.{IsTrue}
-use Rattle.gates_theory.proofs.Within.{wider_all}
-use Rattle.clauses.specs.Literals.{clause_within, clauses_within}
 use Rattle.clauses.specs.Logs.{LogEntry}
 use Rattle.joint.specs.Joined.{Joined}
 use Rattle.joint.specs.Slices.{bits_from}

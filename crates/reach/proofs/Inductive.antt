@@ -1,5 +1,5 @@
 -- An invariant of the system is inductive clauses, so that its queries have no model.
-use Rattle.std.proofs.Common.{◌≡◌, refl, ℤ, Bool as Truth, List}
+use Rattle.std.proofs.Common.{refl, ℤ, List}
 use Rattle.joint.specs.Joined.{Joined}
 use Rattle.joint_theory.proofs.Refuting.{inductive-models}
 use Rattle.joint_theory.specs.Bits.{joint_width}

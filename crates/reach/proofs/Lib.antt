@@ -1,5 +1,6 @@
 pub mod Asked
 pub mod Inductive
+pub mod InitialLiterals
 pub mod Loops
 pub mod ModelBits
 pub mod ModelReads

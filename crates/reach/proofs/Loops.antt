@@ -1,7 +1,6 @@
 -- The steps of loops that go over a list by its places.
-use Rattle.std.proofs.Common.{◌≡◌, sym, ap, ◌∙◌, subst, ℕ, ◌+◌, ◌<◌, Bool as Truth, false, List, [], ◌∷◌, ◌++◌, map, take, length, get_or, Some, append_assoc, arith}
+use Rattle.std.proofs.Common.{◌≡◌, sym, ap, ◌∙◌, subst, ℕ, ◌+◌, Bool as Truth, false, List, [], ◌∷◌, ◌++◌, map, take, get_or, Some, append_assoc, arith}
 use Rattle.std.specs.Prelude.{slice_get, All}
-use Rattle.std.specs.List.{range_with_len}
 use Rattle.std.proofs.lemmas.List.{map_push, take_more}
 use Rattle.std.proofs.lemmas.List.Elements.{All-push}
 use Rattle.std.proofs.lemmas.List.FromFn.{map-range_with_len_more}
@@ -11,7 +10,7 @@ use Rattle.joint.specs.Slices.{bits_from}
 use Rattle.joint_theory.specs.Bits.{state_bits}
 use Rattle.joint_theory.specs.States.{IsState}
 use Rattle.joint_theory.specs.declared.path.JointState.{JointState}
-use Rattle.reach.specs.Readings.{AreRead, HasState}
+use Rattle.reach.specs.Readings.{AreRead}
 
 -- the member at a place comes next
 pub taken-next : {X : Type 0} (xs : List X) (place : ℕ) (x : X) → slice_get xs place ≡ Some x

@@ -1,5 +1,5 @@
 -- The bits of a state among the values of a model.
-use Rattle.std.proofs.Common.{◌≡◌, sym, ap, ◌∙◌, ℕ, suc, ◌+◌, ◌-◌, ◌<◌, Bool as Truth, false, List, length, get_or, arith}
+use Rattle.std.proofs.Common.{◌≡◌, sym, ap, ◌∙◌, ℕ, suc, ◌+◌, ◌<◌, Bool as Truth, false, List, length, get_or, arith}
 use Rattle.std.proofs.lemmas.List.FromFn.{fill_by_all}
 use Rattle.gates_theory.specs.Circuits.{AreSame}
 use Rattle.joint.specs.Slices.{bits_from}

@@ -1,5 +1,5 @@
 -- What a model and a refutation of a query say of the bits of joint states.
-use Rattle.std.proofs.Common.{◌≡◌, refl, sym, ap, ◌∙◌, subst, ℕ, ℤ, Bool as Truth, true, false, not, ◌&&◌, List, [], ◌∷◌, length, arith}
+use Rattle.std.proofs.Common.{◌≡◌, refl, sym, ap, ◌∙◌, subst, ℕ, ℤ, Bool as Truth, true, false, not, ◌&&◌, List, [], ◌∷◌}
 use Rattle.std.specs.Prelude.{IsTrue}
 use Rattle.std.proofs.lemmas.Bool.{false_from_ne_true}
 use Rattle.clauses.proofs.Soundness.{no_model}
@@ -11,8 +11,7 @@ use Rattle.joint.specs.Slices.{bits_from}
 use Rattle.joint_theory.proofs.ReachModels.{initial-stands, relative-stands}
 use Rattle.joint_theory.proofs.Widths.{bits-size}
 use Rattle.joint_theory.specs.Bits.{joint_width, state_bits, state_in}
-use Rattle.joint_theory.specs.Reaching.{EntersBy, MissesInitially}
-use Rattle.joint_theory.specs.States.{IsInitial}
+use Rattle.joint_theory.specs.Reaching.{EntersBy}
 use Rattle.joint_theory.specs.declared.path.JointState.{JointState}
 use Rattle.netlist.specs.Sound as netlists
 use Rattle.reach_frames.proofs.Negations.{meets_negated}

@@ -1,11 +1,11 @@
 -- One frame more, without clauses.
-use Rattle.std.proofs.Common.{◌≡◌, refl, sym, ap, ◌∙◌, subst, ℕ, zero, suc, ◌+◌, ◌-◌, ◌<◌, ◌≤◌, ℤ, Bool as Truth, List, [], ◌∷◌, ◌++◌, length, length-append, arith}
+use Rattle.std.proofs.Common.{◌≡◌, refl, sym, ap, subst, ℕ, zero, suc, ◌-◌, ◌<◌, ℤ, List, [], ◌∷◌, ◌++◌, length, length-append, arith}
 use Rattle.std.specs.Prelude.{All, Contains, IsTrue}
 use Rattle.std.proofs.lemmas.List.Elements.{All-nil, All-push}
 use Rattle.joint.specs.Joined.{Joined}
 use Rattle.reach_frames.specs.Bits.{is_met}
 use Rattle.reach_frames.specs.Cubes.{IsFrame}
-use Rattle.reach_frames.specs.Levels.{clauses_of, frames_of, AreWitnesses, IsWitnessed}
+use Rattle.reach_frames.specs.Levels.{clauses_of, frames_of, IsWitnessed}
 use Rattle.reach_frames.specs.Systems.{System, frame_at, before_of, AreSound}
 use Rattle.reach_frames.specs.declared.level.KeptClause.{KeptClause}
 use Rattle.reach.specs.Searches.{AreGood}

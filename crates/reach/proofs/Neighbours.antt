@@ -1,7 +1,6 @@
 -- A neighbour of a state in a cube, by the model of a query whose clauses say the state.
-use Rattle.std.proofs.Common.{◌≡◌, sym, ap, ◌∙◌, subst, ℕ, zero, suc, ◌+◌, ◌<◌, ℤ, pos, neg_ℤ, Bool as Truth, true, false, List, [], ◌∷◌, ◌++◌, arith}
+use Rattle.std.proofs.Common.{◌≡◌, sym, ap, ◌∙◌, subst, ℕ, ◌+◌, ◌<◌, ℤ, pos, neg_ℤ, Bool as Truth, false, List, arith}
 use Rattle.std.specs.Prelude.{IsTrue}
-use Rattle.gates_theory.proofs.Within.{both_within}
 use Rattle.clauses.specs.Literals.{clause_within, clauses_within, is_within}
 use Rattle.joint.specs.Joined.{Joined}
 use Rattle.joint.specs.Slices.{bits_from}
@@ -13,7 +12,6 @@ use Rattle.reach_frames.specs.declared.stop.ReachQuery.TheVariants.{Relative}
 use Rattle.run_terms.proofs.Logic.{pos_within}
 use Rattle.run_terms.specs.Automata as automata
 use Rattle.run_terms.specs.Automata.{TestsSignals}
-use Rattle.reach.specs.Formulas.{AreWithin}
 use Rattle.reach.specs.Questions.{IsTold}
 use Rattle.reach.specs.Systems.{FollowsAs}
 use Rattle.reach.specs.declared.asking.Told.TheVariants.{Model}

@@ -1,5 +1,5 @@
 -- A cube with the negation of a literal that is true of each initial state has no initial state.
-use Rattle.std.proofs.Common.{◌≡◌, refl, sym, ap, ◌∙◌, subst, ℕ, ℤ, neg_ℤ, Bool as Truth, true, false, not, List}
+use Rattle.std.proofs.Common.{◌≡◌, sym, ◌∙◌, ℕ, ℤ, neg_ℤ, Bool as Truth, true, false, not, List}
 use Rattle.std.specs.Prelude.{IsTrue, Contains}
 use Rattle.std.specs.List.{list_all}
 use Rattle.std.proofs.lemmas.Bool.{false_from_ne_true, false≢true}
@@ -8,14 +8,9 @@ use Rattle.std.proofs.lemmas.List.Sums.{AllPass-from_list_all}
 use Rattle.clauses.specs.Literals.{clause_within, is_within}
 use Rattle.clauses.specs.Models.{Assignment, is_true}
 use Rattle.joint.specs.Joined.{Joined}
-use Rattle.joint_theory.proofs.OwnBits.{own-bits}
-use Rattle.joint_theory.proofs.Starts.{start-from}
-use Rattle.joint_theory.specs.Queries.{start_literals}
-use Rattle.joint_theory.specs.Sets.{bits_of}
-use Rattle.netlist.specs.Sound as netlists
 use Rattle.reach_frames.proofs.Negations.{negation_is}
-use Rattle.reach_frames.specs.Bits.{is_in_cube}
-use Rattle.run_terms.specs.Automata as automata
+use Rattle.reach_frames.specs.Bits.{values_of, is_in_cube}
+use Rattle.reach.specs.Knowing.{AreKnown}
 use Rattle.reach.specs.Systems.{BeginsAs}
 
 -- each member of a list passes where all do
@@ -36,15 +31,8 @@ never-both values width literals cube literal within member denied all =
     (sym (negation_is values width literal (passes (is_within width) cube literal within member))
     ∙ passes (is_true values) literals (neg_ℤ literal) all denied))
 
-pub none-apart : (joined : Joined) → netlists.IsSound joined.design → automata.IsSound joined.automaton
-    → (width : ℕ) (cube : List ℤ) (literal : ℤ) → IsTrue (clause_within width cube) → Contains cube literal
-    → Contains (start_literals joined.design joined.automaton joined.visits) (neg_ℤ literal)
+pub none-apart : (joined : Joined) (literals : List ℤ) → AreKnown joined literals → (width : ℕ) (cube : List ℤ) (literal : ℤ)
+    → IsTrue (clause_within width cube) → Contains cube literal → Contains literals (neg_ℤ literal)
     → (bits : List Truth) → BeginsAs joined bits → is_in_cube cube bits ≡ false
-none-apart joined sound right width cube literal within member denied bits begun =
-    let state = begun.state in
-    let starts = start-from joined.design joined.automaton joined.visits sound right
-    (bits_of joined.design joined.automaton joined.visits state) state begun.bits_of.is
-    (own-bits joined.design joined.automaton joined.visits state begun.bits_of.is) begun.initial in
-    ap (λ (b : List Truth). is_in_cube cube b) begun.bits_of.same
-    ∙ never-both (bits_of joined.design joined.automaton joined.visits state) width
-    (start_literals joined.design joined.automaton joined.visits) cube literal within member denied starts
+none-apart joined literals known width cube literal within member denied bits begun =
+    never-both (values_of bits) width literals cube literal within member denied (known bits begun)

@@ -1,5 +1,5 @@
 -- Frames of the system that are open are frames of joint states.
-use Rattle.std.proofs.Common.{◌≡◌, refl, sym, ap, ◌∙◌, subst, ℕ, zero, suc, ◌+◌, ◌<◌, ◌≤◌, ℤ, Bool as Truth, false, List, [], ◌∷◌, ◌++◌, take, length, get_or, Some, arith}
+use Rattle.std.proofs.Common.{◌≡◌, refl, sym, ap, ◌∙◌, subst, ℕ, suc, ◌+◌, ◌<◌, ◌≤◌, ℤ, Bool as Truth, false, List, [], ◌∷◌, ◌++◌, take, length, Some, arith}
 use Rattle.std.specs.Prelude.{slice_get, All, Contains, IsTrue}
 use Rattle.std.proofs.lemmas.List.{get_or_default, take_all, take_more}
 use Rattle.std.proofs.lemmas.Option.{get_or_from_slice_get, slice_get_within}
@@ -7,7 +7,7 @@ use Rattle.joint.specs.Joined.{Joined}
 use Rattle.joint_theory.specs.Sets.{AreFrames}
 use Rattle.joint_theory.specs.declared.path.JointState.{JointState}
 use Rattle.reach_frames.specs.Bits.{is_met}
-use Rattle.reach_frames.specs.Levels.{clauses_of, frames_of}
+use Rattle.reach_frames.specs.Levels.{frames_of}
 use Rattle.reach_frames.specs.Systems.{AreOpen, frame_at}
 use Rattle.reach_frames.specs.declared.level.KeptClause.{KeptClause}
 use Rattle.reach.specs.Answers as answers

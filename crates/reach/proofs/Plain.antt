@@ -1,7 +1,6 @@
 -- Queries speak of the bits of a state, and those that come up are plain.
-use Rattle.std.proofs.Common.{◌≡◌, refl, ℕ, ◌<◌, ℤ, Bool as Truth, true, List, [], ◌∷◌, length, get_or, arith}
+use Rattle.std.proofs.Common.{◌≡◌, refl, ℕ, ℤ, Bool as Truth, true, List, [], ◌∷◌, arith}
 use Rattle.std.specs.Prelude.{IsTrue}
-use Rattle.std.specs.List.{All, AllPairs}
 use Rattle.std.proofs.lemmas.List.Elements.{All-cons, All-nil, All-weaker}
 use Rattle.std.proofs.lemmas.List.Sums.{list_all-from_AllPass}
 use Rattle.clauses.specs.Literals.{clause_within, clauses_within}

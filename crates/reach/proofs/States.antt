@@ -1,5 +1,5 @@
 -- Bits tell which joint state they are of.
-use Rattle.std.proofs.Common.{◌≡◌, refl, sym, ap, ◌∙◌, subst, ℕ, ◌<◌, Bool as Truth, true, List}
+use Rattle.std.proofs.Common.{◌≡◌, sym, ap, ◌∙◌, subst, Bool as Truth, List}
 use Rattle.std.specs.Prelude.{IsTrue}
 use Rattle.clauses.specs.Models.{is_true}
 use Rattle.joint.specs.Joined.{Joined}

@@ -1,5 +1,5 @@
 -- The path of joint states whose bits lead to the goal is open.
-use Rattle.std.proofs.Common.{◌≡◌, refl, sym, ap, ◌∙◌, subst, ℕ, zero, suc, ◌+◌, ◌-◌, ◌<◌, ◌≤◌, Bool as Truth, List, [], map, length, get_or, Some, arith}
+use Rattle.std.proofs.Common.{◌≡◌, sym, ap, ◌∙◌, subst, ℕ, zero, suc, ◌+◌, ◌-◌, ◌<◌, Bool as Truth, List, [], length, get_or, Some, arith}
 use Rattle.std.specs.Prelude.{slice_get, All, IsTrue}
 use Rattle.std.proofs.lemmas.List.{get_or_default, get_or-map, length-map}
 use Rattle.std.proofs.lemmas.Option.{get_or_from_slice_get, slice_get_within, slice_get-get_or}
@@ -7,7 +7,7 @@ use Rattle.clauses.specs.Models.{is_true}
 use Rattle.joint.specs.Joined.{Joined}
 use Rattle.joint_theory.specs.Bits.{bad_bit, state_bits}
 use Rattle.joint_theory.specs.Paths.{IsOpenInitial}
-use Rattle.joint_theory.specs.States.{AreNeighbours, IsBad, IsInitial, IsState}
+use Rattle.joint_theory.specs.States.{IsState}
 use Rattle.joint_theory.specs.declared.path.JointState.{JointState}
 use Rattle.reach_frames.specs.Bits.{values_of}
 use Rattle.reach_frames.specs.Paths.{IsLed, IsViolation}

@@ -1,5 +1,5 @@
 -- What each answer says, and by which evidence.
-use Rattle.std.specs.Prelude.{◌≡◌, ℕ, suc, ◌+◌, ◌≤◌, ℤ, List, length, IsTrue}
+use Rattle.std.specs.Prelude.{◌≡◌, ℕ, suc, ◌+◌, ◌≤◌, ℤ, List, length}
 use Rattle.cdcl.specs.Answers.{IsFull, IsSpent}
 use Rattle.cdcl.specs.Evidence.{IsTidy}
 use Rattle.gates_theory.specs.Sizes.{IsTooLarge}

@@ -1,7 +1,6 @@
 -- What the questions over a slice of the signals are asked of.
 use Rattle.std.specs.Prelude.{◌≡◌, ℕ, ℤ, Bool as Truth, List}
 use Rattle.gates_theory.specs.Relations.{circuit_of}
-use Rattle.clauses.specs.declared.cnf.Cnf.{Cnf}
 use Rattle.joint.specs.Joined.{Joined}
 use Rattle.joint.specs.declared.slice.Slice.{Slice}
 use Rattle.joint_theory.specs.Reaching.{two_states}
@@ -29,8 +28,3 @@ pub record IsSliced (joined : Joined) (sliced : Sliced) : Type 0 where
   pub variables : sliced.pair.variables ≡ sliced_variables joined sliced.slice
   pub clauses : sliced.pair.clauses ≡ sliced_pair joined sliced.slice
   pub circuit : sliced.circuit ≡ circuit_of (two_states joined.design joined.automaton joined.visits)
-
--- a formula for an entry into a cube over the slice
-pub record IsSlicedRelative (joined : Joined) (slice : Slice) (frame : List (List ℤ)) (initial : Truth) (cube : List ℤ) (formula : Cnf) : Type 0 where
-  pub variables : formula.variables ≡ sliced_variables joined slice
-  pub clauses : formula.clauses ≡ sliced_relative joined slice frame initial cube

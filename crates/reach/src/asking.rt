@@ -1,5 +1,6 @@
 // What the solver answers to a query.
-ghost use Rattle.std.specs.Prelude.{IfOk, IfErr};
+ghost use Rattle.std.specs.Prelude.{IfOk, IfErr, IfSome};
+ghost use Rattle.reach.specs.Formulas.{IsWithin};
 ghost use Rattle.reach.specs.Plain.{IsPlain};
 ghost use Rattle.reach.specs.Questions.{query_of, IsStop, IsTold};
 
@@ -7,7 +8,7 @@ use crate::question::Question;
 use cdcl::{Answer, solve};
 use clauses::{CnfFault, Log};
 use joint::Joint;
-use psl_base::Bits;
+use psl_base::{Bits, NoMemory};
 use reach_frames::Stop;
 use std::alloc::Global;
 
@@ -46,5 +47,32 @@ pub(crate) fn ask(
         Answer::Refuted(log) => Ok(Told::Refuted(log, formula.clauses.len())),
         Answer::Spent(log) => Err(Stop::Spent(question.query(alloc)?, log)),
         Answer::LogFull(log) => Err(Stop::LogFull(question.query(alloc)?, log)),
+    }
+}
+
+/// The same, where nothing is said of a query that is not decided.
+///
+/// # Errors
+///
+/// `NoMemory` if memory is refused.
+pub(crate) fn ask_lightly(
+    alloc: Global,
+    joint: &Joint,
+    steps: u64,
+    question: Question<'_>,
+) -> Result<Option<Told>, NoMemory>
+    requires { IsWithin joint.now (query_of question) }
+    ensures { IfOk result (λ found. IfSome found (IsTold joint.now steps (query_of question.entry))) }
+{
+    let formula = match question.formula(alloc, joint) {
+        Ok(formula) => formula,
+        Err(CnfFault::NoMemory) => return Err(NoMemory),
+        Err(CnfFault::TooLarge) => return Ok(None),
+    };
+    let _words = formula.clauses.words();
+    match solve(alloc, &formula, steps)? {
+        Answer::Model(values) => Ok(Some(Told::Model(values))),
+        Answer::Refuted(log) => Ok(Some(Told::Refuted(log, formula.clauses.len()))),
+        Answer::Spent(_) | Answer::LogFull(_) => Ok(None),
     }
 }

@@ -107,6 +107,27 @@ pub(crate) fn mask_of(
     Ok(mask)
 }
 
+/// A mask of the bits of a cube whose literals, of the second of two states with so many bits each, are among some.
+pub(crate) fn mask_among(
+    alloc: Global,
+    width: u32,
+    cube: &[i32],
+    enough: &[i32],
+) -> Result<Bits, NoMemory> {
+    let mut mask = no_bits(alloc, width as usize)?;
+    let mut second = no_bits(alloc, 2 * width as usize)?;
+    for literal in enough {
+        set_bit(&mut second, *literal);
+    }
+    for literal in cube {
+        let place = literal.unsigned_abs().saturating_add(width) as usize;
+        if place > 0 && place <= second.len() && *second.at(place - 1) {
+            set_bit(&mut mask, *literal);
+        }
+    }
+    Ok(mask)
+}
+
 /// Sets the bit of a literal, where there is one.
 pub(crate) fn set_bit(mask: &mut Bits, literal: i32) {
     let variable = literal.unsigned_abs() as usize;

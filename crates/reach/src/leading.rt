@@ -84,7 +84,7 @@ fn is_within(variables: u32, literal: i32) -> bool
 }
 
 /// Whether all literals are of the first so many variables.
-fn are_within(variables: u32, literals: &[i32]) -> bool
+pub(crate) fn are_within(variables: u32, literals: &[i32]) -> bool
     ensures { result ≡ clause_within variables literals.now }
 {
     for literal in literals {

@@ -5,7 +5,6 @@ use crate::bit_places::{BitPlaces, Says};
 use crate::core_bits::no_bits;
 use crate::reading::value_at;
 use crate::signal_order::SignalOrder;
-use crate::table_values::value_of_table;
 use crate::ternary::{Ternaries, Ternary, all_unknown, at, write};
 use joint::Joint;
 use psl_base::{Bits, NoMemory};
@@ -72,20 +71,6 @@ impl Lead<'_> {
         }
     }
 
-    /// Computes the outputs of tables that are not among some signals.
-    fn compute(&self, except: &Bits, values: &mut Ternaries) {
-        let tables = self.joint.netlist().tables().as_slice();
-        for number in self.order.tables.as_slice() {
-            if let Some(table) = tables.get(*number as usize) {
-                let output = table.output as usize;
-                if !value_at(except, output) {
-                    let value = value_of_table(table, values);
-                    write(values, output, value);
-                }
-            }
-        }
-    }
-
     /// The latches move.
     fn move_latches(&self, trial: &mut Trial) {
         let latches = self.joint.netlist().latches().as_slice();
@@ -130,7 +115,8 @@ impl Lead<'_> {
     /// Whether what is kept is enough.
     fn is_enough(&self, trial: &mut Trial, none: &Bits) -> bool {
         self.note_kept(trial);
-        self.compute(&trial.kept, &mut trial.now);
+        let (order, netlist) = (self.order, self.joint.netlist());
+        order.compute(netlist, &trial.kept, &mut trial.now);
         let meeting = Meeting {
             violation: self.joint.violation(),
             places: self.places,
@@ -142,7 +128,7 @@ impl Lead<'_> {
         }
         self.move_latches(trial);
         self.choose_inputs(trial);
-        self.compute(none, &mut trial.next);
+        order.compute(netlist, none, &mut trial.next);
         self.all_reached(trial)
     }
 

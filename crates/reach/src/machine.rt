@@ -4,6 +4,7 @@ ghost use Rattle.std.specs.Prelude.{◌≡◌, ◌∷◌, [], IfOk, IsTrue};
 ghost use Rattle.clauses.specs.Literals.{clause_within};
 ghost use Rattle.clauses.specs.declared.flat.TheConstants.{MOST_VARIABLES};
 ghost use Rattle.joint_theory.specs.Queries as spec;
+ghost use Rattle.reach.specs.Knowing.{AreKnown};
 ghost use Rattle.reach.specs.Questions.{IsStop};
 ghost use Rattle.reach.specs.Sliced.{IsSliced};
 ghost use Rattle.reach.specs.Systems.{system_of};
@@ -11,7 +12,8 @@ ghost use Rattle.reach_frames.specs.Cubes.{negated as negated_of};
 
 use crate::apart::{are_apart, is_denied};
 use crate::asking::{Told, ask};
-use crate::core_bits::{has_bit, mask_of, set_bit, used_by};
+use crate::core_bits::{has_bit, mask_among, mask_of, set_bit, used_by};
+use crate::knowing::known_literals;
 use crate::leading::neighbour_in;
 use crate::lifting::lifted_mask;
 use crate::question::Question;
@@ -24,21 +26,27 @@ use gates_theory::Literals;
 use joint::Joint;
 use psl_base::{Bits, NoMemory};
 use reach_frames::{Entered, Entry, Machine, Stop};
+use reach_solver::ReachSolver;
 use std::alloc::Global;
+use std::cell::Cell;
 
 /// The joint states, and how many steps the solver has for each query.
-#[derive(Debug)]
 pub(crate) struct JointMachine<'a> {
     pub joint: &'a Joint<'a>,
     pub steps: u64,
     // What is true of the bits of an initial state.
     pub start: Literals,
     pub ghost start_is: { start ≡ spec.start_literals joint.now.design joint.now.automaton joint.now.visits },
+    // All that is known to be true of these.
+    pub known: Literals,
+    pub ghost known_are: { AreKnown joint.now known },
     // What questions over a slice of the signals are asked of.
     pub sliced: Option<Sliced>,
     pub ghost sliced_is: { ForSome sliced (IsSliced joint.now) },
     // The signals on which what the automaton asks hangs.
     pub order: SignalOrder,
+    // The solver that goes on from question to question. What it holds is looked at where it is used.
+    pub solver: Cell<Option<ReachSolver>>,
 }
 
 // Written out, so that a caller's proof sees one call where a value is dropped.
@@ -48,8 +56,10 @@ impl Drop for JointMachine<'_> {
             joint: _,
             steps: _,
             start: _,
+            known: _,
             sliced: _,
             order: _,
+            solver: _,
         } = self;
     }
 }
@@ -67,12 +77,15 @@ impl<'a> JointMachine<'a> {
         let start = joint.start_literals(alloc)?;
         let sliced = sliced_of(alloc, joint)?;
         let order = SignalOrder::new(alloc, joint)?;
+        let known = known_literals(alloc, joint, steps, &start, &order)?;
         Ok(JointMachine {
             joint,
             steps,
             start,
+            known,
             sliced,
             order,
+            solver: Cell::new(None),
         })
     }
 
@@ -89,14 +102,32 @@ impl<'a> JointMachine<'a> {
         let first = clauses.saturating_sub(starts).saturating_sub(cube.len());
         let used = used_by(alloc, clauses, log)?;
         let mut mask = mask_of(alloc, self.joint.state_bits(), cube, first, &used)?;
-        if !self.is_away(cube, &mask) {
-            self.keep_away(cube, &mut mask);
-        }
+        self.hold_off(cube, &mut mask);
         Ok(mask)
     }
 
+    /// The same, where a solver told it by literals of the second state that are enough.
+    pub fn core_among(
+        &self,
+        alloc: Global,
+        enough: &[i32],
+        cube: &[i32],
+    ) -> Result<Bits, NoMemory> {
+        let width = self.joint.state_bits();
+        let mut mask = mask_among(alloc, width, cube, enough)?;
+        self.hold_off(cube, &mut mask);
+        Ok(mask)
+    }
+
+    /// Marks a literal of a cube that is false in each initial state, if there is one and none is marked.
+    fn hold_off(&self, cube: &[i32], mask: &mut Bits) {
+        if !self.is_held_off(cube, mask) {
+            self.keep_away(cube, mask);
+        }
+    }
+
     /// Whether a marked literal of a cube is false in each initial state.
-    fn is_away(&self, cube: &[i32], mask: &Bits) -> bool {
+    fn is_held_off(&self, cube: &[i32], mask: &Bits) -> bool {
         for literal in cube {
             if self.denies(*literal) && has_bit(mask, *literal) {
                 return true;
@@ -117,7 +148,7 @@ impl<'a> JointMachine<'a> {
 
     /// Whether a literal is false in each initial state.
     fn denies(&self, literal: i32) -> bool {
-        is_denied(self.start.as_slice(), literal)
+        is_denied(self.known.as_slice(), literal)
     }
 }
 
@@ -138,7 +169,7 @@ impl Machine for JointMachine<'_> {
     fn begins(&self, alloc: Global, cube: &[i32]) -> Result<Option<Bits>, Stop> {
         self.joint.facts();
         let width = self.joint.state_bits();
-        if are_apart(self.start.as_slice(), cube) {
+        if are_apart(self.known.as_slice(), cube) {
             return Ok(None);
         }
         let clauses = one_clause(alloc, cube)?;
@@ -188,6 +219,10 @@ impl Machine for JointMachine<'_> {
     fn thinned(&self, alloc: Global, cube: &[i32]) -> Result<Bits, NoMemory> {
         let counts = self.joint.visits().saturating_add(1);
         all_bits(alloc, self.joint.state_bits().saturating_sub(counts))
+    }
+
+    fn is_away(&self, cube: &[i32]) -> bool {
+        are_apart(self.known.as_slice(), cube)
     }
 
     fn led_on(&self, alloc: Global, state: &Bits, cube: &[i32]) -> Result<Option<Bits>, NoMemory> {

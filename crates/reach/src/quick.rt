@@ -1,23 +1,37 @@
 // Entries into a cube, sought over a slice of the signals first: such a formula is several times smaller than the whole
 // one. Where it has no model, there is no entry. A model of it stands for a pair of states that may not be an entry, so
 // that pair is looked at.
-ghost use Rattle.std.specs.Prelude.{◌≡◌, IfOk, IfSome, IsTrue};
-ghost use Rattle.reach.specs.Entering.{DoesLead};
+ghost use Rattle.std.specs.Prelude.{◌≡◌, ◌+◌, ◌≤◌, ◌++◌, map, IfOk, IfSome, IsTrue, OnOk};
+ghost use Rattle.clauses.specs.Literals.{clause_within};
+ghost use Rattle.clauses.specs.declared.flat.TheConstants.{MOST_VARIABLES};
+ghost use Rattle.gates_theory.specs.Unrolled.{moved as higher};
+ghost use Rattle.reach.specs.Entering.{asked_of, DoesLead};
 ghost use Rattle.reach.specs.Sliced.{IsSliced};
 ghost use Rattle.reach.specs.Systems.{system_of};
 ghost use Rattle.reach_frames.specs.Cubes.{IsCube, IsFrame};
 ghost use Rattle.reach_frames.specs.Entries.{IsEntered};
 ghost use Rattle.reach_frames.specs.Systems.{IsEntry};
+ghost use Rattle.reach_solver.specs.Solvers.{IsOver};
 
 use crate::completing::completed;
-use crate::machine::JointMachine;
+use crate::machine::{JointMachine, negated};
 use crate::sliced::Sliced;
-use crate::sliced_query::{Entering, sliced_relative};
-use cdcl::{Answer, solve};
-use clauses::{Clauses, CnfFault};
+use clauses::{Clauses, Cnf};
+use gates_theory::Literals;
 use psl_base::{Bits, NoMemory};
 use reach_frames::{Entered, Entry, is_in_cube, is_met};
+use reach_solver::{ReachSolver, Told};
+use run_formulas::moved;
 use std::alloc::Global;
+
+/// What is asked about an entry into a cube: the frame that the first state meets, whether that one is initial, and the
+/// cube.
+#[derive(Clone, Copy)]
+pub(crate) struct Entering<'q> {
+    pub frame: &'q Clauses,
+    pub initial: bool,
+    pub cube: &'q [i32],
+}
 
 /// Whether a pair of neighbours would be an entry.
 fn leads(machine: &JointMachine, entry: &Entry, entering: Entering<'_>) -> bool
@@ -76,34 +90,100 @@ fn found_by(
     }
 }
 
-/// Whether something leads into a cube, if the slice tells it.
+/// Literals of variables that are so much higher.
+fn moved_all(alloc: Global, width: u32, literals: &[i32]) -> Result<Literals, NoMemory>
+    requires within { IsTrue (clause_within width literals.now) }
+    requires fits { width + width ≤ MOST_VARIABLES }
+    ensures { IfOk result (λ all. all ≡ map (higher width) literals.now) }
+{
+    let mut all = Literals::new(alloc);
+    for literal in literals {
+        all.push(moved(width, *literal))?;
+    }
+    Ok(all)
+}
+
+/// Adds literals at the end.
+fn append(all: &mut Literals, literals: &[i32]) -> Result<(), NoMemory>
+    ensures { OnOk result (all.new ≡ all.old ++ literals.now) }
+{
+    for literal in literals {
+        all.push(*literal)?;
+    }
+    Ok(())
+}
+
+/// The literals that are asked: the second state is in the cube, and the first is initial where that is asked.
+fn asked_literals(
+    alloc: Global,
+    machine: &JointMachine,
+    entering: Entering<'_>,
+) -> Result<Literals, NoMemory>
+    requires cube { IsTrue (clause_within (system_of machine.now.joint.now).width entering.cube.now) }
+    requires fits { (system_of machine.now.joint.now).width + (system_of machine.now.joint.now).width ≤ MOST_VARIABLES }
+    ensures { IfOk result (λ literals. literals ≡ asked_of machine.now.joint.now entering.entry.initial entering.entry.cube.now) }
+{
+    machine.joint.facts();
+    let mut literals = moved_all(alloc, machine.joint.state_bits(), entering.cube)?;
+    if entering.initial {
+        append(&mut literals, machine.start.as_slice())?;
+    }
+    Ok(literals)
+}
+
+/// Whether something leads into a cube, if a solver over the slice tells it.
 fn entered_over(
     alloc: Global,
     machine: &JointMachine,
     sliced: &Sliced,
     entering: Entering<'_>,
+    solver: &mut ReachSolver,
 ) -> Result<Option<Entered>, NoMemory>
     requires sliced { IsSliced machine.now.joint.now sliced.now }
+    requires over { IsOver solver.old sliced.now.pair.variables sliced.now.pair.clauses }
     requires frame { IsFrame (system_of machine.now.joint.now).width entering.frame.now }
     requires cube { IsCube (system_of machine.now.joint.now).width entering.cube.now }
     ensures { IfOk result (λ found. IfSome found (IsEntered (system_of machine.now.joint.now)
         entering.entry.frame.now entering.entry.initial entering.entry.cube.now)) }
 {
     machine.joint.facts();
-    let formula = match sliced_relative(alloc, machine, sliced, entering) {
-        Ok(formula) => formula,
-        Err(CnfFault::TooLarge) => return Ok(None),
-        Err(CnfFault::NoMemory) => return Err(NoMemory),
-    };
-    match solve(alloc, &formula, machine.steps)? {
-        Answer::Model(values) => found_by(alloc, machine, sliced, entering, &values),
-        Answer::Refuted(log) => {
-            let (clauses, initial) = (formula.clauses.len(), entering.initial);
-            let mask = machine.core_of(alloc, &log, clauses, initial, entering.cube)?;
+    machine.joint.state_bits();
+    let outside = negated(alloc, entering.cube)?;
+    let literals = asked_literals(alloc, machine, entering)?;
+    let told = solver.ask(
+        alloc,
+        entering.frame,
+        outside.as_slice(),
+        literals.as_slice(),
+        machine.steps,
+    )?;
+    match told {
+        Told::Model(values) => found_by(alloc, machine, sliced, entering, &values),
+        Told::Refuted(core) => {
+            let mask = machine.core_among(alloc, core.as_slice(), entering.cube)?;
             Ok(Some(Entered::Kept(mask)))
         }
-        Answer::Spent(_) | Answer::LogFull(_) => Ok(None),
+        Told::Nothing => Ok(None),
     }
+}
+
+/// The solver over a formula that a machine has, or a new one.
+fn solver_over(
+    alloc: Global,
+    machine: &JointMachine,
+    formula: &Cnf,
+) -> Result<ReachSolver, NoMemory>
+    ensures { IfOk result (λ solver. IsOver solver formula.now.variables formula.now.clauses) }
+{
+    match machine.solver.replace(None) {
+        Some(solver) => {
+            if !solver.is_full() && solver.is_over(formula) {
+                return Ok(solver);
+            }
+        }
+        None => {}
+    }
+    ReachSolver::new(alloc, formula)
 }
 
 /// Whether a state that meets a frame, is outside the cube, and begins where that is asked, leads into the cube, if a
@@ -132,5 +212,8 @@ pub(crate) fn quick(
         initial,
         cube,
     };
-    entered_over(alloc, machine, sliced, entering)
+    let mut solver = solver_over(alloc, machine, &sliced.pair)?;
+    let entered = entered_over(alloc, machine, sliced, entering, &mut solver)?;
+    machine.solver.set(Some(solver));
+    Ok(entered)
 }

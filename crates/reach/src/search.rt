@@ -14,7 +14,6 @@ use std::alloc::Global;
 use std::marker::Model;
 
 /// A search for inductive clauses, or for a path to a bad state.
-#[derive(Debug)]
 pub struct Search<'a> {
     machine: JointMachine<'a>,
     frames: Frames,

@@ -3,6 +3,8 @@ ghost use Rattle.std.specs.Prelude.{◌<◌, ◌^◌, length};
 
 use crate::core_bits::{no_bits, set};
 use crate::reading::value_at;
+use crate::table_values::value_of_table;
+use crate::ternary::{Ternaries, write};
 use joint::{Joint, Slice};
 use netlist::{Netlist, Signals, Table, soundness_law};
 use netlist_order::order_tables;
@@ -153,5 +155,19 @@ impl SignalOrder {
             tables,
             told,
         })
+    }
+
+    /// Computes the outputs of the tables that are not among some signals.
+    pub fn compute(&self, netlist: &Netlist, except: &Bits, values: &mut Ternaries) {
+        let tables = netlist.tables().as_slice();
+        for number in self.tables.as_slice() {
+            if let Some(table) = tables.get(*number as usize) {
+                let output = table.output as usize;
+                if !value_at(except, output) {
+                    let value = value_of_table(table, values);
+                    write(values, output, value);
+                }
+            }
+        }
     }
 }

@@ -7,6 +7,7 @@ ghost use Rattle.reach_frames.specs.Searches.{frame_in, frame_before, AreReady, 
 
 use crate::bits::{marked, negated};
 use crate::blocking::Task;
+use crate::leaving_out::leave_out;
 use crate::{Entered, Frames, Literals, Machine, Stop};
 use clauses::Clauses;
 use psl_base::Bits;
@@ -41,7 +42,8 @@ pub(crate) fn learn<M: Machine>(
         cube: task.cube.copy(alloc)?,
         mask,
     };
-    let cube = shrink(alloc, machine, before, place == 0, shut)?;
+    let core = shrink(alloc, machine, before, place == 0, shut)?;
+    let cube = leave_out(alloc, machine, before, place == 0, core)?;
     let level = raise(alloc, machine, frames, cube.as_slice(), place)?;
     let clause = negated(alloc, cube.as_slice())?;
     frames.add(alloc, level, clause)?;
@@ -49,7 +51,7 @@ pub(crate) fn learn<M: Machine>(
 }
 
 /// A part of a cube that is kept out as well, as small as is found.
-fn shrink<M: Machine>(
+pub(crate) fn shrink<M: Machine>(
     alloc: Global,
     machine: &M,
     frame: &Clauses,
@@ -106,7 +108,7 @@ fn smaller<M: Machine>(
 }
 
 /// The cube, if it is kept out.
-fn tried<M: Machine>(
+pub(crate) fn tried<M: Machine>(
     alloc: Global,
     machine: &M,
     frame: &Clauses,

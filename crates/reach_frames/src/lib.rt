@@ -11,6 +11,7 @@ mod entry;
 mod frames;
 mod laws;
 mod learning;
+mod leaving_out;
 mod level;
 mod machine;
 mod path;

@@ -72,6 +72,9 @@ pub trait Machine {
     fn thinned(&self, alloc: Global, cube: &[i32]) -> Result<Bits, NoMemory>
         requires { IsCube (system self.now).width cube.now };
 
+    /// Whether it is plain that no run begins in a cube. It is a hint, and nothing is promised of it.
+    fn is_away(&self, cube: &[i32]) -> bool;
+
     /// A state of the cube that follows a state, if the machine finds one. Nothing is said where it does not.
     fn led_on(&self, alloc: Global, state: &Bits, cube: &[i32]) -> Result<Option<Bits>, NoMemory>
         requires cube { IsCube (system self.now).width cube.now }

@@ -114,6 +114,11 @@ impl Machine for Table {
         mask(alloc, self.start.len(), false)
     }
 
+    // So that each literal is tried.
+    fn is_away(&self, _cube: &[i32]) -> bool {
+        true
+    }
+
     fn led_on(&self, alloc: Global, state: &Bits, cube: &[i32]) -> Result<Option<Bits>, NoMemory> {
         for place in 0..self.steps.len() {
             let entry = self.steps.at(place);

@@ -1,4 +1,4 @@
-use Rattle.std.proofs.Common.{sym, subst, List}
+use Rattle.std.proofs.Common.{sym, subst}
 use Rattle.cdcl.specs.Answers.{IsAnswer, IsFull, IsSpent}
 use Rattle.reach.specs.Answers.{AreSpent, IsLogFull}
 use Rattle.reach.specs.Questions.{query_of}

@@ -1,4 +1,4 @@
-use Rattle.std.proofs.Common.{◌≡◌, sym, subst, ◌∙◌, Bool as Truth, false, List, arith}
+use Rattle.std.proofs.Common.{subst, Bool as Truth, false, List, arith}
 use Rattle.std.specs.Prelude.{IfSome, IsTrue, Option}
 use Rattle.std.proofs.lemmas.Grind.{common_steps}
 use Rattle.clauses.specs.Literals.{clause_within}

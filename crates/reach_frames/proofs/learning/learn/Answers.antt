@@ -9,6 +9,9 @@ use Rattle.reach_frames.proofs.learning.learn.Goals as goal
 pub shrink-requires-clause-framed : goal.shrink-requires-clause-framed
 shrink-requires-clause-framed g c = rw c.requires.before (before_framed (g.M.Machine.system c.args.machine.now) c.args.frames.now c.args.place c.requires.ready)
 
+pub leave_out-requires-clause-framed : goal.leave_out-requires-clause-framed
+leave_out-requires-clause-framed g c = rw c.requires.before (before_framed (g.M.Machine.system c.args.machine.now) c.args.frames.now c.args.place c.requires.ready)
+
 pub raise-requires-clause-closed : goal.raise-requires-clause-closed
 raise-requires-clause-closed g c =
     let system = g.M.Machine.system c.args.machine.now in
@@ -43,7 +46,8 @@ returns-clause-kept_out g c =
     let closed : IsClosed system levels level cube = rw c.as_slice.ensures at c.in_ok-level.ensures.closed in
     let clause : c.in_ok-clause.clause ≡ negated cube = c.in_ok-clause.ensures ∙ ap negated c.as_slice-2.ensures in
     let added : AreAdded levels c.add.new.self level c.in_ok-clause.clause = (c.in_ok-add.ensures.stays, c.in_ok-add.ensures.grows) in
-    let within : IsWithin c.in_ok-copy.field-0 cube = c.in_ok-cube.ensures.within in
+    let core : IsWithin c.in_ok-copy.field-0 c.in_ok-core.core = c.in_ok-core.ensures.within in
+    let within : IsWithin c.in_ok-copy.field-0 cube = λ state inside. c.in_ok-cube.ensures.within state (core state inside) in
     let within : IsWithin c.args.task.now.cube cube = rw c.in_ok-copy.ensures at within in
     out_within (frame_in c.add.new.self c.args.place) c.args.task.now.cube cube within
     (added_keeps_out system levels c.add.new.self c.args.place level cube c.requires.ready c.in_ok-level.ensures.framed c.in_ok-level.ensures.later closed

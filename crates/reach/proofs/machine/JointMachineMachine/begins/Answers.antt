@@ -1,8 +1,8 @@
-use Rattle.std.proofs.Common.{refl, sym, subst, ◌∙◌, ℤ, neg_ℤ, List, [], ◌∷◌, arith}
+use Rattle.std.proofs.Common.{refl, sym, subst, ℤ, neg_ℤ, List, arith}
 use Rattle.std.specs.Prelude.{Contains}
 use Rattle.clauses.specs.declared.flat.TheConstants.{MOST_VARIABLES}
 use Rattle.joint_theory.specs.Bits.{joint_width}
-use Rattle.reach_frames.specs.Cubes.{negated, IsFrame}
+use Rattle.reach_frames.specs.Cubes.{IsFrame}
 use Rattle.gates_theory.proofs.Within.{wider}
 use Rattle.reach.proofs.Asked.{begun-none, begun-some}
 use Rattle.reach.proofs.NoneApart.{none-apart}
@@ -13,9 +13,9 @@ pub returns-then-are_apart-clause-none : goal.returns-then-are_apart-clause-none
 returns-then-are_apart-clause-none c =
     let joined = c.args.self.now.joint.now in
     let found = c.if-are_apart.ensures refl in
-    none-apart joined c.facts.ensures.netlist c.facts.ensures.automaton
+    none-apart joined c.args.self.now.known c.args.self.now.known_are
     (joint_width joined.design joined.automaton joined.visits) c.args.cube.now found.0 c.requires.within found.1
-    (subst (λ (l : List ℤ). Contains l (neg_ℤ found.0)) (c.as_slice.ensures ∙ c.args.self.now.start_is) found.2)
+    (subst (λ (l : List ℤ). Contains l (neg_ℤ found.0)) c.as_slice.ensures found.2)
 
 pub one_clause-requires : goal.one_clause-requires
 one_clause-requires c =
