@@ -86,7 +86,7 @@ impl ReachSolver {
         })
     }
 
-    /// Whether the solver is over a formula. It is false only where it is not.
+    /// Whether the solver is over a formula. It is true only where it is.
     pub fn is_over(&self, formula: &Cnf) -> bool
         ensures { IsTrue result → IsOver self.now formula.now.variables formula.now.clauses }
     {
