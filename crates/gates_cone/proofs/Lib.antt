@@ -1,3 +1,7 @@
+mod Closing
+mod Counting
+pub mod Feeding
 mod Kept
 mod Noting
-mod Closing
+mod Reading
+mod SameFrames

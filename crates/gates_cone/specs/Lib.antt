@@ -1,3 +1,4 @@
 pub mod Cones
 pub mod Drivers
+pub mod Fed
 pub mod Keeping

@@ -1,6 +1,7 @@
-ghost use Rattle.std.specs.Prelude.{◌≡◌, ◌<◌, ◌++◌, false, length, map, replicate, All, IfOk};
+ghost use Rattle.std.specs.Prelude.{◌≡◌, ℕ, ◌<◌, ◌++◌, false, length, map, replicate, All, IfOk};
 ghost use Rattle.netlist.specs.Valuations.{bit};
 ghost use Rattle.gates_cone.specs.Cones.{with_latches, IsLeast};
+ghost use Rattle.gates_cone.specs.Fed.{cone_in};
 
 use crate::drivers::drivers_of;
 use crate::keeping::keep_all;
@@ -27,7 +28,10 @@ pub fn cone_of(alloc: Global, netlist: &Netlist, signals: &[u32]) -> Result<Bits
     requires { All (λ signal. signal < netlist.now.signals) signals.now }
     ensures size { IfOk result (λ cone. length cone ≡ netlist.now.signals) }
     ensures least { IfOk result (λ cone. IsLeast netlist.now signals.now (bit cone)) }
+    ensures is { IfOk result (λ cone. (signal : ℕ) → signal < netlist.now.signals
+        → bit cone signal ≡ cone_in netlist.now signals.now signal) }
 {
+    soundness_law(netlist);
     let drivers = drivers_of(alloc, netlist)?;
     let mut kept = none_kept(alloc, netlist.signals())?;
     let mut found = Vec::new(alloc);
@@ -60,6 +64,8 @@ pub fn cone_with_latches(
     requires { All (λ signal. signal < netlist.now.signals) signals.now }
     ensures size { IfOk result (λ cone. length cone ≡ netlist.now.signals) }
     ensures least { IfOk result (λ cone. IsLeast netlist.now (with_latches netlist.now signals.now) (bit cone)) }
+    ensures is { IfOk result (λ cone. (signal : ℕ) → signal < netlist.now.signals
+        → bit cone signal ≡ cone_in netlist.now (with_latches netlist.now signals.now) signal) }
 {
     soundness_law(netlist);
     let all = with_outputs(alloc, signals, netlist.latches().as_slice())?;

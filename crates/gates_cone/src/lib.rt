@@ -4,6 +4,8 @@
 mod cone;
 mod drivers;
 mod keeping;
+mod laws;
 mod spreading;
 
 pub use cone::{cone_of, cone_with_latches};
+pub use laws::{cone_law, frames_law};

@@ -1,2 +1,5 @@
-pub mod Fits
+mod Exact
 pub mod Listed
+mod Listing
+mod Masks
+mod Taking

@@ -2,10 +2,11 @@
 //! none of them does as the other side.
 #![tactic(auto)]
 
+mod candidates;
 mod covers;
-mod fitting;
-mod opposite;
+mod greedy;
+mod laws;
 mod points;
-mod small;
 
 pub use covers::covers_of;
+pub use laws::covers_law;

@@ -1,40 +1,53 @@
-// The vectors of four values, by their numbers.
-ghost use Rattle.std.specs.Prelude.{◌≡◌};
-ghost use Rattle.gates_covers.specs.Points as spec;
+// Sets of vectors of four values, as sixteen bits: that of a vector's number says whether it is in the set.
+ghost use Rattle.std.specs.Prelude.{◌≡◌, ◌<◌, false, slice_index_or};
+ghost use Rattle.netlist.specs.Valuations.{fits_mark, fits_row};
+ghost use Rattle.netlist.specs.declared.rows.Mark.TheVariants as marks;
+ghost use Rattle.gates_nodes.specs.Nodes as nodes;
+ghost use Rattle.gates_covers.specs.Points.{IsMask};
 
-use netlist::Mark;
+use netlist::{Mark, Rows};
 
-/// How many vectors of four values there are.
-pub const POINTS: usize = 16;
+// The vectors whose value at each place is 1.
+const ONES: [u16; 4] = [0xff00, 0xf0f0, 0xcccc, 0xaaaa];
 
-/// The vector of a number, whose first value is the highest binary digit.
-pub fn point_of(number: usize) -> [bool; 4]
-    ensures { result ≡ spec.point_of number }
+// The mark of a row at a place; past its end nothing is asked.
+fn mark_at(row: &[Mark], place: usize) -> Mark
+    ensures { result ≡ slice_index_or row.now place marks.Any }
 {
-    [
-        number >= 8,
-        number % 8 >= 4,
-        number % 4 >= 2,
-        number % 2 >= 1,
-    ]
+    if place < row.len() {
+        row[place]
+    } else {
+        Mark::Any
+    }
 }
 
-/// The row that fits the vector of a number alone.
-pub fn row_of(number: usize) -> [Mark; 4]
-    ensures { result ≡ spec.row_of number }
+// The vectors whose value at a place is what the mark of a row asks there.
+fn points_at(row: &[Mark], place: usize) -> u16
+    requires { place < 4 }
+    ensures { IsMask result
+        (λ point. fits_mark (slice_index_or row.now place marks.Any) (slice_index_or point place false)) }
 {
-    let [first, second, third, fourth] = point_of(number);
-    [
-        mark_of(first),
-        mark_of(second),
-        mark_of(third),
-        mark_of(fourth),
-    ]
+    match mark_at(row, place) {
+        Mark::Zero => !ONES[place],
+        Mark::One => ONES[place],
+        Mark::Any => u16::MAX,
+    }
 }
 
-// The mark that asks for a value.
-fn mark_of(value: bool) -> Mark
-    ensures { result ≡ spec.mark_of value }
+/// The vectors that a row fits.
+pub fn points_of(row: &[Mark]) -> u16
+    ensures { IsMask result (fits_row row.now) }
 {
-    if value { Mark::One } else { Mark::Zero }
+    points_at(row, 0) & points_at(row, 1) & points_at(row, 2) & points_at(row, 3)
+}
+
+/// The vectors that some row fits.
+pub fn points_of_some(rows: &Rows) -> u16
+    ensures { IsMask result (nodes.fits_some rows.now) }
+{
+    let mut points = 0;
+    for place in 0..rows.len() {
+        points |= points_of(rows.at(place));
+    }
+    points
 }

@@ -120,6 +120,16 @@ module _ (covers : List Cover) (given : ℕ) (design : Design) (order : List ℕ
     pub frames-sound : (number : ℕ) → AreSound given (frame number).nodes
     frames-sound number = (facts number).are_sound
 
+    pub frames-within : (number : ℕ) → IsTrue (clause_within (variables_of given (frame number).nodes) (frame number).literals)
+    frames-within number = (facts number).names
+
+    pub frames-more : (number : ℕ) → (more : List Node) × ((frame (suc number)).nodes ≡ (frame number).nodes ++ more)
+    frames-more number =
+        let before = facts number in
+        let grows = frame-grows covers given design order cone setting (suc number) (moved_latch given (frame number).literals) (frame number).nodes Plain
+        (λ latch now member ready. moved-made number before latch now ready) before.are_sound (all_unit design.latches) in
+        (grows.more, grows.grown)
+
     earlier_holds : (source : Source) (v : Assignment) (number : ℕ) → IsEvaluation covers given source v (frame (suc number)).nodes → IsEvaluation covers given source v (frame number).nodes
     earlier_holds source v number holds =
         let before = facts number in

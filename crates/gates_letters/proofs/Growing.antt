@@ -1,5 +1,5 @@
 -- Nodes only become more, and what was added one behind another.
-use Rattle.std.proofs.Common.{◌≡◌, ℕ, ◌≤◌, ℤ, neg_ℤ, Bool, true, false, List, Option, None, Some, Err, Ok, sym, ap, ◌∙◌, arith}
+use Rattle.std.proofs.Common.{◌≡◌, ℕ, ◌≤◌, ℤ, neg_ℤ, Bool, true, false, List, [], ◌∷◌, ◌++◌, length, Option, None, Some, Err, Ok, refl, sym, ap, ◌∙◌, subst, arith, append_assoc, length-append}
 use Rattle.std.specs.Option.{IfSome}
 use Rattle.std.specs.Prelude.{Result}
 use Rattle.alternating_theory.specs.Positive as positives
@@ -10,14 +10,16 @@ use Rattle.psl_tree.specs.Trees.{Boolean}
 use Rattle.psl_tree.specs.declared.atom.Edge.{Edge}
 use Rattle.psl_tree.specs.declared.atom.Edge.TheVariants.{Value, Rise, Fall}
 use Rattle.gates_nodes.specs.declared.node.Node.{Node}
-use Rattle.gates_nodes.specs.Folding.{Built, conjoined, either}
+use Rattle.gates_nodes.specs.declared.node.Node.TheVariants.{And}
+use Rattle.gates_nodes.specs.Folding.{Built, at_place, conjoined, either, folded, higher, lower, place_of, unless_folded}
 use Rattle.gates_nodes.specs.Nodes.{variables_of}
 use Rattle.gates_builder.specs.Adding.{Adds, AreOf, Making, with_nodes}
 use Rattle.gates_builder.proofs.Growing.{adds-as, adds-fails, all-more, more-added, more-conjoined}
 use Rattle.gates_builder.proofs.Loops.{adds-from}
 use Rattle.gates_frames.specs.Frames.{literal_at}
 use Rattle.gates_letters.specs.Booleans.{boolean_built, constant_built, edge_built, joined}
-use Rattle.gates_letters.specs.Combinations.{combination_built}
+use Rattle.gates_letters.specs.Combinations.{combination_by}
+use Rattle.gates_letters.specs.Extending.{Extends, extends-same}
 
 -- a part that only adds nodes, and one that joins two literals
 abbrev pub Grows : ℕ → (List Node → Built) → Type 0
@@ -30,45 +32,83 @@ module _ (given : ℕ) where
   pub more-either : JoinGrows given (either given)
   more-either nodes a b = more-conjoined given nodes (neg_ℤ a) (neg_ℤ b)
 
-  pub more-joined : (join : List Node → ℤ → ℤ → Built) (first second : List Node → Built) → JoinGrows given join → Grows given first → Grows given second → Grows given (joined join first second)
-  more-joined join first second joins one two nodes =
-      omega (arith, one nodes, two (first nodes).nodes, joins (second (first nodes).nodes).nodes (first nodes).output (second (first nodes).nodes).output)
+-- nodes that there are stay
+pub extends-then : (a b c : List Node) → Extends a b → Extends b c → Extends a c
+extends-then a b c first second = record { more = first.more ++ second.more; is = second.is ∙ ap (λ l. l ++ second.more) first.is ∙ append_assoc a first.more second.more }
 
-  more-constant : (value : Bool) → Grows given (constant_built given value)
-  more-constant true nodes = omega arith
-  more-constant false nodes = omega arith
+pub more-extends : (given : ℕ) (old new : List Node) → Extends old new → variables_of given old ≤ variables_of given new
+more-extends given old new extends = omega (arith, ap (λ (l : List Node). length l) extends.is, length-append old extends.more)
 
-  more-edge : (before : Option (List ℤ)) (now : List ℤ) (edge : Edge) (signal : ℕ) → Grows given (edge_built given before now edge signal)
-  more-edge before now Value signal nodes = omega arith
-  more-edge None now Rise signal nodes = omega arith
-  more-edge None now Fall signal nodes = omega arith
-  more-edge (Some before) now Rise signal nodes = more-conjoined given nodes (neg_ℤ (literal_at given before signal)) (literal_at given now signal)
-  more-edge (Some before) now Fall signal nodes = more-conjoined given nodes (literal_at given before signal) (neg_ℤ (literal_at given now signal))
+abbrev pub PartExtends : (List Node → Built) → Type 0
+PartExtends part = (nodes : List Node) → Extends nodes (part nodes).nodes
+
+abbrev pub JoinExtends : (List Node → ℤ → ℤ → Built) → Type 0
+JoinExtends join = (nodes : List Node) (a b : ℤ) → Extends nodes (join nodes a b).nodes
+
+module _ (given : ℕ) where
+  extends-place : (place : Option ℕ) (nodes : List Node) (a b : ℤ) → Extends nodes (at_place given nodes a b place).nodes
+  extends-place None nodes a b = record { more = And a b ∷ []; is = refl }
+  extends-place (Some place) nodes a b = extends-same nodes
+
+  extends-unless : (literal : Option ℤ) (nodes : List Node) (a b : ℤ) → Extends nodes (unless_folded given nodes a b literal).nodes
+  extends-unless None nodes a b = extends-place (place_of (lower a b) (higher a b) nodes) nodes (lower a b) (higher a b)
+  extends-unless (Some l) nodes a b = extends-same nodes
+
+  pub extends-conjoined : JoinExtends (conjoined given)
+  extends-conjoined nodes a b = extends-unless (folded given a b) nodes a b
+
+  pub extends-either : JoinExtends (either given)
+  extends-either nodes a b = extends-conjoined nodes (neg_ℤ a) (neg_ℤ b)
+
+  pub extends-joined : (join : List Node → ℤ → ℤ → Built) (first second : List Node → Built) → JoinExtends join → PartExtends first → PartExtends second → PartExtends (joined join first second)
+  extends-joined join first second joins one two nodes =
+      let front = first nodes in
+      let back = second front.nodes in
+      extends-then nodes back.nodes (join back.nodes front.output back.output).nodes (extends-then nodes front.nodes back.nodes (one nodes) (two front.nodes)) (joins back.nodes front.output back.output)
+
+  pub extends-constant : (value : Bool) → PartExtends (constant_built given value)
+  extends-constant true nodes = extends-same nodes
+  extends-constant false nodes = extends-same nodes
+
+  pub extends-edge : (before : Option (List ℤ)) (now : List ℤ) (edge : Edge) (signal : ℕ) → PartExtends (edge_built given before now edge signal)
+  extends-edge before now Value signal nodes = extends-same nodes
+  extends-edge None now Rise signal nodes = extends-same nodes
+  extends-edge None now Fall signal nodes = extends-same nodes
+  extends-edge (Some before) now Rise signal nodes = extends-conjoined nodes (neg_ℤ (literal_at given before signal)) (literal_at given now signal)
+  extends-edge (Some before) now Fall signal nodes = extends-conjoined nodes (literal_at given before signal) (neg_ℤ (literal_at given now signal))
+
+  pub extends-boolean : (before : Option (List ℤ)) (now : List ℤ) (test : Boolean) → PartExtends (boolean_built given before now test)
+  extends-boolean before now (trees.Const value) nodes = extends-constant value nodes
+  extends-boolean before now (trees.Test atom) nodes = extends-edge before now atom.edge atom.signal nodes
+  extends-boolean before now (trees.Not part) nodes = extends-boolean before now part nodes
+  extends-boolean before now (trees.And left right) nodes =
+      extends-joined (conjoined given) (boolean_built given before now left) (boolean_built given before now right) extends-conjoined (extends-boolean before now left) (extends-boolean before now right) nodes
+  extends-boolean before now (trees.Or left right) nodes =
+      extends-joined (either given) (boolean_built given before now left) (boolean_built given before now right) extends-either (extends-boolean before now left) (extends-boolean before now right) nodes
 
   pub more-boolean : (before : Option (List ℤ)) (now : List ℤ) (test : Boolean) → Grows given (boolean_built given before now test)
-  more-boolean before now (trees.Const value) nodes = more-constant value nodes
-  more-boolean before now (trees.Test atom) nodes = more-edge before now atom.edge atom.signal nodes
-  more-boolean before now (trees.Not part) nodes = more-boolean before now part nodes
-  more-boolean before now (trees.And left right) nodes =
-      more-joined (conjoined given) (boolean_built given before now left) (boolean_built given before now right) (more-conjoined given) (more-boolean before now left) (more-boolean before now right) nodes
-  more-boolean before now (trees.Or left right) nodes =
-      more-joined (either given) (boolean_built given before now left) (boolean_built given before now right) more-either (more-boolean before now left) (more-boolean before now right) nodes
+  more-boolean before now test nodes = more-extends given nodes (boolean_built given before now test nodes).nodes (extends-boolean before now test nodes)
 
-  pub more-combination : (before : Option (List ℤ)) (now later : List ℤ) (positive : Positive) → Grows given (combination_built given before now later positive)
-  more-combination before now later (positives.Const value) nodes = more-constant value nodes
-  more-combination before now later (positives.Holds test) nodes = more-boolean before now test nodes
-  more-combination before now later (positives.Owed number) nodes = omega arith
-  more-combination before now later (positives.And left right) nodes =
-      more-joined (conjoined given) (combination_built given before now later left) (combination_built given before now later right) (more-conjoined given)
-      (more-combination before now later left) (more-combination before now later right) nodes
-  more-combination before now later (positives.Or left right) nodes =
-      more-joined (either given) (combination_built given before now later left) (combination_built given before now later right) more-either
-      (more-combination before now later left) (more-combination before now later right) nodes
+  module _ (before : Option (List ℤ)) (now : List ℤ) (later : ℕ → List Node → Built) (grows : (number : ℕ) → PartExtends (later number)) where
+    pub extends-combination : (positive : Positive) → PartExtends (combination_by given before now later positive)
+    extends-combination (positives.Const value) nodes = extends-constant value nodes
+    extends-combination (positives.Holds test) nodes = extends-boolean before now test nodes
+    extends-combination (positives.Owed number) nodes = grows number nodes
+    extends-combination (positives.And left right) nodes =
+        extends-joined (conjoined given) (combination_by given before now later left) (combination_by given before now later right) extends-conjoined (extends-combination left) (extends-combination right) nodes
+    extends-combination (positives.Or left right) nodes =
+        extends-joined (either given) (combination_by given before now later left) (combination_by given before now later right) extends-either (extends-combination left) (extends-combination right) nodes
+
+    pub more-combination : (positive : Positive) → Grows given (combination_by given before now later positive)
+    more-combination positive nodes = more-extends given nodes (combination_by given before now later positive nodes).nodes (extends-combination positive nodes)
 
 -- the literals of a frame before stay those of variables
 pub before-more : {X : Type 0} (old new : Making) (list : X → List ℤ) (before : Option X) → variables_of old.given old.nodes ≤ variables_of new.given new.nodes → IfSome before (λ x. AreOf old (list x)) → IfSome before (λ x. AreOf new (list x))
 before-more old new list None more of = tt
 before-more old new list (Some x) more of = all-more old new (list x) more of
+
+pub ready-still : (ready : Making → Type 0) (old new : Making) (nodes : List Node) → new ≡ with_nodes old nodes → ready (with_nodes old nodes) → ready new
+ready-still ready old new nodes e before = subst ready (sym e) before
 
 kept_by : (old new : Making) (built : Built) → new ≡ with_nodes old built.nodes → new ≡ with_nodes old new.nodes
 kept_by old new built e = e ∙ ap (with_nodes old) (sym (ap (λ m. m.nodes) e))

@@ -1,3 +1,4 @@
 pub mod Booleans
 pub mod Combinations
+pub mod Extending
 pub mod Letters

@@ -12,12 +12,14 @@ ghost use Rattle.psl_tree.specs.declared.name.Name.{Name};
 ghost use Rattle.run_terms.specs.Letters.{letter_after};
 ghost use Rattle.gates_nodes.specs.declared.cover.Cover.{Cover};
 ghost use Rattle.gates_nodes.specs.declared.node.Node.{Node};
+ghost use Rattle.gates_nodes.specs.Folding.{Built};
 ghost use Rattle.gates_nodes.specs.Makes.{AreSound, Makes};
 ghost use Rattle.gates_nodes.specs.Nodes.{variables_of};
 ghost use Rattle.gates_frames.specs.Frames.{literal_at, Cone};
 ghost use Rattle.gates_frames.specs.Paths.{Shows};
 ghost use Rattle.gates_letters.specs.Booleans.{boolean_built};
-ghost use Rattle.gates_letters.specs.Combinations.{combination_built};
+ghost use Rattle.gates_letters.specs.Combinations.{combination_built, combination_by};
+ghost use Rattle.gates_letters.specs.Extending.{Extends};
 ghost use Rattle.gates_letters.specs.Letters.{letter_of, FramesWithin, ShowsBefore};
 
 /// A law: in each evaluation the literal of a Boolean whose atoms are in range of names says whether it holds on the
@@ -38,9 +40,18 @@ pub fn boolean_law()
 {}
 
 /// A law: in each evaluation the literal of a positive combination says whether the letter of the frame meets it, where
-/// the obligations at the next place have the values of their literals; past the end of these none is met. Where the
-/// frames show valuations, so it is on the letter of these.
+/// each obligation at the next place is met as its literal says, which is made behind whatever nodes there are. With a
+/// list of literals, they are met by the values of these; past its end none is met. Where the frames show valuations, so
+/// it is on the letter of these.
 pub fn combination_law()
+    ensures made { (covers : List Cover) (given : ℕ) (nodes : List Node) (names : List Name) (before : Option (List ℤ))
+        (now : List ℤ) (later : ℕ → List Node → Built) (meaning : ℕ → Assignment → Truth) (positive : Positive)
+        → AreSound given nodes → FramesWithin (variables_of given nodes) before now
+        → AtomsOfPositive (AtomInRange names) positive
+        → ((number : ℕ) (others : List Node) → Extends nodes others → AreSound given others
+        → Makes covers given others (later number others) (meaning number))
+        → Makes covers given nodes (combination_by given before now later positive nodes)
+        (λ values. met positive (letter_of names values before now) (λ number. meaning number values)) }
     ensures value { (covers : List Cover) (given : ℕ) (nodes : List Node) (names : List Name) (before : Option (List ℤ))
         (now later : List ℤ) (positive : Positive) → AreSound given nodes
         → FramesWithin (variables_of given nodes) before now → IsTrue (clause_within (variables_of given nodes) later)

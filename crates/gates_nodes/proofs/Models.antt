@@ -186,6 +186,17 @@ module _ (covers : List Cover) (given : ℕ) (exact : (number : ℕ) → IsExact
       let agree = models-agree v v (suc given) nodes literals e (omega arith) sound inner.0 (λ k wants. refl) in
       (evaluated-is covers any given v nodes any-steady sound e, same-clauses w v clauses (λ k wants. agree k (inr wants)) ∙ inner.1)
 
+  -- what the clauses ask for keeps its values
+  pub model-kept : (v : Assignment) (nodes : List Node) (clauses : List (List ℤ)) → AreSound given nodes → IsModel v (formula covers given nodes clauses) →
+      (k : ℕ) → IsTrue (asks (flat_map (λ (c : List ℤ). c) clauses) k) → evaluated covers any v (suc given) nodes k ≡ v k
+  model-kept v nodes clauses sound model k wants =
+      let literals = flat_map (λ (c : List ℤ). c) clauses in
+      let asked = asked_clauses covers given (suc given) nodes literals in
+      let outer = and_parts (v (suc given) || false) (list_all (meets v) (asked ++ clauses)) model in
+      let e : v (suc given) ≡ true = sym (or_false (v (suc given))) ∙ outer.0 in
+      let inner = and_parts (list_all (meets v) asked) (list_all (meets v) clauses) (sym (list_all-append (meets v) asked clauses) ∙ outer.1) in
+      models-agree v v (suc given) nodes literals e (omega arith) sound inner.0 (λ j asked_for. refl) k (inr wants)
+
   pub evaluation-model : (source : Source) (v : Assignment) (nodes : List Node) (clauses : List (List ℤ)) → AreSound given nodes → IsEvaluation covers given source v nodes → IsModel v clauses →
       IsModel v (formula covers given nodes clauses)
   evaluation-model source v nodes clauses sound is model =

@@ -1,6 +1,6 @@
 mod Depths
 mod Graphs
-mod Orders
+pub mod Orders
 mod Places
 mod Rising
 mod Steps
