@@ -2,6 +2,7 @@ pub mod Answers
 pub mod Entering
 pub mod Formulas
 pub mod Knowing
+pub mod Pacing
 pub mod Plain
 pub mod Progress
 pub mod Questions

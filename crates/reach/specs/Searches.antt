@@ -3,6 +3,7 @@ use Rattle.std.specs.Prelude.{◌≡◌, ℕ, ◌≤◌, false, List, length}
 use Rattle.joint.specs.Joined.{Joined}
 use Rattle.reach.specs.Searched.{Searched}
 use Rattle.reach.specs.Systems.{system_of}
+use Rattle.reach.specs.declared.pacing.Sought.{Sought}
 use Rattle.reach.specs.declared.search.Search.TheInside.{Inside}
 use Rattle.reach_frames.specs.Levels.{frames_of, AreWitnesses}
 use Rattle.reach_frames.specs.Systems.{AreSound}
@@ -22,6 +23,12 @@ pub record AreGood (joined : Joined) (most : ℕ) (levels : List (List KeptClaus
   pub witnessed : AreWitnesses (system_of joined) levels
   pub few : length levels ≤ most
 
+-- the same, and cubes are followed as far as a path can be told at least
+pub record IsSought (joined : Joined) (most : ℕ) (sought : Sought) : Type 0 where
+  pub good : AreGood joined most sought.frames
+  pub more : most ≤ sought.room
+  pub few : sought.room ≤ 1000
+
 pub record IsSearch (search : Inside) : Type 0 where
   pub depth : search.most ≤ 1000
-  pub good : search.has_ended ≡ false → AreGood search.machine.joint.now search.most search.frames
+  pub sought : search.has_ended ≡ false → IsSought search.machine.joint.now search.most search.sought

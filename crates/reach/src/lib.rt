@@ -17,6 +17,7 @@ mod knowing;
 mod leading;
 mod lifting;
 mod machine;
+mod pacing;
 mod question;
 mod quick;
 mod reaching;

@@ -6,17 +6,18 @@ ghost use Rattle.reach.specs.Questions.{IsStop};
 
 use crate::answer::Reached;
 use crate::machine::JointMachine;
+use crate::pacing::{Pace, Sought};
 use crate::stepping::strengthen;
 use joint::Joint;
 use psl_base::NoMemory;
-use reach_frames::{Frames, Stop};
+use reach_frames::Stop;
 use std::alloc::Global;
 use std::marker::Model;
 
 /// A search for inductive clauses, or for a path to a bad state.
 pub struct Search<'a> {
     machine: JointMachine<'a>,
-    frames: Frames,
+    sought: Sought,
     most: u32,
     has_ended: bool,
 }
@@ -43,7 +44,7 @@ impl Drop for Search<'_> {
     fn drop(self) {
         let Search {
             machine: _,
-            frames: _,
+            sought: _,
             most: _,
             has_ended: _,
         } = self;
@@ -69,7 +70,7 @@ impl<'a> Search<'a> {
         let machine = JointMachine::new(alloc, joint, steps)?;
         Ok(Search {
             machine,
-            frames: Frames::new(alloc),
+            sought: Sought::new(alloc, most),
             most,
             has_ended: false,
         })
@@ -100,14 +101,11 @@ impl<'a> Search<'a> {
         ensures refused { OnErr result (self.new ≡ record self.old { has_ended = true }) }
     {
         self.has_ended = true;
-        match strengthen(
-            alloc,
-            &self.machine,
-            &mut self.frames,
-            self.most,
-            frames,
+        let pace = Pace {
+            most: self.most,
             budget,
-        ) {
+        };
+        match strengthen(alloc, &self.machine, &mut self.sought, pace, frames) {
             Ok(Some(reached)) => Ok(Some(reached)),
             Ok(None) => {
                 self.has_ended = false;

@@ -8,8 +8,9 @@ ghost use Rattle.reach.specs.Searches.{AreGood};
 use crate::answer::Reached;
 use crate::ending::{inductive, opened};
 use crate::machine::JointMachine;
+use crate::pacing::{Pace, Sought, cleared};
 use crate::reading::read_path;
-use reach_frames::{Frames, Step, Stop};
+use reach_frames::{Step, Stop};
 use std::alloc::Global;
 
 /// What a step of a search comes to.
@@ -27,29 +28,32 @@ pub(crate) enum Progress {
 fn step(
     alloc: Global,
     machine: &JointMachine,
-    frames: &mut Frames,
-    most: u32,
-    budget: Option<u64>,
+    sought: &mut Sought,
+    pace: Pace,
 ) -> Result<Progress, Stop>
-    requires good { AreGood machine.now.joint.now most frames.old }
-    requires some { 0 < length frames.old }
-    requires depth { most ≤ 1000 }
-    ensures good { OnOk result (AreGood machine.now.joint.now most frames.new) }
-    ensures many { OnOk result (length frames.new ≡ length frames.old) }
-    ensures progress { IfOk result (IsProgress machine.now.joint.now machine.now.steps most budget frames.new) }
+    requires good { AreGood machine.now.joint.now pace.most sought.old.frames }
+    requires some { 0 < length sought.old.frames }
+    requires more { pace.most ≤ sought.old.room }
+    requires few { sought.old.room ≤ 1000 }
+    ensures good { OnOk result (AreGood machine.now.joint.now pace.most sought.new.frames) }
+    ensures many { OnOk result (length sought.new.frames ≡ length sought.old.frames) }
+    ensures more { pace.most ≤ sought.new.room }
+    ensures fewer { sought.new.room ≤ 1000 }
+    ensures progress { IfOk result (IsProgress machine.now.joint.now machine.now.steps pace.most pace.budget
+        sought.new.frames) }
     ensures stopped { IfErr result (IsStop machine.now.joint.now machine.now.steps) }
 {
-    match frames.clear(alloc, machine, most, budget)? {
+    match cleared(alloc, machine, sought, pace)? {
         Step::Cleared(stuck) => {
-            if frames.len() < most as usize {
+            if sought.frames.len() < pace.most as usize {
                 return Ok(Progress::Cleared);
             }
-            let open = opened(alloc, machine, frames, &stuck)?;
+            let open = opened(alloc, machine, &sought.frames, &stuck)?;
             Ok(Progress::Ended(Reached::Open(open)))
         }
         Step::Invariant(clauses) => Ok(Progress::Ended(inductive(alloc, machine, clauses)?)),
         Step::Path(path) => {
-            let path = read_path(alloc, machine.joint, most, &path)?;
+            let path = read_path(alloc, machine.joint, pace.most, &path)?;
             Ok(Progress::Ended(Reached::Path(path)))
         }
         Step::Paused => Ok(Progress::Paused),
@@ -60,32 +64,34 @@ fn step(
 pub(crate) fn strengthen(
     alloc: Global,
     machine: &JointMachine,
-    frames: &mut Frames,
-    most: u32,
+    sought: &mut Sought,
+    pace: Pace,
     wanted: u32,
-    budget: Option<u64>,
 ) -> Result<Option<Reached>, Stop>
-    requires good { AreGood machine.now.joint.now most frames.old }
-    requires depth { most ≤ 1000 }
+    requires good { AreGood machine.now.joint.now pace.most sought.old.frames }
+    requires more { pace.most ≤ sought.old.room }
+    requires fewer { sought.old.room ≤ 1000 }
     requires some { 1 ≤ wanted }
-    requires few { wanted ≤ most }
-    ensures good { OnOk result (AreGood machine.now.joint.now most frames.new) }
-    ensures reached { IfOk result (λ found. IfSome found (IsReached machine.now.joint.now most machine.now.steps)) }
-    ensures decided { IfOk result (λ found. budget ≡ None → wanted ≡ most → IsSome found) }
+    requires few { wanted ≤ pace.most }
+    ensures good { OnOk result (AreGood machine.now.joint.now pace.most sought.new.frames) }
+    ensures more { pace.most ≤ sought.new.room }
+    ensures fewer { sought.new.room ≤ 1000 }
+    ensures reached { IfOk result (λ found. IfSome found (IsReached machine.now.joint.now pace.most machine.now.steps)) }
+    ensures decided { IfOk result (λ found. pace.budget ≡ None → wanted ≡ pace.most → IsSome found) }
     ensures stopped { IfErr result (IsStop machine.now.joint.now machine.now.steps) }
 {
-    if frames.len() == 0 {
-        frames.open(alloc)?;
+    if sought.frames.len() == 0 {
+        sought.frames.open(alloc)?;
     }
     loop {
-        match step(alloc, machine, frames, most, budget)? {
+        match step(alloc, machine, sought, pace)? {
             Progress::Ended(reached) => return Ok(Some(reached)),
             Progress::Paused => return Ok(None),
             Progress::Cleared => {}
         }
-        if frames.len() >= wanted as usize {
+        if sought.frames.len() >= wanted as usize {
             return Ok(None);
         }
-        frames.open(alloc)?;
+        sought.frames.open(alloc)?;
     }
 }

@@ -1,5 +1,5 @@
 -- Cubes that are kept out, and the clauses that keep them out.
-use Rattle.std.proofs.Common.{◌≡◌, ℕ, zero, suc, ◌+◌, ◌<◌, ◌≤◌, ℤ, Bool, true, false, not, eqb, List, [], ◌∷◌, ◌++◌, length, get_or, set, map, take, drop, None, refl, sym, ap, ◌∙◌, inl, inr, arith, add-one}
+use Rattle.std.proofs.Common.{◌≡◌, ℕ, zero, suc, ◌+◌, ◌<◌, ◌≤◌, ℤ, Bool, true, false, not, eqb, eq-eqb, List, [], ◌∷◌, ◌++◌, length, get_or, set, map, take, drop, None, refl, sym, ap, ◌∙◌, inl, inr, arith, add-one}
 use Rattle.std.proofs.lemmas.Bool.{and_right, cases_Bool, eqb-true, false≢true, true≢false, false_from_ne_true, not-true}
 use Rattle.std.proofs.lemmas.List.Elements.{All-contains}
 use Rattle.std.proofs.lemmas.List.Sums.{AllPass-from_list_all, list_all-from_AllPass}
@@ -49,6 +49,14 @@ closed_from_shut system levels place cube shut = record {
       false_from_ne_true (is_in_cube cube next) (λ inside.
       shut.closed (record { before = state; after = next })
       (record { follows = follows; meets = met; outside = outside; inside = inside; begins = λ first. begins (eqb-true place 0 first) }));
+}
+
+-- and the other way round
+pub shut_from_closed : (system : System) (levels : List (List KeptClause)) (place : ℕ) (cube : List ℤ) → IsClosed system levels place cube → IsShut system (frame_before levels place) (eqb place 0) cube
+shut_from_closed system levels place cube closed = record {
+  is_cube = closed.is_cube;
+  unbegun = closed.unbegun;
+  closed = λ entry is. false≢true (sym (closed.closed entry.before entry.after is.meets is.outside (λ first. is.begins (eq-eqb place 0 first)) is.follows) ∙ is.inside);
 }
 
 pub closed_further : (system : System) (levels : List (List KeptClause)) (place : ℕ) (cube : List ℤ) → IsClosed system levels place cube → HasNoEntry system (frame_in levels place) false cube

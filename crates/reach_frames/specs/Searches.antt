@@ -10,6 +10,7 @@ use Rattle.reach_frames.specs.Systems.{System, frame_at, before_of, AreSound}
 use Rattle.reach_frames.specs.declared.blocking.Blocked.{Blocked}
 use Rattle.reach_frames.specs.declared.blocking.Blocked.TheVariants.{Out, Path, Paused}
 use Rattle.reach_frames.specs.declared.blocking.Task.{Task}
+use Rattle.reach_frames.specs.declared.learning.Learned.{Learned}
 use Rattle.reach_frames.specs.declared.level.KeptClause.{KeptClause}
 
 -- the clauses of a frame of levels, and those of the frame before
@@ -64,6 +65,14 @@ IsWithin cube other = (state : List Truth) → IsTrue (is_in_cube cube state) �
 -- each state of a cube misses clauses
 abbrev pub IsKeptOut : List (List ℤ) → List ℤ → Type 0
 IsKeptOut clauses cube = (state : List Truth) → IsTrue (is_in_cube cube state) → is_met clauses state ≡ false
+
+-- What is learned of a cube: a cube that has all its states, and whose clause may be added to the frames up to a level,
+-- which is not before a place.
+pub record IsLearned (system : System) (levels : List (List KeptClause)) (cube : List ℤ) (place : ℕ) (learned : Learned) : Type 0 where
+  pub within : IsWithin cube learned.cube
+  pub later : place ≤ learned.level
+  pub framed : learned.level < length levels
+  pub closed : IsClosed system levels learned.level learned.cube
 
 -- a task can be taken up at a frame: there is one, and fewer frames before it than there is room
 pub record IsTask (system : System) (levels : List (List KeptClause)) (task : Task) (place : ℕ) : Type 0 where

@@ -3,7 +3,7 @@ ghost use Rattle.std.specs.Prelude.{◌≡◌, ◌==◌, ◌<◌, ◌≤◌, ℤ
 ghost use Rattle.clauses.specs.declared.flat.TheConstants.{MOST_VARIABLES};
 ghost use Rattle.reach_frames.specs.Bits.{is_met};
 ghost use Rattle.reach_frames.specs.Cubes.{IsCube, IsFrame};
-ghost use Rattle.reach_frames.specs.Searches.{frame_in, frame_before, AreReady, AreNarrowed, IsClosed, IsKeptOut, IsShut, IsTask, IsWithin};
+ghost use Rattle.reach_frames.specs.Searches.{frame_in, frame_before, AreReady, AreNarrowed, IsClosed, IsKeptOut, IsLearned, IsShut, IsTask, IsWithin};
 
 use crate::bits::{marked, negated};
 use crate::blocking::Task;
@@ -18,6 +18,13 @@ use std::alloc::Global;
 pub(crate) struct Shut {
     pub(crate) cube: Literals,
     pub(crate) mask: Bits,
+}
+
+/// A cube that is kept out of the frames up to a level.
+#[derive(Debug, Drop)]
+struct Learned {
+    cube: Literals,
+    level: usize,
 }
 
 /// Keeps a cube out of a frame: adds the clause of a part of it, as far forward as it holds.
@@ -43,11 +50,56 @@ pub(crate) fn learn<M: Machine>(
         mask,
     };
     let core = shrink(alloc, machine, before, place == 0, shut)?;
-    let cube = leave_out(alloc, machine, before, place == 0, core)?;
-    let level = raise(alloc, machine, frames, cube.as_slice(), place)?;
+    let Learned { cube, level } = lesson(alloc, machine, frames, before, core, place)?;
     let clause = negated(alloc, cube.as_slice())?;
     frames.add(alloc, level, clause)?;
     Ok(())
+}
+
+/// A part of a cube that is kept out of a frame as well, as small as is found, and the last frame that it is kept out of.
+fn lesson<M: Machine>(
+    alloc: Global,
+    machine: &M,
+    frames: &Frames,
+    before: &Clauses,
+    core: Literals,
+    place: usize,
+) -> Result<Learned, Stop>
+    requires ready { AreReady (M.system machine.now) frames.now }
+    requires framed { place < length frames.now }
+    requires before { before.now ≡ frame_before frames.now place }
+    requires shut { IsShut (M.system machine.now) before.now (place == 0) core }
+    ensures learned { IfOk result (IsLearned (M.system machine.now) frames.now core place) }
+    ensures stopped { IfErr result (M.stops machine.now) }
+{
+    let last = frames.len() - 1;
+    let level = raise(alloc, machine, frames, core.as_slice(), place)?;
+    if level == last {
+        return at_last(alloc, machine, frames, core, level);
+    }
+    let cube = leave_out(alloc, machine, before, place == 0, core)?;
+    let level = raise(alloc, machine, frames, cube.as_slice(), place)?;
+    Ok(Learned { cube, level })
+}
+
+/// A part of a cube that is kept out of the last frame as well. What is shown there rests on the least, so it is the
+/// most likely to hold for good.
+fn at_last<M: Machine>(
+    alloc: Global,
+    machine: &M,
+    frames: &Frames,
+    core: Literals,
+    level: usize,
+) -> Result<Learned, Stop>
+    requires ready { AreReady (M.system machine.now) frames.now }
+    requires framed { level < length frames.now }
+    requires closed { IsClosed (M.system machine.now) frames.now level core }
+    ensures learned { IfOk result (IsLearned (M.system machine.now) frames.now core level) }
+    ensures stopped { IfErr result (M.stops machine.now) }
+{
+    let frame = frames.before(alloc, level)?;
+    let cube = leave_out(alloc, machine, &frame, level == 0, core)?;
+    Ok(Learned { cube, level })
 }
 
 /// A part of a cube that is kept out as well, as small as is found.
