@@ -1,0 +1,9 @@
+use Rattle.std.proofs.Common.{◌≡◌, length}
+use Rattle.gates_builder.specs.Adding.{AreOf}
+use Rattle.prover_bmc.proofs.debts.first_debts.Given as goal
+
+abbrev pub invariant-loop-number : goal.invariant-loop-number
+invariant-loop-number l = record {
+  size : length l.debts ≡ l.number;
+  are : AreOf l.builder l.debts;
+}

@@ -1,0 +1,11 @@
+-- What is kept of prefixes, and what contracts see of them.
+use Rattle.std.specs.Prelude.{IfSome}
+use Rattle.netlist.specs.Design.{Design}
+use Rattle.prover_bmc.specs.declared.prefixes.Prefixes.TheInside.{Inside}
+use Rattle.prover_bmc.specs.Plans.{IsPathOf, IsPlan}
+
+abbrev pub netlist_of : Inside → Design
+netlist_of prefixes = prefixes.plan.netlist.now
+
+abbrev pub IsKept : Inside → Type 0
+IsKept prefixes = IsPlan prefixes.plan × IfSome prefixes.path (IsPathOf prefixes.plan)

@@ -1,0 +1,4 @@
+pub mod Fields
+pub mod Hints
+pub mod Later
+pub mod Plans

@@ -1,0 +1,12 @@
+pub mod Accepting
+pub mod Asking
+pub mod Filling
+pub mod Marks
+pub mod Narrowing
+pub mod OneRun
+pub mod PathLetters
+pub mod Paths
+pub mod Pigeons
+pub mod Places
+pub mod SameInputs
+pub mod SomeRun

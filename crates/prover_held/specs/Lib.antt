@@ -1,0 +1,4 @@
+pub mod Choices
+pub mod Held
+pub mod Judged
+pub mod Lasting
