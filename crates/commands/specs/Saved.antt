@@ -47,6 +47,7 @@ abbrev pub files_of_finding : Wanted → ℕ → Finding → Option Recorded →
 files_of_finding wanted number (findings.Proved certificate) recorded = certificate_files wanted.cert number (cert_text Two certificate)
 files_of_finding wanted number (findings.ProvedReach certificate) recorded = certificate_files wanted.cert number (inductive_text certificate)
 files_of_finding wanted number (findings.Violated run) recorded = recorded_files wanted.vcd number recorded
+files_of_finding wanted number (findings.Held path end) recorded = recorded_files wanted.vcd number recorded
 files_of_finding wanted number (findings.Depth paths) recorded = []
 files_of_finding wanted number (findings.DepthReach paths ends) recorded = []
 files_of_finding wanted number (findings.Steps query log) recorded = []

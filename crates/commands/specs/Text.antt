@@ -136,6 +136,13 @@ abbrev pub run_text : List Name → Run → List ℕ
 run_text columns run =
     lengths_line run ++ valuation_lines (codes "stem") columns 0 run.stem ++ valuation_lines (codes "loop") columns 0 run.loop_part
 
+-- a path behind which the inputs are held: how long it is, and then its valuations
+abbrev pub held_line : List (List Bool) → List ℕ
+held_line path = codes "violated stem " ++ decimal (length path) ++ (codes " held" ++ line_feed)
+
+abbrev pub held_text : List Name → List (List Bool) → List ℕ
+held_text columns path = held_line path ++ valuation_lines (codes "stem") columns 0 path
+
 -- how many lemmas the solver learned
 abbrev pub steps_line : ℕ → List ℕ
 steps_line steps = codes "undecided steps " ++ decimal steps ++ line_feed
@@ -151,6 +158,7 @@ finding_text columns depth visits (findings.Proved certificate) =
 finding_text columns depth visits (findings.ProvedReach certificate) =
     codes "proved visits " ++ decimal certificate.visits ++ codes " clauses " ++ decimal (length certificate.clauses) ++ line_feed
 finding_text columns depth visits (findings.Violated run) = run_text columns run
+finding_text columns depth visits (findings.Held path end) = held_text columns path
 finding_text columns depth visits (findings.Depth paths) = depth_line depth visits
 finding_text columns depth visits (findings.DepthReach paths ends) = depth_line depth visits
 finding_text columns depth visits (findings.Steps query log) = steps_line (lemmas log)

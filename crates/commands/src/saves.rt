@@ -60,7 +60,7 @@ fn add_evidence(
         Finding::ProvedReach(certificate) => {
             add_inductive(alloc, saves, evidence.cert, entry.number, certificate)
         }
-        Finding::Violated(_) => {
+        Finding::Violated(_) | Finding::Held(_, _) => {
             add_recorded(alloc, saves, evidence.vcd, entry.number, &entry.recorded)
         }
         Finding::Depth(_)

@@ -1,13 +1,13 @@
 // What is printed of findings.
 ghost use Rattle.std.specs.Prelude.{◌≡◌, ◌++◌, ◌<◌, length, All, OnOk};
 ghost use Rattle.std.specs.List.{flat_map};
-ghost use Rattle.commands.specs.Text.{depth_line, digit, entry_text, finding_text, judged_lines, lengths_line, recorded_lines, run_text, steps_line, valuation_line, valuation_lines, value_part};
+ghost use Rattle.commands.specs.Text.{depth_line, digit, entry_text, finding_text, held_line, held_text, judged_lines, lengths_line, recorded_lines, run_text, steps_line, valuation_line, valuation_lines, value_part};
 ghost use Rattle.findings.specs.Columns.{HasColumns, ShowColumns, ShowsColumns};
 ghost use Rattle.netlist.specs.Valuations.{bit};
 
 use crate::report::{add_answers, add_head};
 use findings::{FindingEntry, Recorded};
-use netlist::Run;
+use netlist::{Run, Valuations};
 use prover::Finding;
 use psl_base::{Bits, NoMemory, Text, add_bytes, add_number};
 use psl_tree::{Kind, Name};
@@ -67,6 +67,7 @@ impl<'a> Shown<'a> {
                 add_bytes(text, b"\n")
             }
             Finding::Violated(run) => self.add_run(text, run),
+            Finding::Held(path, _) => self.add_held(text, path),
             Finding::Depth(_) | Finding::DepthReach(_, _) => self.add_depth(text),
             Finding::Steps(_, log) => add_steps(text, log.lemmas() as u64),
             Finding::LogFull(_, _) => add_bytes(text, b"undecided log\n"),
@@ -94,6 +95,15 @@ impl<'a> Shown<'a> {
         add_lengths(text, run)?;
         self.add_valuations(text, b"stem", run.stem.as_slice())?;
         self.add_valuations(text, b"loop", run.loop_part.as_slice())
+    }
+
+    /// Adds how long a path is behind which the inputs are held, and the lines of its valuations.
+    fn add_held(self, text: &mut Vec<u8>, path: &Valuations) -> Result<(), NoMemory>
+        requires { All (HasColumns self.columns.now) path.now }
+        ensures { OnOk result (text.new.items ≡ text.old.items ++ held_text self.entry.columns.now path.now) }
+    {
+        add_held_length(text, path)?;
+        self.add_valuations(text, b"stem", path.as_slice())
     }
 
     /// Adds the lines of the valuations of a part of a run.
@@ -155,6 +165,15 @@ fn add_lengths(text: &mut Vec<u8>, run: &Run) -> Result<(), NoMemory>
     add_bytes(text, b" loop ")?;
     add_number(text, run.loop_part.len() as u64)?;
     add_bytes(text, b"\n")
+}
+
+/// Adds the line that says how long a path is behind which the inputs are held.
+fn add_held_length(text: &mut Vec<u8>, path: &Valuations) -> Result<(), NoMemory>
+    ensures { OnOk result (text.new.items ≡ text.old.items ++ held_line path.now) }
+{
+    add_bytes(text, b"violated stem ")?;
+    add_number(text, path.len() as u64)?;
+    add_bytes(text, b" held\n")
 }
 
 /// Adds the line that says how many lemmas the solver learned.

@@ -64,10 +64,11 @@ pub fn run<F: Shelf, O: Sink, E: Sink>(
     ensures command { IsOfCommand (map string_bytes words.now) result.outcome }
 
     // The verdicts are satisfaction of the sampled word in the three views, the lines what the directives mean, and each
-    // finding has its evidence: a shortest run that violates what is owed; or a certificate, of a window or of clauses, and
-    // all runs satisfy it; or the limit that was met, and no run that was looked for violates it, with how each search for
-    // clauses ended where they are sought. What is answered to a certificate is its first refusal, or that it has none, and
-    // then all runs satisfy what is owed.
+    // finding has its evidence: a shortest run that violates what is owed; or a path such that each run which begins with it
+    // and then holds its inputs violates it, with how the search for a run whose loop closes ended; or a certificate, of a
+    // window or of clauses, and all runs satisfy it; or the limit that was met, and no run that was looked for violates it,
+    // with how each search for clauses ended where they are sought. What is answered to a certificate is its first refusal,
+    // or that it has none, and then all runs satisfy what is owed.
     ensures outcome { OfTold (F.state files.old) (λ told. IsOutcomeOf (map string_bytes words.now) told result.outcome) }
 
     // Without a fault something was found out, and with one nothing, unless it is of writing.

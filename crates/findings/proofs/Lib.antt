@@ -1,3 +1,4 @@
+pub mod Beginnings
 pub mod Certified
 pub mod Clausal
 pub mod Entries
@@ -5,5 +6,6 @@ pub mod Faults
 pub mod FirstNames
 pub mod JointSizes
 pub mod Numbers
+mod Paths
 pub mod Recordable
 pub mod Shown

@@ -1,13 +1,14 @@
 -- A run that is found can be recorded, and its trace be judged.
-use Rattle.std.proofs.Common.{◌≡◌, sym, subst, ℕ, ◌+◌, ◌*◌, ◌<◌, ◌≤◌, List, [], ◌∷◌, length, Option, None, Some, inr, arith}
+use Rattle.std.proofs.Common.{◌≡◌, sym, subst, ℕ, Bool, ◌+◌, ◌*◌, ◌<◌, ◌≤◌, List, [], ◌∷◌, length, Option, None, Some, inr, arith}
 use Rattle.std.specs.Prelude.{All, slice_index_or}
 use Rattle.std.proofs.lemmas.List.Elements.{All-cons, All-nil}
 use Rattle.std.proofs.lemmas.Nat.{mul-le}
 use Rattle.alternating.specs.Limits.{HasLargeSequence}
+use Rattle.netlist.proofs.Walking.{run-made}
 use Rattle.netlist.specs.Design.{Design}
 use Rattle.netlist.specs.declared.run.Run.{Run}
 use Rattle.owed.specs.Owed.{assumptions, conjunction, under}
-use Rattle.prover.specs.Findings.{IsFinding, IsShortest}
+use Rattle.prover.specs.Findings.{IsFinding, IsHeldPath, IsShortest}
 use Rattle.prover.specs.Tasks.{IsProvable}
 use Rattle.prover.specs.declared.finding.Finding.{Finding}
 use Rattle.prover.specs.declared.finding.Finding.TheVariants as findings
@@ -19,7 +20,8 @@ use Rattle.psl_tree.specs.declared.counts.TheConstants.{MOST_CONSTRUCTORS, MOST_
 use Rattle.psl_tree.specs.declared.directive.Directive.{Directive}
 use Rattle.vcd_reader.specs.Rules.{sample_limit}
 use Rattle.wave_judge.specs.Faults.{IsJudgeable}
-use Rattle.findings.specs.Recordings.{CanRecord, IsRunRecordable, Recordable}
+use Rattle.findings.proofs.Paths.{along-made}
+use Rattle.findings.specs.Recordings.{along, unlooped, CanRecord, IsRunRecordable, Recordable}
 use Rattle.findings.specs.Traceable.{AreTraceable, IsTraceable}
 
 -- a formula that is small enough under assumptions is so alone
@@ -57,7 +59,7 @@ can-record task loops run provable depth traceable shortest =
     let short : length run.stem + length run.loop_part ≤ 1000 = omega (arith, depth, shortest.within) in
     record {
       readable = record {
-        is = shortest.is.is;
+        is = run-made task.netlist.now run shortest.is.is;
         words = traceable.traces.words;
         signals = traceable.traces.signals;
         samples = few-samples (length run.stem) (length run.loop_part) loops short traceable.few;
@@ -73,10 +75,35 @@ run-recordable : (task : Task) (wanted : Option (List ℕ × ℕ)) (run : Run) �
 run-recordable task None run provable depth traceable shortest = tt
 run-recordable task (Some (prefix, loops)) run provable depth traceable shortest = can-record task loops run provable depth traceable shortest
 
+-- a path, which is short, is recorded without a loop
+can-record-path : (task : Task) (loops : ℕ) (path : List (List Bool)) → IsProvable task → task.options.depth ≤ 1000
+    → IsTraceable task.netlist.now (task.assertion.now ∷ []) loops
+    → IsHeldPath task.netlist.now task.unit.now task.assertion.now task.options.depth path → CanRecord task 0 (along path)
+can-record-path task loops path provable depth traceable held = record {
+  readable = record {
+    is = along-made task.netlist.now path held.is;
+    words = traceable.traces.words;
+    signals = traceable.traces.signals;
+    samples = omega (arith, depth, held.within);
+  };
+  in_range = provable.assertion;
+  small = traceable.small 0 task.assertion.now (omega arith);
+  judgeable = can-judge task provable;
+}
+
+path-recordable : (task : Task) (wanted : Option (List ℕ × ℕ)) (path : List (List Bool)) → IsProvable task → task.options.depth ≤ 1000
+    → AreTraceable task.netlist.now (task.assertion.now ∷ []) wanted
+    → IsHeldPath task.netlist.now task.unit.now task.assertion.now task.options.depth path
+    → IsRunRecordable task (unlooped wanted) (along path)
+path-recordable task None path provable depth traceable held = tt
+path-recordable task (Some (prefix, loops)) path provable depth traceable held = can-record-path task loops path provable depth traceable held
+
 pub recordable : (task : Task) (wanted : Option (List ℕ × ℕ)) (finding : Finding) → IsProvable task → task.options.depth ≤ 1000
     → AreTraceable task.netlist.now (task.assertion.now ∷ []) wanted
     → IsFinding task.netlist.now task.unit.now task.assertion.now task.options finding → Recordable task wanted finding
 recordable task wanted (findings.Violated run) provable depth traceable is = run-recordable task wanted run provable depth traceable is
+recordable task wanted (findings.Held path end) provable depth traceable is =
+    (is.path_is.is.some, path-recordable task wanted path provable depth traceable is.path_is)
 recordable task wanted (findings.Proved _) provable depth traceable is = tt
 recordable task wanted (findings.ProvedReach _) provable depth traceable is = tt
 recordable task wanted (findings.Depth _) provable depth traceable is = tt

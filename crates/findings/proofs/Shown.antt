@@ -19,6 +19,7 @@ use Rattle.prover.specs.declared.options.Options.{Options}
 use Rattle.psl_tree.specs.Names.{first_name}
 use Rattle.psl_tree.specs.declared.directive.Directive.{Directive}
 use Rattle.psl_tree.specs.declared.name.Name.{Name}
+use Rattle.findings.proofs.Paths.{path-valuations}
 use Rattle.findings.specs.Assertions.{assertions}
 use Rattle.findings.specs.Columns.{AreColumns, HasColumns, ShowColumns, ShowsColumns}
 use Rattle.findings.specs.Entries.{AreEntries, AreFindings}
@@ -56,6 +57,8 @@ module _ (design : Design) (unit : List Directive) (options : Options) (wanted :
 
   finding-shows : (assertion : Directive) (finding : Finding) → IsFinding design unit assertion options finding → ShowsColumns columns finding
   finding-shows assertion (findings.Violated run) is = run-has run is.is.is
+  finding-shows assertion (findings.Held path end) is =
+      λ place other lt. has-columns (get_or path place other) (path-valuations design path is.path_is.is place other lt)
   finding-shows assertion (findings.Proved _) is = tt
   finding-shows assertion (findings.ProvedReach _) is = tt
   finding-shows assertion (findings.Depth _) is = tt

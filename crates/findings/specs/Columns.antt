@@ -18,6 +18,7 @@ HasColumns columns valuation = All (λ column. column.signal < length valuation)
 -- each valuation of a run that is shown has one
 abbrev pub ShowsColumns : List Name → Finding → Type 0
 ShowsColumns columns (findings.Violated run) = All (HasColumns columns) run.stem × All (HasColumns columns) run.loop_part
+ShowsColumns columns (findings.Held path end) = All (HasColumns columns) path
 ShowsColumns columns (findings.Proved certificate) = Unit {0}
 ShowsColumns columns (findings.ProvedReach certificate) = Unit {0}
 ShowsColumns columns (findings.Depth paths) = Unit {0}

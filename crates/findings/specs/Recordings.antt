@@ -1,5 +1,5 @@
 -- The recordings of runs that violate assertions.
-use Rattle.std.specs.Prelude.{◌≡◌, ◌<◌, ◌≤◌, ℕ, List, ◌++◌, length, Option, None, Some, codes, decimal, option_map}
+use Rattle.std.specs.Prelude.{◌≡◌, ◌<◌, ◌≤◌, ℕ, Bool, List, [], ◌∷◌, ◌++◌, length, Option, None, Some, codes, decimal, option_map}
 use Rattle.findings.specs.declared.recording.Recorded.{Recorded}
 use Rattle.findings.specs.declared.recording.Recorded.TheVariants.{Judged, TooLong}
 use Rattle.findings.specs.declared.recording.Recordings.{Recordings}
@@ -8,6 +8,7 @@ use Rattle.netlist.specs.declared.run.Run.{Run}
 use Rattle.prover.specs.declared.finding.Finding.{Finding}
 use Rattle.prover.specs.declared.finding.Finding.TheVariants as findings
 use Rattle.prover.specs.declared.task.Task.{Task}
+use Rattle.prover_held.specs.Held.{last_of}
 use Rattle.psl_base.specs.Places.{file_limit}
 use Rattle.psl_tree.specs.Atoms.{AtomsOfFormula}
 use Rattle.psl_tree.specs.Counts.{formula_size}
@@ -41,9 +42,22 @@ IsRunRecorded design assertion None run recorded = recorded ≡ None
 IsRunRecorded design assertion (Some wanted) run None = ⊥
 IsRunRecorded design assertion (Some wanted) run (Some recorded) = IsRecordedRun design assertion wanted run recorded
 
--- what is recorded of a finding: something just where it is a run and recordings are wanted
+-- A path as the stem of a run, and its last valuation as the loop. A trace in which that loop is written no time has
+-- exactly the valuations of the path, and the verdict on it is that on their letters, which each run that begins with the
+-- path has.
+abbrev pub along : List (List Bool) → Run
+along path = record { stem = path; loop_part = last_of path ∷ [] }
+
+-- the same names of recordings, in which no loop is written
+abbrev pub unlooped : Option (List ℕ × ℕ) → Option (List ℕ × ℕ)
+unlooped wanted = option_map (λ (names : List ℕ × ℕ). (names.0, 0)) wanted
+
+-- what is recorded of a finding: something just where it is a run and recordings are wanted; of a run that holds its inputs
+-- just the valuations of the finding, however often a loop is to be written
 abbrev pub IsRecorded : Design → Directive → Option (List ℕ × ℕ) → Finding → Option Recorded → Type 0
 IsRecorded design assertion wanted (findings.Violated run) recorded = IsRunRecorded design assertion wanted run recorded
+IsRecorded design assertion wanted (findings.Held path end) recorded =
+    IsRunRecorded design assertion (unlooped wanted) (along path) recorded
 IsRecorded design assertion wanted (findings.Proved certificate) recorded = recorded ≡ None
 IsRecorded design assertion wanted (findings.ProvedReach certificate) recorded = recorded ≡ None
 IsRecorded design assertion wanted (findings.Depth paths) recorded = recorded ≡ None
@@ -66,6 +80,7 @@ IsRunRecordable task (Some (prefix, loops)) run = CanRecord task loops run
 
 abbrev pub Recordable : Task → Option (List ℕ × ℕ) → Finding → Type 0
 Recordable task wanted (findings.Violated run) = IsRunRecordable task wanted run
+Recordable task wanted (findings.Held path end) = (0 < length path) × IsRunRecordable task (unlooped wanted) (along path)
 Recordable task wanted (findings.Proved certificate) = Unit {0}
 Recordable task wanted (findings.ProvedReach certificate) = Unit {0}
 Recordable task wanted (findings.Depth paths) = Unit {0}

@@ -10,7 +10,7 @@ mod recording;
 mod sizes;
 
 pub use entry::{FindingEntry, Findings};
-pub use laws::passed_law;
+pub use laws::{held_letters_law, passed_law};
 pub use names::columns;
 pub use proving::prove_all;
 pub use recording::{Recorded, Recordings};

@@ -1,9 +1,9 @@
-ghost use Rattle.std.specs.Prelude.{◌≡◌, IfOk};
-ghost use Rattle.findings.specs.Recordings.{CanRecord, IsRecorded, IsRecordedRun, Recordable, recording_name, wanted_of};
+ghost use Rattle.std.specs.Prelude.{◌≡◌, ◌<◌, length, IfOk};
+ghost use Rattle.findings.specs.Recordings.{along, CanRecord, IsRecorded, IsRecordedRun, Recordable, recording_name, wanted_of};
 
-use netlist::Run;
+use netlist::{Run, Valuations};
 use prover::{Finding, Task};
-use psl_base::{Bytes, FILE_LIMIT, NoMemory, Text, add_bytes, add_number};
+use psl_base::{Bits, Bytes, FILE_LIMIT, NoMemory, Text, add_bytes, add_number};
 use std::alloc::Global;
 use trace_judge::{JudgedTrace, Traced, judge_trace};
 use wave_judge::Verdict;
@@ -17,7 +17,7 @@ pub struct Recordings<'a> {
     pub loops: u32,
 }
 
-/// The recording of a run that violates an assertion.
+/// The recording of a run that violates an assertion, or of its first valuations where it holds its inputs behind them.
 #[derive(Debug, Drop)]
 pub enum Recorded {
     /// The name of its file; how many samples it has; what it says of the assertion alone, without what the text assumes;
@@ -32,7 +32,8 @@ pub enum Recorded {
     TooLong,
 }
 
-/// The recording of a finding, where that is a run and recordings are wanted.
+/// The recording of a finding, where that is a run and recordings are wanted. Of a run that holds its inputs the valuations
+/// of the finding are recorded, and no loop.
 pub(crate) fn recorded_of(
     alloc: Global,
     task: Task<'_>,
@@ -48,6 +49,14 @@ pub(crate) fn recorded_of(
     match finding {
         Finding::Violated(run) => {
             let recorded = recording_of(alloc, task, recordings, run)?;
+            Ok(Some(recorded))
+        }
+        Finding::Held(path, _) => {
+            let unlooped = Recordings {
+                prefix: recordings.prefix,
+                loops: 0,
+            };
+            let recorded = recording_of(alloc, task, unlooped, &along(alloc, path)?)?;
             Ok(Some(recorded))
         }
         Finding::Proved(_)
@@ -91,6 +100,28 @@ fn recording_of(
         }
         None => Ok(Recorded::TooLong),
     }
+}
+
+/// A path as the stem of a run, and its last valuation as the loop.
+fn along(alloc: Global, path: &Valuations) -> Result<Run, NoMemory>
+    requires { 0 < length path.now }
+    ensures { IfOk result (λ run. run ≡ along path.now) }
+{
+    let valuations = path.as_slice();
+    Ok(Run {
+        stem: copied(alloc, valuations)?,
+        loop_part: copied(alloc, &valuations[valuations.len() - 1..])?,
+    })
+}
+
+fn copied(alloc: Global, valuations: &[Bits]) -> Result<Valuations, NoMemory>
+    ensures { IfOk result (λ new. new ≡ valuations.now) }
+{
+    let mut copies = Valuations::new(alloc);
+    for valuation in valuations {
+        copies.push(valuation.copy(alloc)?)?;
+    }
+    Ok(copies)
 }
 
 /// The name of the file of a recording.

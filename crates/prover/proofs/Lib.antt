@@ -1,4 +1,5 @@
 pub mod Evidence
+pub mod HeldPaths
 pub mod Kept
 pub mod Opened
 pub mod Reached

@@ -26,10 +26,10 @@ use Rattle.prover.specs.Violating.{NoneBelow, Violates}
 use mathlib.Core.Path.{fun_ext}
 
 -- the values of two places, behind those of two others
-record Alike (first : Bits) (here : ℕ) (second : Bits) (there : ℕ) : Type 0 where
-  later : nat_lt 0 here ≡ nat_lt 0 there
-  now : first here ≡ second there
-  before : first (here - 1) ≡ second (there - 1)
+pub record Alike (first : Bits) (here : ℕ) (second : Bits) (there : ℕ) : Type 0 where
+  pub later : nat_lt 0 here ≡ nat_lt 0 there
+  pub now : first here ≡ second there
+  pub before : first (here - 1) ≡ second (there - 1)
 
 edge-alike : (first second : Bits) (here there : ℕ) → Alike first here second there → (edge : Edge) (signal place : ℕ)
     → edge_at edge first here signal place ≡ edge_at edge second there signal place
@@ -43,13 +43,13 @@ edge-alike first second here there same Fall signal place =
     ∙ ap (λ (f : ℕ → ℕ → Truth). nat_lt 0 there && (f signal place && not (first here signal place))) same.before
     ∙ ap (λ (f : ℕ → ℕ → Truth). nat_lt 0 there && (second (there - 1) signal place && not (f signal place))) same.now
 
-letter-alike : (design : Design) (first second : Run) (here there : ℕ) → Alike (bits_of first) here (bits_of second) there
+pub letter-alike : (design : Design) (first second : Run) (here there : ℕ) → Alike (bits_of first) here (bits_of second) there
     → letter_at (bits_of first) design.names here ≡ letter_at (bits_of second) design.names there
 letter-alike design first second here there same =
     ap (λ (test : Atom → Truth). Holds (filter test (atoms_of design.names)))
     (fun_ext (λ atom. edge-alike (bits_of first) (bits_of second) here there same atom.edge atom.signal atom.bit))
 
-bits-alike : (first second : Run) (here there : ℕ) → valuation_at first here ≡ valuation_at second there
+pub bits-alike : (first second : Run) (here there : ℕ) → valuation_at first here ≡ valuation_at second there
     → bits_of first here ≡ bits_of second there
 bits-alike first second here there same =
     ap (λ (valuation : List Truth). λ (signal : ℕ) (_ : ℕ). bit valuation signal) same
@@ -59,7 +59,7 @@ abbrev place-at : ℕ → ℕ → ℕ → ℕ
 place-at stem looped moment = if nat_lt moment (suc stem) then moment else suc stem + (moment - suc stem) % looped
 
 -- the letter of a place
-abbrev letter-of : Design → Run → ℕ → Letter
+abbrev pub letter-of : Design → Run → ℕ → Letter
 letter-of design run place = letter_at (bits_of run) design.names place
 
 got : (design : Design) (run : Run) (first count place : ℕ) → place < count
@@ -69,7 +69,7 @@ got design run first count place within =
     (subst (λ (n : ℕ). place < n) (sym (length-map-range_with_len (letter-of design run) first count)) within)
     ∙ ap Some (get_or-map-range_with_len (letter-of design run) first count place (first + place) (letter-of design run 0) within refl)
 
-in-stem : (design : Design) (run : Run) (moment : ℕ) → moment < suc (length run.stem)
+pub in-stem : (design : Design) (run : Run) (moment : ℕ) → moment < suc (length run.stem)
     → trace_of (word design run) moment ≡ Some (letter-of design run moment)
 in-stem design run moment within =
     let many = length-map-range_with_len (letter-of design run) 0 (suc (length run.stem)) in

@@ -1,21 +1,26 @@
 -- What each finding says, and by which evidence.
-use Rattle.std.specs.Prelude.{◌≡◌, ◌≤◌, ℕ, suc, Bool as Truth, true, false, List}
+use Rattle.std.specs.Prelude.{◌≡◌, ◌≤◌, ℕ, suc, Bool as Truth, true, false, List, length}
 use Rattle.cdcl.specs.Answers.{IsSpent, IsFull}
 use Rattle.clauses.specs.declared.cnf.Cnf.{Cnf}
+use Rattle.gates_frames.specs.Paths.{IsPath}
 use Rattle.gates_theory.specs.Sizes.{IsTooLarge}
 use Rattle.netlist.specs.Design.{Design}
 use Rattle.netlist.specs.declared.run.Run.{Run}
 use Rattle.psl_tree.specs.declared.directive.Directive.{Directive}
 use Rattle.bounded_theory.specs.Found.{run_size}
+use Rattle.prover_held.specs.Held.{IsHeldRun}
 use Rattle.reach.specs.declared.answer.Reached.{Reached}
 use Rattle.prover.specs.Ends.{AreEnds}
 use Rattle.prover.specs.Proving.{IsProved, IsProvedReach}
-use Rattle.prover.specs.Queries.{ComesUp, IsFormulaOf, clauses_of, variables_of}
+use Rattle.prover.specs.Queries.{ComesUp, IsFormulaOf, IsTried, clauses_of, variables_of}
 use Rattle.prover.specs.Violating.{NoneBelow, Violates}
 use Rattle.prover.specs.Windows.{AreOpenPaths}
 use Rattle.prover.specs.declared.finding.Finding.{Finding}
 use Rattle.prover.specs.declared.finding.Finding.TheVariants as findings
 use Rattle.prover.specs.declared.finding.OpenPath.{OpenPath}
+use Rattle.prover.specs.declared.finding.Query.TheVariants.{Search}
+use Rattle.prover.specs.declared.finding.SearchEnd.{SearchEnd}
+use Rattle.prover.specs.declared.finding.SearchEnd.TheVariants as ends
 use Rattle.prover.specs.declared.options.Options.{Options}
 
 -- a shortest run that violates what is owed, within the depth
@@ -39,6 +44,35 @@ pub record IsUndecidedReach (design : Design) (unit : List Directive) (assertion
   pub undecided : IsUndecided design unit assertion options paths
   pub each_end : AreEnds design unit assertion options (suc options.visits) ends
 
+-- A path from an initial valuation, within the depth, behind which the inputs are held: each run that begins with it and
+-- then holds them violates what is owed, and there is one.
+pub record IsHeldPath (design : Design) (unit : List Directive) (assertion : Directive) (depth : ℕ)
+    (path : List (List Truth)) : Type 0 where
+  pub is : IsPath design true path
+  pub within : length path ≤ depth
+  pub some : (run : Run) × IsHeldRun design path run
+  pub violates : (run : Run) → IsHeldRun design path run → Violates design unit assertion run
+
+-- How the search for a run whose loop closes ends that finds none: no run within the depth violates what is owed, or at
+-- some size, below which none does, the solver tells nothing.
+abbrev pub IsSearchEnd : Design → List Directive → Directive → Options → SearchEnd → Type 0
+IsSearchEnd design unit assertion options ends.Whole = NoneBelow design unit assertion (suc options.depth)
+IsSearchEnd design unit assertion options (ends.Steps size log) =
+    IsTried design unit assertion options size
+    × (formula : Cnf) × IsFormulaOf design unit assertion (Search size) formula × IsSpent formula options.steps log
+IsSearchEnd design unit assertion options (ends.LogFull size log) =
+    IsTried design unit assertion options size
+    × (formula : Cnf) × IsFormulaOf design unit assertion (Search size) formula × IsFull formula options.steps log
+IsSearchEnd design unit assertion options (ends.Large size) =
+    IsTried design unit assertion options size
+    × IsTooLarge (variables_of design unit assertion (Search size)) (clauses_of design unit assertion (Search size))
+
+-- a path behind which holding the inputs violates what is owed, and how the search for a run whose loop closes ends
+pub record IsHeld (design : Design) (unit : List Directive) (assertion : Directive) (options : Options)
+    (path : List (List Truth)) (end : SearchEnd) : Type 0 where
+  pub path_is : IsHeldPath design unit assertion options.depth path
+  pub search : IsSearchEnd design unit assertion options end
+
 -- a finding with its evidence
 abbrev pub IsFinding : Design → List Directive → Directive → Options → Finding → Type 0
 IsFinding design unit assertion options (findings.Proved certificate) =
@@ -46,6 +80,7 @@ IsFinding design unit assertion options (findings.Proved certificate) =
 IsFinding design unit assertion options (findings.ProvedReach certificate) =
     IsProvedReach design unit assertion options certificate
 IsFinding design unit assertion options (findings.Violated run) = IsShortest design unit assertion options.depth run
+IsFinding design unit assertion options (findings.Held path end) = IsHeld design unit assertion options path end
 IsFinding design unit assertion options (findings.Depth paths) =
     (options.reach ≡ false) × IsUndecided design unit assertion options paths
 IsFinding design unit assertion options (findings.DepthReach paths ends) =
@@ -65,6 +100,7 @@ abbrev pub is_proved : Finding → Truth
 is_proved (findings.Proved certificate) = true
 is_proved (findings.ProvedReach certificate) = true
 is_proved (findings.Violated run) = false
+is_proved (findings.Held path end) = false
 is_proved (findings.Depth paths) = false
 is_proved (findings.DepthReach paths ends) = false
 is_proved (findings.Steps query log) = false
@@ -75,6 +111,7 @@ abbrev pub is_violated : Finding → Truth
 is_violated (findings.Proved certificate) = false
 is_violated (findings.ProvedReach certificate) = false
 is_violated (findings.Violated run) = true
+is_violated (findings.Held path end) = true
 is_violated (findings.Depth paths) = false
 is_violated (findings.DepthReach paths ends) = false
 is_violated (findings.Steps query log) = false
@@ -85,6 +122,7 @@ abbrev pub is_undecided : Finding → Truth
 is_undecided (findings.Proved certificate) = false
 is_undecided (findings.ProvedReach certificate) = false
 is_undecided (findings.Violated run) = false
+is_undecided (findings.Held path end) = false
 is_undecided (findings.Depth paths) = true
 is_undecided (findings.DepthReach paths ends) = true
 is_undecided (findings.Steps query log) = true

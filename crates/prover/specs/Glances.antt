@@ -1,10 +1,23 @@
 -- What is told of the runs of one size, and how far a search has come.
 use Rattle.std.specs.Prelude.{◌≡◌, ◌≤◌, ℕ, suc}
+use Rattle.cdcl.specs.Answers.{IsSpent, IsFull}
+use Rattle.clauses.specs.declared.cnf.Cnf.{Cnf}
+use Rattle.gates_theory.specs.Sizes.{IsTooLarge}
 use Rattle.netlist.specs.declared.run.Run.{Run}
 use Rattle.bounded_theory.specs.Found.{run_size}
-use Rattle.prover.specs.Stops.{NoneBelowFor, ViolatesFor}
+use Rattle.prover.specs.Queries.{clauses_of, variables_of}
+use Rattle.prover.specs.Stops.{IsFormulaFor, NoneBelowFor, ViolatesFor}
+use Rattle.prover.specs.declared.finding.Finding.{Finding}
+use Rattle.prover.specs.declared.finding.Finding.TheVariants as findings
+use Rattle.prover.specs.declared.finding.Query.TheVariants.{Search}
+use Rattle.prover.specs.declared.finding.SearchEnd.{SearchEnd}
+use Rattle.prover.specs.declared.finding.SearchEnd.TheVariants as ends
 use Rattle.prover.specs.declared.glance.Glance.{Glance}
 use Rattle.prover.specs.declared.glance.Glance.TheVariants as glances
+use Rattle.prover.specs.declared.glance.Untold.{Untold}
+use Rattle.prover.specs.declared.glance.Untold.TheVariants as untolds
+use Rattle.prover.specs.declared.searching.Progress.{Progress}
+use Rattle.prover.specs.declared.searching.Progress.TheVariants as progress
 use Rattle.prover.specs.declared.searching.Searched.{Searched}
 use Rattle.prover.specs.declared.task.Task.{Task}
 
@@ -13,10 +26,32 @@ pub record IsOfSize (task : Task) (size : ℕ) (run : Run) : Type 0 where
   pub violates : ViolatesFor task run
   pub size_is : run_size run ≡ size
 
-abbrev pub IsGlance : Task → ℕ → Glance → Type 0
-IsGlance task size (glances.Violates run) = IsOfSize task size run
-IsGlance task size (glances.Holds lemmas) = NoneBelowFor task (suc size)
-IsGlance task size glances.Nothing = Unit {0}
+-- why nothing is told of a size with so many steps
+abbrev pub IsUntold : Task → ℕ → ℕ → Untold → Type 0
+IsUntold task size steps (untolds.Steps log) =
+    (formula : Cnf) × IsFormulaFor task (Search size) formula × IsSpent formula steps log
+IsUntold task size steps (untolds.LogFull log) =
+    (formula : Cnf) × IsFormulaFor task (Search size) formula × IsFull formula steps log
+IsUntold task size steps untolds.Large =
+    IsTooLarge (variables_of task.netlist.now task.unit.now task.assertion.now (Search size))
+    (clauses_of task.netlist.now task.unit.now task.assertion.now (Search size))
+
+-- what a look at a size with so many steps tells
+abbrev pub IsGlance : Task → ℕ → ℕ → Glance → Type 0
+IsGlance task size steps (glances.Violates run) = IsOfSize task size run
+IsGlance task size steps (glances.Holds lemmas) = NoneBelowFor task (suc size)
+IsGlance task size steps (glances.Nothing untold) = IsUntold task size steps untold
+
+-- what is found, or how a search ends, where nothing is told of a size
+abbrev pub finding_of : ℕ → Untold → Finding
+finding_of size (untolds.Steps log) = findings.Steps (Search size) log
+finding_of size (untolds.LogFull log) = findings.LogFull (Search size) log
+finding_of size untolds.Large = findings.Large (Search size)
+
+abbrev pub end_of : ℕ → Untold → SearchEnd
+end_of size (untolds.Steps log) = ends.Steps size log
+end_of size (untolds.LogFull log) = ends.LogFull size log
+end_of size untolds.Large = ends.Large size
 
 -- no run of at most so many valuations violates what is owed
 abbrev pub IsSearched : Task → Searched → Type 0
@@ -26,3 +61,8 @@ IsSearched task searched = NoneBelowFor task (suc searched.none_within)
 pub record IsSearchedTo (task : Task) (size : ℕ) (searched : Searched) : Type 0 where
   pub reaches : size ≤ searched.none_within
   pub none : IsSearched task searched
+
+-- how far it comes that goes on from a size: to that one at least, or nothing is told of it with all the steps
+abbrev pub IsProgress : Task → ℕ → Progress → Type 0
+IsProgress task size (progress.Reached searched) = IsSearchedTo task size searched
+IsProgress task size (progress.Nothing untold) = IsUntold task size task.options.steps untold

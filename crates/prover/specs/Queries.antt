@@ -33,6 +33,13 @@ pub record IsFormulaOf (design : Design) (unit : List Directive) (assertion : Di
   pub variables : formula.variables ≡ variables_of design unit assertion query
   pub clauses : formula.clauses ≡ clauses_of design unit assertion query
 
+-- a search for runs of a size within the depth, once no run of a smaller size violates what is owed
+pub record IsTried (design : Design) (unit : List Directive) (assertion : Directive) (options : Options)
+    (size : ℕ) : Type 0 where
+  pub some : 1 ≤ size
+  pub within : size ≤ options.depth
+  pub none_below : NoneBelow design unit assertion size
+
 -- a search that comes up within the depth: those before it were answered, so no shorter run violates what is owed, and
 -- no window before it was closed
 pub record IsSought (design : Design) (unit : List Directive) (assertion : Directive) (options : Options)

@@ -1,12 +1,12 @@
 -- What is asked and found, of a task; why a search ends at a query; and what the solver tells of its formula where it
 -- does not.
-use Rattle.std.specs.Prelude.{ℕ, List}
+use Rattle.std.specs.Prelude.{ℕ, Bool as Truth, List}
 use Rattle.cdcl.specs.Answers.{IsModelOf, IsRefutation}
 use Rattle.clauses.specs.declared.cnf.Cnf.{Cnf}
 use Rattle.clauses.specs.declared.flat.CnfFault.{CnfFault}
 use Rattle.clauses.specs.declared.flat.CnfFault.TheVariants as faults
-use Rattle.prover.specs.Findings.{IsFinding, IsUndecided}
-use Rattle.prover.specs.Queries.{ComesUp, IsFormulaOf, IsLookedAt, IsSought}
+use Rattle.prover.specs.Findings.{IsFinding, IsHeldPath, IsSearchEnd, IsUndecided}
+use Rattle.prover.specs.Queries.{ComesUp, IsFormulaOf, IsLookedAt, IsSought, IsTried}
 use Rattle.prover.specs.Violating.{NoneBelow, Violates}
 use Rattle.prover.specs.Windows.{StaysOpen}
 use Rattle.prover.specs.declared.answering.Solved.{Solved}
@@ -15,6 +15,7 @@ use Rattle.prover.specs.declared.finding.Finding.{Finding}
 use Rattle.prover.specs.declared.finding.Finding.TheVariants.{Large}
 use Rattle.prover.specs.declared.finding.OpenPath.{OpenPath}
 use Rattle.prover.specs.declared.finding.Query.{Query}
+use Rattle.prover.specs.declared.finding.SearchEnd.{SearchEnd}
 use Rattle.prover.specs.declared.stop.Stop.{Stop}
 use Rattle.prover.specs.declared.stop.Stop.TheVariants as stops
 use Rattle.prover.specs.declared.task.Task.{Task}
@@ -28,6 +29,15 @@ ComesUpFor task query = ComesUp task.netlist.now task.unit.now task.assertion.no
 
 abbrev pub IsSoughtFor : Task → ℕ → Type 0
 IsSoughtFor task size = IsSought task.netlist.now task.unit.now task.assertion.now task.options size
+
+abbrev pub IsTriedFor : Task → ℕ → Type 0
+IsTriedFor task size = IsTried task.netlist.now task.unit.now task.assertion.now task.options size
+
+abbrev pub IsHeldPathFor : Task → List (List Truth) → Type 0
+IsHeldPathFor task path = IsHeldPath task.netlist.now task.unit.now task.assertion.now task.options.depth path
+
+abbrev pub IsSearchEndFor : Task → SearchEnd → Type 0
+IsSearchEndFor task end = IsSearchEnd task.netlist.now task.unit.now task.assertion.now task.options end
 
 abbrev pub IsLookedAtFor : Task → ℕ → ℕ → Type 0
 IsLookedAtFor task visits window =

@@ -4,7 +4,7 @@ ghost use Rattle.prover.specs.Findings as spec;
 use cert_theory::{Certificate, InductiveCert};
 use clauses::Log;
 use joint_theory::JointPath;
-use netlist::Run;
+use netlist::{Run, Valuations};
 use psl_base::Items;
 use reach::Reached;
 
@@ -37,6 +37,19 @@ pub type OpenPaths = Items<OpenPath>;
 /// How the searches for inductive clauses end, for each number of visits from 0 on.
 pub type ReachEnds = Items<Reached>;
 
+/// How the search for a run whose loop closes ends, once a run that holds its inputs was found.
+#[derive(Debug, Drop)]
+pub enum SearchEnd {
+    /// No run of at most as many valuations as the depth violates what is owed.
+    Whole,
+    /// The steps were spent on the search for a run of so many valuations; the log has as many lemmas.
+    Steps(u32, Log),
+    /// The log of that search is full.
+    LogFull(u32, Log),
+    /// Its formula is too large.
+    Large(u32),
+}
+
 /// What is found out about an assertion.
 #[derive(Debug, Drop)]
 pub enum Finding {
@@ -46,6 +59,9 @@ pub enum Finding {
     ProvedReach(InductiveCert),
     /// A run violates what is owed, and no shorter one does.
     Violated(Run),
+    /// The run that begins with this path and then holds its inputs violates what is owed. No run whose loop closes
+    /// within the depth is found that does, and so the search for one ends.
+    Held(Valuations, SearchEnd),
     /// No run of at most as many valuations as the depth violates what is owed. For each number of visits, from 0 on, a
     /// joint path is open at the window of that depth.
     Depth(OpenPaths),
@@ -72,7 +88,7 @@ impl Finding {
     pub fn is_violated(&self) -> bool
         ensures { result ≡ spec.is_violated self.now }
     {
-        matches!(self, Finding::Violated(_))
+        matches!(self, Finding::Violated(_) | Finding::Held(_, _))
     }
 
     /// Whether it says neither.

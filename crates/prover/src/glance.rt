@@ -1,12 +1,13 @@
 // A look at the runs of one size, which may tell nothing.
-ghost use Rattle.std.specs.Prelude.{IfOk};
+ghost use Rattle.std.specs.Prelude.{◌≡◌, IfOk};
 ghost use Rattle.prover.specs.Claims.{IsReady};
-ghost use Rattle.prover.specs.Glances.{IsGlance};
+ghost use Rattle.prover.specs.Glances.{end_of, finding_of, IsGlance};
 
 use crate::context::Prover;
+use crate::finding::{Finding, Query, SearchEnd};
 use bounded::{read_run, search_formula};
 use cdcl::{Answer, solve};
-use clauses::CnfFault;
+use clauses::{CnfFault, Log};
 use netlist::Run;
 use psl_base::NoMemory;
 use std::alloc::Global;
@@ -18,20 +19,56 @@ pub(crate) enum Glance {
     Violates(Run),
     /// None does, and none that is shorter; so many lemmas show it.
     Holds(u64),
-    /// Nothing: the steps were spent, the log was full, or the formula is too large.
-    Nothing,
+    /// Nothing.
+    Nothing(Untold),
+}
+
+/// Why nothing is told of the runs of a size.
+#[derive(Debug, Drop)]
+pub(crate) enum Untold {
+    /// The steps were spent; the log has as many lemmas.
+    Steps(Log),
+    /// The log is full.
+    LogFull(Log),
+    /// The formula is too large.
+    Large,
+}
+
+impl Untold {
+    /// What is found, where nothing is told of runs of so many valuations.
+    pub fn finding(self, size: u32) -> Finding
+        ensures { result ≡ finding_of size self }
+    {
+        let query = Query::Search(size);
+        match self {
+            Untold::Steps(log) => Finding::Steps(query, log),
+            Untold::LogFull(log) => Finding::LogFull(query, log),
+            Untold::Large => Finding::Large(query),
+        }
+    }
+
+    /// How a search ends with that.
+    pub fn end(self, size: u32) -> SearchEnd
+        ensures { result ≡ end_of size self }
+    {
+        match self {
+            Untold::Steps(log) => SearchEnd::Steps(size, log),
+            Untold::LogFull(log) => SearchEnd::LogFull(size, log),
+            Untold::Large => SearchEnd::Large(size),
+        }
+    }
 }
 
 impl Prover<'_> {
     /// Looks at the runs of so many valuations, with so many lemmas at most.
     pub fn glance(self, alloc: Global, size: u32, steps: u64) -> Result<Glance, NoMemory>
         requires ready { IsReady self }
-        ensures { IfOk result (IsGlance self.entry.task size) }
+        ensures { IfOk result (IsGlance self.entry.task size steps) }
     {
         let netlist = self.task.netlist;
         let formula = match search_formula(alloc, netlist, &self.claim.violation, size) {
             Ok(formula) => formula,
-            Err(CnfFault::TooLarge) => return Ok(Glance::Nothing),
+            Err(CnfFault::TooLarge) => return Ok(Glance::Nothing(Untold::Large)),
             Err(CnfFault::NoMemory) => return Err(NoMemory),
         };
         match solve(alloc, &formula, steps)? {
@@ -40,7 +77,8 @@ impl Prover<'_> {
                 Ok(Glance::Violates(run))
             }
             Answer::Refuted(log) => Ok(Glance::Holds(log.lemmas() as u64)),
-            Answer::Spent(_) | Answer::LogFull(_) => Ok(Glance::Nothing),
+            Answer::Spent(log) => Ok(Glance::Nothing(Untold::Steps(log))),
+            Answer::LogFull(log) => Ok(Glance::Nothing(Untold::LogFull(log))),
         }
     }
 }

@@ -7,6 +7,7 @@ mod closing;
 mod context;
 mod finding;
 mod glance;
+mod holding;
 mod keeping;
 mod options;
 mod proving;
@@ -15,7 +16,7 @@ mod searching;
 mod stop;
 mod task;
 
-pub use finding::{Finding, OpenPath, OpenPaths, Query, ReachEnds};
+pub use finding::{Finding, OpenPath, OpenPaths, Query, ReachEnds, SearchEnd};
 pub use options::Options;
 pub use proving::prove;
 pub use task::Task;

@@ -12,15 +12,18 @@ use crate::reaching::{Reaching, budget_at};
 use crate::searching::Searched;
 use crate::stop::Stop;
 use crate::task::Task;
+use prover_bmc::Prefixes;
 use psl_base::NoMemory;
 use std::alloc::Global;
 
 /// Seeks a proof that each run of the netlist satisfies what is owed, and a run that does not. For each number from 1
-/// to the depth it looks for a run of so many valuations that does not, and for longer ones ahead of it; then, for each
-/// number of visits, for a joint path that is open at that window. The first number of visits for which none is proves
-/// the assertion (Sheeran, Singh and Stalmarck, Checking safety properties using induction and a SAT-solver). Where the
-/// options ask for it, inductive clauses are sought behind these; the first number of visits for which there are some
-/// proves it too (Bradley, SAT-based model checking without unrolling).
+/// to the depth it looks for a run of so many valuations that does not, and for longer ones ahead of it; then for a path of
+/// so many, such that the run which begins with it and then holds its inputs does not; then, for each number of visits, for
+/// a joint path that is open at that window. The first number of visits for which none is proves the assertion (Sheeran,
+/// Singh and Stalmarck, Checking safety properties using induction and a SAT-solver). Where the options ask for it,
+/// inductive clauses are sought behind these; the first number of visits for which there are some proves it too (Bradley,
+/// SAT-based model checking without unrolling). Once a path is found behind which holding the inputs does not satisfy it,
+/// runs of so many valuations alone are looked for, up to the depth: one of them goes first.
 ///
 /// # Errors
 ///
@@ -54,6 +57,8 @@ impl Prover<'_> {
             lemmas: 0,
         };
         let mut searched = self.search(alloc, 1, begun)?;
+        let mut prefixes = Prefixes::new(alloc, self.task.netlist, &self.claim.violation)?;
+        self.hold(alloc, &mut prefixes, searched)?;
         let mut paths = self.first_paths(alloc)?;
         let joints = self.joints(alloc)?;
         let mut reaching = self.reach_on(alloc, budget_at(1), Reaching::new(alloc, &joints))?;
@@ -61,6 +66,7 @@ impl Prover<'_> {
             if searched.none_within < window {
                 searched = self.search(alloc, window, searched)?;
             }
+            self.hold(alloc, &mut prefixes, searched)?;
             paths = self.keep(alloc, window, paths)?;
             reaching = self.reach_on(alloc, budget_at(window), reaching)?;
         }

@@ -1,15 +1,13 @@
 // The search for a run that violates what is owed.
 ghost use Rattle.std.specs.Prelude.{◌≡◌, ◌≤◌, suc, IfOk, IfErr, OnOk};
 ghost use Rattle.prover.specs.Claims.{IsReady};
-ghost use Rattle.prover.specs.Glances.{IsOfSize, IsSearched, IsSearchedTo};
-ghost use Rattle.prover.specs.Stops.{IsSoughtFor, IsStopOf, NoneBelowFor, ViolatesFor};
+ghost use Rattle.prover.specs.Glances.{IsOfSize, IsProgress, IsSearched, IsSearchedTo};
+ghost use Rattle.prover.specs.Stops.{IsSoughtFor, IsStopOf, IsTriedFor, NoneBelowFor, ViolatesFor};
 
-use crate::answering::Solved;
 use crate::context::Prover;
-use crate::finding::{Finding, Query};
-use crate::glance::Glance;
+use crate::finding::Finding;
+use crate::glance::{Glance, Untold};
 use crate::stop::Stop;
-use bounded::{read_run, search_formula};
 use lasso_judge::satisfies;
 use netlist::Run;
 use psl_base::NoMemory;
@@ -29,6 +27,15 @@ pub(crate) struct Searched {
     pub lemmas: u64,
 }
 
+/// How far a search comes that goes on from some size.
+#[derive(Debug, Drop)]
+pub(crate) enum Progress {
+    /// To that size at least.
+    Reached(Searched),
+    /// Nothing is told of that size.
+    Nothing(Untold),
+}
+
 impl Searched {
     // How many lemmas a look ahead may take. A longer run may be far harder to tell, so it is a few times what is known
     // to be enough.
@@ -42,12 +49,26 @@ impl Searched {
 
 impl Prover<'_> {
     /// Looks for runs that violate what is owed, of so many valuations at least, and stops with a shortest one where
-    /// there is one. A run may enter its loop later, and its word stays: so where none of some size violates it, none
-    /// that is shorter does. Sizes that double are looked at first.
+    /// there is one, or where nothing is told.
     pub fn search(self, alloc: Global, size: u32, last: Searched) -> Result<Searched, Stop>
         requires ready { IsReady self }
         requires sought { IsSoughtFor self.task size }
         ensures searched { IfOk result (IsSearchedTo self.entry.task size) }
+        ensures stop { IfErr result (IsStopOf self.entry.task) }
+    {
+        match self.go_on(alloc, size, last)? {
+            Progress::Reached(searched) => Ok(searched),
+            Progress::Nothing(untold) => Err(Stop::Found(untold.finding(size))),
+        }
+    }
+
+    /// Looks for runs that violate what is owed, of so many valuations at least, and stops with a shortest one where
+    /// there is one. A run may enter its loop later, and its word stays: so where none of some size violates it, none
+    /// that is shorter does. Sizes that double are looked at first.
+    pub fn go_on(self, alloc: Global, size: u32, last: Searched) -> Result<Progress, Stop>
+        requires ready { IsReady self }
+        requires tried { IsTriedFor self.task size }
+        ensures progress { IfOk result (IsProgress self.entry.task size) }
         ensures stop { IfErr result (IsStopOf self.entry.task) }
     {
         let ahead = (size - 1).saturating_mul(2).min(self.task.options.depth);
@@ -57,16 +78,16 @@ impl Prover<'_> {
                 Glance::Violates(run) => {
                     let searched = self.shorten(alloc, size, ahead, run)?;
                     if size <= searched.none_within {
-                        return Ok(searched);
+                        return Ok(Progress::Reached(searched));
                     }
                 }
                 Glance::Holds(lemmas) => {
-                    return Ok(Searched {
+                    return Ok(Progress::Reached(Searched {
                         none_within: ahead,
                         lemmas,
-                    });
+                    }));
                 }
-                Glance::Nothing => {}
+                Glance::Nothing(_) => {}
             }
         }
         self.search_for(alloc, size)
@@ -99,7 +120,7 @@ impl Prover<'_> {
                     low = middle + 1;
                     last = lemmas;
                 }
-                Glance::Nothing => {
+                Glance::Nothing(_) => {
                     return Ok(Searched {
                         none_within: low - 1,
                         lemmas: last,
@@ -111,30 +132,23 @@ impl Prover<'_> {
         Err(Stop::Found(Finding::Violated(judged)))
     }
 
-    // Looks for a run of so many valuations that violates what is owed, and stops where there is one, or where nothing
-    // is told.
-    fn search_for(self, alloc: Global, size: u32) -> Result<Searched, Stop>
+    // Looks for a run of so many valuations that violates what is owed, with all the steps, and stops where there is one.
+    fn search_for(self, alloc: Global, size: u32) -> Result<Progress, Stop>
         requires ready { IsReady self }
-        requires sought { IsSoughtFor self.task size }
-        ensures searched { IfOk result (IsSearchedTo self.entry.task size) }
+        requires tried { IsTriedFor self.task size }
+        ensures progress { IfOk result (IsProgress self.entry.task size) }
         ensures stop { IfErr result (IsStopOf self.entry.task) }
     {
-        let query = Query::Search(size);
-        let formula = match search_formula(alloc, self.task.netlist, &self.claim.violation, size) {
-            Ok(formula) => formula,
-            Err(fault) => return Err(Stop::without(query, fault)),
-        };
-        match self.solved(alloc, query, formula)? {
-            Solved::Refuted(log) => Ok(Searched {
-                none_within: size,
-                lemmas: log.lemmas() as u64,
-            }),
-            Solved::Model(values) => {
-                let netlist = self.task.netlist;
-                let run = read_run(alloc, netlist, &self.claim.violation, size, &values)?;
+        match self.glance(alloc, size, self.task.options.steps)? {
+            Glance::Violates(run) => {
                 let judged = self.judged(alloc, run)?;
                 Err(Stop::Found(Finding::Violated(judged)))
             }
+            Glance::Holds(lemmas) => Ok(Progress::Reached(Searched {
+                none_within: size,
+                lemmas,
+            })),
+            Glance::Nothing(untold) => Ok(Progress::Nothing(untold)),
         }
     }
 

@@ -6,9 +6,8 @@ use Rattle.std.proofs.lemmas.Bool.{and_from, cases_lt, cond-true, cond-false, le
 use Rattle.std.proofs.lemmas.List.Elements.{All-head, All-tail}
 use Rattle.std.proofs.lemmas.List.FromFn.{length-map-range_with_len}
 use Rattle.std.proofs.lemmas.Nat.{mod_below}
-use Rattle.netlist.proofs.Walking.{run-made}
 use Rattle.netlist.specs.Design.{Design}
-use Rattle.netlist.specs.Runs.{IsRun}
+use Rattle.netlist.specs.Runs.{IsMade}
 use Rattle.netlist.specs.declared.run.Run.{Run}
 use Rattle.psl_base.specs.Bytes.{is_white}
 use Rattle.trace.proofs.Definitions.{AreWords, codes-read, declared_of, definitions-read}
@@ -35,15 +34,13 @@ pub in-loop : (run : Run) (place : ℕ) → length run.stem ≤ place → valuat
 in-loop run place past = cond-false (nat_lt place (length run.stem)) _ _ (le-ltb place (length run.stem) past)
 
 -- each of them has a value for each signal
-pub sized : (design : Design) (run : Run) → IsRun design run → (place : ℕ) → length (valuation_in run place) ≡ design.signals
-sized design run is place =
-    let made = run-made design run is in
-    elim (cases_lt place (length run.stem)) [
-      | inl within ↦ ap (λ (v : List Bool). length v) (in-stem run place within) ∙ (made.stem place [] within).size
-      | inr past ↦
-          ap (λ (v : List Bool). length v) (in-loop run place past)
-          ∙ (made.looped ((place - length run.stem) % length run.loop_part) [] (mod_below (place - length run.stem) (length run.loop_part) made.loops)).size
-    ]
+pub sized : (design : Design) (run : Run) → IsMade design run → (place : ℕ) → length (valuation_in run place) ≡ design.signals
+sized design run is place = elim (cases_lt place (length run.stem)) [
+  | inl within ↦ ap (λ (v : List Bool). length v) (in-stem run place within) ∙ (is.stem place [] within).size
+  | inr past ↦
+      ap (λ (v : List Bool). length v) (in-loop run place past)
+      ∙ (is.looped ((place - length run.stem) % length run.loop_part) [] (mod_below (place - length run.stem) (length run.loop_part) is.loops)).size
+]
 
 -- ---- the names
 
@@ -57,7 +54,7 @@ words-are design words signal within = let word = words signal within in (word.s
 
 -- ---- the text
 
-pub trace-read : (unknown : Unknown) (design : Design) (run : Run) (loops : ℕ) → IsRun design run → HasWords design → design.signals ≤ bits_most → count_of run loops ≤ sample_limit
+pub trace-read : (unknown : Unknown) (design : Design) (run : Run) (loops : ℕ) → IsMade design run → HasWords design → design.signals ≤ bits_most → count_of run loops ≤ sample_limit
     → reading unknown (trace_text design run loops) ≡ Ok (trace_sampled unknown design run loops)
 trace-read unknown design run loops is words few short =
     let text = trace_text design run loops in

@@ -10,7 +10,7 @@ use Rattle.std.proofs.lemmas.Nat.{mod-mul-add, mod_below}
 use Rattle.std.proofs.Math.Nat.{div-add-mod}
 use Rattle.std.proofs.lemmas.Option.{slice_get-get_or}
 use Rattle.netlist.specs.Design.{Design}
-use Rattle.netlist.specs.Runs.{IsRun, bits_of, valuation_at, word}
+use Rattle.netlist.specs.Runs.{IsMade, bits_of, valuation_at, word}
 use Rattle.netlist.specs.Sound.{IsSound, NamesBit}
 use Rattle.netlist.specs.Valuations.{bit}
 use Rattle.netlist.specs.declared.run.Run.{Run}
@@ -242,7 +242,7 @@ firsts trace letter start (suc count) each =
     ∙ ap (λ (rest : List Letter). letter start ∷ rest) (firsts (suffix trace 1) letter (start + 1) count (λ place within.
     ap trace (let e : 1 + place ≡ suc place = omega arith in e) ∙ each (suc place) (omega (arith, within)) ∙ ap (λ (n : ℕ). Some (letter n)) (let e : start + suc place ≡ start + 1 + place = omega arith in e)))
 
-pub letters-are : (design : Design) (run : Run) (loops : ℕ) → IsSound design → IsRun design run
+pub letters-are : (design : Design) (run : Run) (loops : ℕ) → IsSound design → IsMade design run
     → letters_over design.names (trace_sampled Zero design run loops) ≡ first (count_of run loops) (trace_of (word design run))
 letters-are design run loops sound is =
     let count : length (trace_sampled Zero design run loops).samples ≡ count_of run loops = length-map-range_with_len (λ (n : ℕ). letters_of (valuation_in run n)) 0 (count_of run loops) in

@@ -5,7 +5,7 @@ use Rattle.std.proofs.lemmas.Bool.{cases_lt, cond-false, cond-true, le-leb, lt-l
 use Rattle.std.proofs.lemmas.List.Sums.{sum_by-append}
 use Rattle.std.proofs.lemmas.List.FromFn.{length-map-range_with_len, sum_by-map-range_with_len_more}
 use Rattle.netlist.specs.Design.{Design}
-use Rattle.netlist.specs.Runs.{IsRun}
+use Rattle.netlist.specs.Runs.{IsMade}
 use Rattle.netlist.specs.declared.run.Run.{Run}
 use Rattle.psl_tree.specs.declared.name.Name.{Name}
 use Rattle.trace.proofs.Accepting.{sized}
@@ -101,14 +101,14 @@ run_samples design run count = samples_from (codes_of design.signals) (valuation
 pub time-length : (time : ℕ) → length (line (35 ∷ decimal time)) ≡ length (decimal time) + 2
 time-length time = length-append (35 ∷ decimal time) (10 ∷ []) ∙ (let e : suc (length (decimal time)) + 1 ≡ length (decimal time) + 2 = omega arith in e)
 
-sample-length : (design : Design) (run : Run) → IsRun design run → (sample : ℕ)
+sample-length : (design : Design) (run : Run) → IsMade design run → (sample : ℕ)
     → length (sample_lines (codes_of design.signals) sample (valuation_in run sample)) ≡ length (line (35 ∷ decimal sample)) + values_size (codes_of design.signals)
 sample-length design run is sample =
     length-append (line (35 ∷ decimal sample)) (value_lines (codes_of design.signals) (valuation_in run sample))
     ∙ ap (λ (n : ℕ). length (line (35 ∷ decimal sample)) + n)
     (lines-length (codes_of design.signals) (valuation_in run sample) (sized design run is sample ∙ sym (length-map-range_with_len code_of 0 design.signals)))
 
-pub samples-length : (design : Design) (run : Run) → IsRun design run → (sample : ℕ)
+pub samples-length : (design : Design) (run : Run) → IsMade design run → (sample : ℕ)
     → length (run_samples design run (sample + 1)) ≡ length (run_samples design run sample) + (length (line (35 ∷ decimal sample)) + values_size (codes_of design.signals))
 samples-length design run is sample =
     let codes = codes_of design.signals in
@@ -120,7 +120,7 @@ samples-length design run is sample =
     ∙ ap (λ (n : ℕ). length (run_samples design run sample) + n) (sample-length design run is sample)
 
 -- a part of the samples is no longer than all
-pub samples-rise : (design : Design) (run : Run) → IsRun design run → (less more : ℕ) → length (run_samples design run less) ≤ length (run_samples design run (less + more))
+pub samples-rise : (design : Design) (run : Run) → IsMade design run → (less more : ℕ) → length (run_samples design run less) ≤ length (run_samples design run (less + more))
 samples-rise design run is less zero = subst (λ (n : ℕ). length (run_samples design run less) ≤ length (run_samples design run n)) (let e : less ≡ less + zero = omega arith in e) (omega arith)
 samples-rise design run is less (suc more) =
     let rest = samples-rise design run is less more in
@@ -128,7 +128,7 @@ samples-rise design run is less (suc more) =
     subst (λ (n : ℕ). length (run_samples design run less) ≤ length (run_samples design run n)) (let e : less + more + 1 ≡ less + suc more = omega arith in e) (omega (arith, rest, step))
 
 -- each sample has a byte at least
-pub samples-many : (design : Design) (run : Run) → IsRun design run → (count : ℕ) → count ≤ length (run_samples design run count)
+pub samples-many : (design : Design) (run : Run) → IsMade design run → (count : ℕ) → count ≤ length (run_samples design run count)
 samples-many design run is zero = omega arith
 samples-many design run is (suc count) =
     let rest = samples-many design run is count in
@@ -137,7 +137,7 @@ samples-many design run is (suc count) =
     subst (λ (n : ℕ). n ≤ length (run_samples design run n)) (let e : count + 1 ≡ suc count = omega arith in e) (omega (arith, rest, step, time))
 
 -- one sample more within a bound
-pub sample-within : (design : Design) (run : Run) → IsRun design run → (most sample : ℕ) (sum time values new : Option ℕ) → sum ≡ within most (length (run_samples design run sample))
+pub sample-within : (design : Design) (run : Run) → IsMade design run → (most sample : ℕ) (sum time values new : Option ℕ) → sum ≡ within most (length (run_samples design run sample))
     → time ≡ within most (length (line (35 ∷ decimal sample))) → values ≡ within most (values_size (codes_of design.signals)) → new ≡ plus most sum (plus most time values)
     → new ≡ within most (length (run_samples design run (sample + 1)))
 sample-within design run is most sample sum time values new old timed valued added =

@@ -1,6 +1,6 @@
 ghost use Rattle.std.specs.Prelude.{◌≡◌, ℕ, ◌≤◌, length, Ok};
 ghost use Rattle.netlist.specs.Design.{Design};
-ghost use Rattle.netlist.specs.Runs.{IsRun, word};
+ghost use Rattle.netlist.specs.Runs.{IsMade, word};
 ghost use Rattle.netlist.specs.Sound.{IsSound};
 ghost use Rattle.netlist.specs.declared.run.Run.{Run};
 ghost use Rattle.psl_tree.specs.Trace.{first, trace_of};
@@ -14,16 +14,17 @@ ghost use Rattle.vcd_reader.specs.Rules.{sample_limit};
 ghost use Rattle.vcd_reader.specs.declared.unknown.Unknown.{Unknown};
 
 /// A law of the definitions, which runs nothing: up to the limits on signals and samples of a recording, the trace of a
-/// run is read without a fault where first names are words, however unknown bits read, and says just the values of the run.
+/// stem and a loop of valuations, as of a run, is read without a fault where first names are words, however unknown bits
+/// read, and says just their values.
 pub fn read_law()
-    ensures { (unknown : Unknown) (design : Design) (run : Run) (loops : ℕ) → IsRun design run → HasWords design → design.signals ≤ bits_most → count_of run loops ≤ sample_limit
+    ensures { (unknown : Unknown) (design : Design) (run : Run) (loops : ℕ) → IsMade design run → HasWords design → design.signals ≤ bits_most → count_of run loops ≤ sample_limit
         → reading unknown (trace_text design run loops) ≡ Ok (trace_sampled unknown design run loops) }
 {}
 
-/// A law of the definitions: what a trace says, where unknown bits read as 0, are the first letters of the run's word, over
-/// the names of the netlist.
+/// A law of the definitions: what a trace says, where unknown bits read as 0, are the first letters of the word of its stem
+/// and loop, over the names of the netlist.
 pub fn word_law()
-    ensures { (design : Design) (run : Run) (loops : ℕ) → IsSound design → IsRun design run
+    ensures { (design : Design) (run : Run) (loops : ℕ) → IsSound design → IsMade design run
         → letters_over design.names (trace_sampled Unknown.Zero design run loops) ≡ first (count_of run loops) (trace_of (word design run)) }
 {}
 

@@ -1,5 +1,5 @@
 ghost use Rattle.std.specs.Prelude.{◌≡◌, ◌∷◌, length, decimal, IfOk};
-ghost use Rattle.netlist.specs.Runs.{IsRun};
+ghost use Rattle.netlist.specs.Runs.{IsMade};
 ghost use Rattle.trace.specs.Codes.{codes_of};
 ghost use Rattle.trace.specs.FirstPlaces.{TellsFirst};
 ghost use Rattle.trace.specs.Lengths.{plus, values_size, within};
@@ -28,7 +28,7 @@ pub fn trace_length(
     loops: u32,
     most: u64,
 ) -> Result<Option<u64>, NoMemory>
-    requires { IsRun netlist.now run.now }
+    requires { IsMade netlist.now run.now }
     ensures { IfOk result (λ found. found ≡ within most (length (trace_text netlist.now run.now loops))) }
 {
     soundness_law(netlist);
@@ -44,7 +44,7 @@ pub(crate) fn length_of(
     loops: u32,
     most: u64,
 ) -> Option<u64>
-    requires run { IsRun netlist.now run.now }
+    requires run { IsMade netlist.now run.now }
     requires size { length first.now ≡ netlist.now.signals }
     requires first { TellsFirst netlist.now.names netlist.now.signals first.now }
     ensures { result ≡ within most (length (trace_text netlist.now run.now loops)) }
@@ -79,7 +79,7 @@ fn declaration_length(name: &[u8], signal: u32, most: u64) -> Option<u64>
 
 /// How many bytes the samples of a run have.
 fn samples_length(netlist: &Netlist, run: &Run, loops: u32, most: u64) -> Option<u64>
-    requires { IsRun netlist.now run.now }
+    requires { IsMade netlist.now run.now }
     ensures { result ≡ within most (length (samples_from (codes_of netlist.now.signals) (valuation_in run.now) 0 (count_of run.now loops))) }
 {
     match count_of(run, loops) {
@@ -90,7 +90,7 @@ fn samples_length(netlist: &Netlist, run: &Run, loops: u32, most: u64) -> Option
 
 /// How many bytes the first samples of a run have.
 fn first_samples(netlist: &Netlist, run: &Run, count: usize, most: u64) -> Option<u64>
-    requires { IsRun netlist.now run.now }
+    requires { IsMade netlist.now run.now }
     ensures { result ≡ within most (length (samples_from (codes_of netlist.now.signals) (valuation_in run.now) 0 count)) }
 {
     let values = values_length(netlist.signals(), most);

@@ -1,5 +1,5 @@
 ghost use Rattle.std.specs.Prelude.{◌≡◌, [], ◌∷◌, ◌++◌, length, IfOk, OnOk};
-ghost use Rattle.netlist.specs.Runs.{IsRun};
+ghost use Rattle.netlist.specs.Runs.{IsMade};
 ghost use Rattle.trace.specs.Codes.{code_of, codes_of};
 ghost use Rattle.trace.specs.FirstPlaces.{TellsFirst};
 ghost use Rattle.trace.specs.Trace.{count_of, declaration_of, declarations, trace_text, valuation_in};
@@ -19,7 +19,7 @@ use vcd_writer::add_time;
 /// How many bytes a text has at most: more are in no memory.
 const MOST_BYTES: u64 = 0x7fff_ffff_ffff_ffff;
 
-/// The text of a recording of a run: of its stem, and of its loop so many times. Signal `i` of the netlist, counted from
+/// The text of a recording of a run, or of any stem and loop of valuations: of its stem, and of its loop so many times. Signal `i` of the netlist, counted from
 /// 0, has its first name and the code `i` in base 94, the lowest digit first, each digit `d` as the byte `33 + d`. A name
 /// that is `$end`, or ends in a range of one index, has `_` behind it. The times are the numbers of the valuations,
 /// from 0; at each of them all signals have their values, in the order of their numbers.
@@ -32,7 +32,7 @@ pub fn write_trace(
     run: &Run,
     loops: u32,
 ) -> Result<Bytes, NoMemory>
-    requires { IsRun netlist.now run.now }
+    requires { IsMade netlist.now run.now }
     ensures { IfOk result (λ text. text ≡ trace_text netlist.now run.now loops) }
 {
     soundness_law(netlist);
@@ -86,7 +86,7 @@ fn add_declaration(text: &mut Vec<u8>, name: &[u8], signal: u32) -> Result<(), N
 
 /// Adds the samples of a run.
 fn add_samples(text: &mut Vec<u8>, netlist: &Netlist, run: &Run, loops: u32) -> Result<(), NoMemory>
-    requires { IsRun netlist.now run.now }
+    requires { IsMade netlist.now run.now }
     ensures { OnOk result (text.new.items ≡ text.old.items ++ samples_from (codes_of netlist.now.signals) (valuation_in run.now) 0 (count_of run.now loops)) }
 {
     let Some(count) = count_of(run, loops) else {

@@ -4,7 +4,7 @@ use Rattle.std.specs.List.{filter, range_with_len}
 use Rattle.std.proofs.lemmas.List.FromFn.{length-map-range_with_len}
 use Rattle.alternating_theory.proofs.Raised.{LessLetter}
 use Rattle.netlist.specs.Design.{Design}
-use Rattle.netlist.specs.Runs.{IsRun}
+use Rattle.netlist.specs.Runs.{IsMade}
 use Rattle.netlist.specs.Sound.{IsSound}
 use Rattle.netlist.specs.declared.run.Run.{Run}
 use Rattle.psl_tree.specs.Holds.{holds_among}
@@ -33,7 +33,7 @@ less-each : (one two : ℕ → Letter) → ((place : ℕ) → LessLetter (one pl
 less-each one two each [] = tt
 less-each one two each (place ∷ places) = (each place, less-each one two each places)
 
-pub trace-verdict : (design : Design) (run : Run) (loops : ℕ) (directive : Directive) (verdict : Verdict) → IsSound design → IsRun design run
+pub trace-verdict : (design : Design) (run : Run) (loops : ℕ) (directive : Directive) (verdict : Verdict) → IsSound design → IsMade design run
     → IsVerdict (letters_of (trace_sampled Zero design run loops)) directive verdict → IsTraceVerdict design run loops directive verdict
 trace-verdict design run loops directive verdict sound is judged =
     let recording = trace_sampled Zero design run loops in

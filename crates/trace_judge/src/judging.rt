@@ -1,5 +1,5 @@
 ghost use Rattle.std.specs.Prelude.{◌≡◌, ◌≤◌, length, nat_lt, IfOk};
-ghost use Rattle.netlist.specs.Runs.{IsRun};
+ghost use Rattle.netlist.specs.Runs.{IsMade};
 ghost use Rattle.psl_tree.specs.Atoms.{AtomsOfFormula};
 ghost use Rattle.psl_tree.specs.Counts.{formula_size};
 ghost use Rattle.psl_tree.specs.Names.{AtomInRange};
@@ -20,7 +20,7 @@ use trace::{trace_length, write_trace};
 use vcd_reader::Recording;
 use wave_judge::{JudgeFault, Verdict, judge_one};
 
-/// A run of a netlist, and how often its loop is written.
+/// A run of a netlist, or another stem and loop of its valuations, and how often the loop is written.
 #[derive(Clone, Copy)]
 pub struct Traced<'a> {
     pub netlist: &'a Netlist,
@@ -39,8 +39,9 @@ pub struct JudgedTrace {
 }
 
 /// The trace of a run, where it has at most so many bytes, and what it says of a directive over the names of the netlist:
-/// the verdict on the first letters of the run's word, as many as the trace has samples. None where it has more bytes; it is
-/// not built then. It takes time that grows as the trace's length and as the number of its samples times the size of the formula.
+/// the verdict on the first letters of the run's word, as many as the trace has samples. A path of valuations is judged as a
+/// stem whose loop is written no time. None where the trace has more bytes; it is not built then. It takes time that grows
+/// as the trace's length and as the number of its samples times the size of the formula.
 ///
 /// # Errors
 /// `NoMemory` where the allocator refuses memory.
@@ -65,7 +66,7 @@ pub fn judge_trace(
 
 /// Whether the trace has more than so many bytes.
 fn is_longer(alloc: Global, traced: Traced<'_>, most: u64) -> Result<bool, NoMemory>
-    requires { IsRun traced.netlist.now traced.run.now }
+    requires { IsMade traced.netlist.now traced.run.now }
     ensures { IfOk result (λ longer. longer ≡ nat_lt most (length (trace_text traced.entry.netlist.now traced.entry.run.now traced.entry.loops))) }
 {
     let length = trace_length(alloc, traced.netlist, traced.run, traced.loops, most)?;

@@ -1,4 +1,4 @@
-use Rattle.std.proofs.Common.{suc, ◌-◌, ◌≤◌}
+use Rattle.std.proofs.Common.{◌≡◌, suc, ◌-◌, ◌≤◌}
 use Rattle.prover.proofs.context.Prover.left_open.Given as goal
 use Rattle.prover.specs.Glances.{IsSearchedTo}
 use Rattle.prover.specs.Kept.{AreKeptFor}
@@ -11,4 +11,5 @@ invariant-loop-window l = record {
   searched : IsSearchedTo l.fn.self.task (l.window - 1) l.searched;
   paths : AreKeptFor l.fn.self.task (suc l.fn.self.task.options.visits) (l.window - 1) l.paths;
   reaching : IsReaching l.fn.self.task l.reaching;
+  prefixes : l.prefixes ≡ l.fn.self.task.netlist.now;
 }
