@@ -3,7 +3,7 @@ ghost use Rattle.std.specs.Prelude.{◌≡◌, ◌++◌, ℕ, List, IfOk, OnOk};
 ghost use Rattle.psl_layer_theory.specs.Buses as spec;
 ghost use Rattle.psl_names.specs.Ranges.{Tells, bus_told, option_range, range_in, range_at};
 
-use crate::split::{Indexed, split};
+use crate::split::{Indexed, split_index};
 use psl_base::{Items, NoMemory, Text};
 use psl_tree::{Name, Names};
 use std::alloc::Global;
@@ -49,7 +49,7 @@ fn ranges_of<'a>(alloc: Global, names: &'a [Name]) -> Result<Ranges<'a>, NoMemor
 fn add_index<'a>(ranges: &mut Ranges<'a>, name: &'a Name) -> Result<(), NoMemory>
     ensures { OnOk result ((text : List ℕ) → range_at ranges.new text ≡ spec.with_name text (spec.indexed name.now.text) (range_at ranges.old text)) }
 {
-    let Some(indexed) = split(name.text.as_slice()) else {
+    let Some(indexed) = split_index(name.text.as_slice()) else {
         return Ok(());
     };
     let range = widened(indexed.index, ranges.get(indexed.text));
@@ -78,7 +78,7 @@ fn widened(index: u32, range: Option<&Indices>) -> Indices
 fn add_bus(alloc: Global, buses: &mut Names, ranges: &Ranges, name: &Name) -> Result<(), NoMemory>
     ensures { OnOk result (buses.new ≡ buses.old ++ bus_told ranges.now (spec.indexed name.now.text)) }
 {
-    let Some(name) = split(name.text.as_slice()) else {
+    let Some(name) = split_index(name.text.as_slice()) else {
         return Ok(());
     };
     let Some(range) = ranges.get(name.text) else {

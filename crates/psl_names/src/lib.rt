@@ -23,5 +23,6 @@ pub use operators::{
 pub use paths::PathIndex;
 pub use references::{index_number, refers_to};
 pub use shapes::operator_before;
+pub use split::{Indexed, split_index};
 pub use texts::path_text;
 pub use values::{literal_value, number_of};

@@ -9,15 +9,16 @@ use psl_base::plain_decimal;
 /// The highest index of a bit, as in recordings.
 const MOST_INDEX: u64 = 2_147_483_647;
 
-/// A text, and the index in square brackets behind it.
+/// A text, and the index of a bit in square brackets behind it.
 #[derive(Clone, Copy)]
-pub(crate) struct Indexed<'a> {
+pub struct Indexed<'a> {
     pub text: &'a [u8],
     pub index: u32,
 }
 
-/// A name as a text with an index behind it, if it is one.
-pub(crate) fn split(name: &[u8]) -> Option<Indexed>
+/// A name as a text with an index behind it, if it is one: the index stands in the last square brackets, at the end of the
+/// name, in decimal digits without a leading zero, and is at most 2,147,483,647.
+pub fn split_index(name: &[u8]) -> Option<Indexed>
     ensures { option_map indexed_in result ≡ spec.indexed name.now }
 {
     let at = last_bracket(name)?;

@@ -11,21 +11,22 @@ use Rattle.netlist.specs.Sound.{IsSound}
 use Rattle.netlist.specs.Valuations.{IsFilled}
 use Rattle.netlist.specs.declared.latch.Latch.{Latch}
 use Rattle.netlist.specs.declared.table.Table.{Table}
+use Rattle.psl_sugar.specs.declared.vector.Bit.{Bit}
 use Rattle.replay.proofs.First.{leaves-first}
 use Rattle.replay.proofs.Missing.{found-same}
-use Rattle.replay.proofs.Sample.{number-is, numbers_in}
+use Rattle.replay.proofs.Sample.{bit-is, bits_in}
 use Rattle.replay.specs.Answers.{IsReplay, Tells}
 use Rattle.replay.specs.Leaving.{first_from, first_of, latch_leaves, leaves, leaving, lower, lowest, table_leaves}
-use Rattle.replay.specs.Numbered.{missing_among}
+use Rattle.replay.specs.ByBits.{missing_among}
 use Rattle.replay.specs.Recorded.{AreComputed, first_missing, free_at, recorded, value_at}
 use Rattle.replay.specs.declared.answer.Replay.{Replay}
 use Rattle.vcd_reader.specs.Sampled.{Sampled}
 
--- the first that is missing, by the numbers of all signals
-pub missing-same : (design : Design) (recording : Sampled) → IsSound design → missing_among (numbers_in design recording) (free_of design) ≡ first_missing design recording
+-- the first that is missing, by the bits of all signals
+pub missing-same : (design : Design) (recording : Sampled) → IsSound design → missing_among (bits_in design recording) (free_of design) ≡ first_missing design recording
 missing-same design recording sound =
-    found-same (λ (signal : ℕ). is_none (slice_index_or (numbers_in design recording) signal None)) (λ (signal : ℕ). is_none (recorded design recording signal)) (free_of design)
-    (λ place other within. ap (λ (o : Option ℕ). is_none o) (number-is design recording _ (free-within design sound place other within)))
+    found-same (λ (signal : ℕ). is_none (slice_index_or (bits_in design recording) signal None)) (λ (signal : ℕ). is_none (recorded design recording signal)) (free_of design)
+    (λ place other within. ap (λ (o : Option Bit). is_none o) (bit-is design recording _ (free-within design sound place other within)))
 
 -- ---- the signals are those of the netlist
 

@@ -1,9 +1,9 @@
 -- The search for the first sample where a signal leaves a netlist finds it, and there is only one.
-use Rattle.std.proofs.Common.{◌≡◌, ◌∙◌, refl, sym, ap, subst, ℕ, zero, suc, ◌+◌, ◌<◌, ◌≤◌, ◌⊎◌, inl, inr, ⊎_elim, Bool, true, false, List, [], ◌∷◌, length, Option, None, Some, arith}
+use Rattle.std.proofs.Common.{◌≡◌, ◌∙◌, refl, sym, ap, subst, ℕ, zero, suc, ◌+◌, ◌<◌, ◌≤◌, ◌⊎◌, inl, inr, ⊎_elim, Bool, List, [], ◌∷◌, length, Option, None, Some, arith}
 use Rattle.std.specs.Prelude.{cond, nat_lt}
-use Rattle.std.proofs.lemmas.Bool.{cases_lt, ltb-true, lt-ltb, le-ltb}
+use Rattle.std.proofs.lemmas.Bool.{cases_lt, lt-ltb, le-ltb}
 use Rattle.netlist.specs.Design.{Design}
-use Rattle.replay.specs.Leaving.{IsFirst, IsOneOf, LeavesFirst, first_from, first_of, leaves, leaving, lower, lowest}
+use Rattle.replay.specs.Leaving.{IsFirst, IsOneOf, LeavesFirst, first_from, first_of, leaves, leaving, lowest}
 use Rattle.vcd_reader.specs.Sampled.{Sampled}
 
 -- ---- the lowest of some numbers

@@ -1,7 +1,7 @@
 mod Answering
 mod First
+mod InRange
 mod Lowest
 mod Missing
-mod Named
 mod Paths
 mod Sample

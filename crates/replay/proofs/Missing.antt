@@ -5,7 +5,8 @@ use Rattle.std.specs.List.{find}
 use Rattle.std.proofs.lemmas.List.{get_or-map, length-map, take_more}
 use Rattle.std.proofs.lemmas.List.Elements.{All-head, All-tail}
 use Rattle.netlist.specs.declared.latch.Latch.{Latch}
-use Rattle.replay.specs.Numbered.{missing_among}
+use Rattle.psl_sugar.specs.declared.vector.Bit.{Bit}
+use Rattle.replay.specs.ByBits.{missing_among}
 
 some-more : {A : Type 0} (b : Bool) (a x : A) (front back : Option A) → (front ≡ Some x → back ≡ Some x) → cond b (Some a) front ≡ Some x → cond b (Some a) back ≡ Some x
 some-more true a x front back more found = found
@@ -32,7 +33,7 @@ found-same one two (member ∷ members) agree =
     ap (λ (b : Bool). cond b (Some member) (find one members)) (All-head (λ (m : ℕ). one m ≡ two m) member members agree)
     ∙ ap (λ (o : Option ℕ). cond (two member) (Some member) o) (found-same one two members (All-tail (λ (m : ℕ). one m ≡ two m) member members agree))
 
--- one member more that has a number
+-- one member more that has a bit
 pub none-next : (test : ℕ → Bool) (members : List ℕ) (place other : ℕ) → place < length members → find test (take place members) ≡ None → test (get_or members place other) ≡ false
     → find test (take (place + 1) members) ≡ None
 none-next test members place other within none has =
@@ -55,19 +56,19 @@ found-next test members place other within none has =
 abbrev outputs : List Latch → List ℕ
 outputs latches = map (λ (latch : Latch). latch.output) latches
 
--- one latch more that has a number
-pub latch-next : (numbers : List (Option ℕ)) (latches : List Latch) (place : ℕ) (other : Latch) → place < length latches → missing_among numbers (take place (outputs latches)) ≡ None
-    → is_none (slice_index_or numbers (get_or latches place other).output None) ≡ false → missing_among numbers (take (place + 1) (outputs latches)) ≡ None
-latch-next numbers latches place other within none has =
+-- one latch more that has a bit
+pub latch-next : (bits : List (Option Bit)) (latches : List Latch) (place : ℕ) (other : Latch) → place < length latches → missing_among bits (take place (outputs latches)) ≡ None
+    → is_none (slice_index_or bits (get_or latches place other).output None) ≡ false → missing_among bits (take (place + 1) (outputs latches)) ≡ None
+latch-next bits latches place other within none has =
     let long : place < length (outputs latches) = omega (arith, within, length-map latches (λ (latch : Latch). latch.output)) in
     let at : get_or (outputs latches) place 0 ≡ (get_or latches place other).output = get_or-map (λ (latch : Latch). latch.output) latches place other 0 within in
-    none-next (λ (signal : ℕ). is_none (slice_index_or numbers signal None)) (outputs latches) place 0 long none (ap (λ (signal : ℕ). is_none (slice_index_or numbers signal None)) at ∙ has)
+    none-next (λ (signal : ℕ). is_none (slice_index_or bits signal None)) (outputs latches) place 0 long none (ap (λ (signal : ℕ). is_none (slice_index_or bits signal None)) at ∙ has)
 
 -- the first that has none
-pub latch-missing : (numbers : List (Option ℕ)) (latches : List Latch) (place : ℕ) (other : Latch) → place < length latches → missing_among numbers (take place (outputs latches)) ≡ None
-    → is_none (slice_index_or numbers (get_or latches place other).output None) ≡ true → missing_among numbers (outputs latches) ≡ Some (get_or latches place other).output
-latch-missing numbers latches place other within none has =
+pub latch-missing : (bits : List (Option Bit)) (latches : List Latch) (place : ℕ) (other : Latch) → place < length latches → missing_among bits (take place (outputs latches)) ≡ None
+    → is_none (slice_index_or bits (get_or latches place other).output None) ≡ true → missing_among bits (outputs latches) ≡ Some (get_or latches place other).output
+latch-missing bits latches place other within none has =
     let long : place < length (outputs latches) = omega (arith, within, length-map latches (λ (latch : Latch). latch.output)) in
     let at : get_or (outputs latches) place 0 ≡ (get_or latches place other).output = get_or-map (λ (latch : Latch). latch.output) latches place other 0 within in
-    found-next (λ (signal : ℕ). is_none (slice_index_or numbers signal None)) (outputs latches) place 0 long none (ap (λ (signal : ℕ). is_none (slice_index_or numbers signal None)) at ∙ has)
+    found-next (λ (signal : ℕ). is_none (slice_index_or bits signal None)) (outputs latches) place 0 long none (ap (λ (signal : ℕ). is_none (slice_index_or bits signal None)) at ∙ has)
     ∙ ap (λ (signal : ℕ). Some signal) at

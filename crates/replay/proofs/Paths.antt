@@ -19,12 +19,14 @@ use Rattle.netlist.specs.declared.latch.Latch.{Latch}
 use Rattle.netlist.specs.declared.run.Run.{Run}
 use Rattle.netlist.specs.declared.table.Table.{Table}
 use Rattle.psl_layer_theory.specs.LookUp.{ends_named, first_filled, found_among, is_named}
+use Rattle.psl_sugar.specs.Vectors.{only_bit}
+use Rattle.psl_sugar.specs.declared.vector.Bit.{Bit}
 use Rattle.psl_tree.specs.declared.name.Name.{Name}
 use Rattle.replay.proofs.First.{first-one, leaves-first}
 use Rattle.replay.specs.Answers.{IsMissing, IsReplay, Tells}
 use Rattle.replay.specs.Leaving.{differ, differs_from, first_from, first_of, latch_leaves, leaves, leaving, lowest, output_leaves, table_leaves}
 use Rattle.replay.specs.Paths.{HasPlainNames}
-use Rattle.replay.specs.Recorded.{bit_found, first_missing, free_at, recorded, value_at, value_of}
+use Rattle.replay.specs.Recorded.{bit_or_indexed, first_missing, free_at, recorded, value_at, value_of}
 use Rattle.replay.specs.declared.answer.Replay.{Replay}
 use Rattle.replay.specs.declared.answer.Replay.TheVariants as replays
 use Rattle.replay.specs.declared.answer.ReplayFault.{ReplayFault}
@@ -75,17 +77,17 @@ module _ (design : Design) (run : Run) (loops : ℕ) (plain : HasPlainNames desi
   named-only signal within other below named =
       plain.apart other signal below within (sym (plain.same other below) ∙ (bytes_eq-Decides (printed (first_text design.names other)) (first_text design.names signal)).0 named)
 
-  recorded-is : (signal : ℕ) → signal < design.signals → recorded design (trace_sampled Zero design run loops) signal ≡ Some signal
+  recorded-is : (signal : ℕ) → signal < design.signals → recorded design (trace_sampled Zero design run loops) signal ≡ Some (only_bit signal)
   recorded-is signal within =
       let text = first_text design.names signal in
-      ap (λ (names : List Name). bit_found (found_among (first_filled names (filter (ends_named text) (trace_names design)))))
+      ap (λ (names : List Name). bit_or_indexed (trace_names design) text (found_among (first_filled names (filter (ends_named text) (trace_names design)))))
       (one-passes (is_named text) (name_in design.names) signal 0 design.signals (omega arith) (omega (arith, within)) (named-self signal within)
       (λ other after below named. named-only signal within other (omega (arith, below)) named))
 
   none-missing : (signals : List ℕ) → All (λ signal. signal < design.signals) signals → find (λ signal. is_none (recorded design (trace_sampled Zero design run loops) signal)) signals ≡ None
   none-missing [] within = refl
   none-missing (signal ∷ signals) within =
-      ap (λ (o : Option ℕ). cond (is_none o) (Some signal) (find (λ (s : ℕ). is_none (recorded design (trace_sampled Zero design run loops) s)) signals)) (recorded-is signal (All-head (λ (s : ℕ). s < design.signals) signal signals within))
+      ap (λ (o : Option Bit). cond (is_none o) (Some signal) (find (λ (s : ℕ). is_none (recorded design (trace_sampled Zero design run loops) s)) signals)) (recorded-is signal (All-head (λ (s : ℕ). s < design.signals) signal signals within))
       ∙ none-missing signals (All-tail (λ (s : ℕ). s < design.signals) signal signals within)
 
   value-is : (sample signal : ℕ) → sample < count_of run loops → signal < design.signals → value_at design (trace_sampled Zero design run loops) sample signal ≡ bit (valuation_in run sample) signal
@@ -177,7 +179,7 @@ module _ (design : Design) (run : Run) (loops : ℕ) (plain : HasPlainNames desi
       let table = get_or design.tables place other in
       let low = outputs-within design sound place other within in
       ap (output_leaves (trace_sampled Zero design run loops) (valuations sample) sample table.output) (recorded-is design run loops plain table.output low)
-      ∙ alike (value_of (trace_sampled Zero design run loops) sample (Some table.output)) (bit (valuations sample) table.output)
+      ∙ alike (value_of (trace_sampled Zero design run loops) sample (Some (only_bit table.output))) (bit (valuations sample) table.output)
       (trace-bit design run loops sample table.output here ∙ ap (λ (v : List Bool). bit v table.output) (sym (are sample here)))
 
   stay : (sample : ℕ) → sample < count_of run loops → leaving design (trace_sampled Zero design run loops) valuations sample ≡ []

@@ -12,26 +12,27 @@ use Rattle.netlist.specs.Sound.{IsSound}
 use Rattle.netlist.specs.Valuations.{IsFilled, bit, values}
 use Rattle.netlist.specs.declared.latch.Latch.{Latch}
 use Rattle.netlist.specs.declared.table.Table.{Table}
+use Rattle.psl_sugar.specs.declared.vector.Bit.{Bit}
 use Rattle.replay.proofs.Lowest.{lowest-append}
 use Rattle.replay.specs.Leaving.{differ, differs_from, latch_leaves, leaving, lowest, output_leaves, table_leaves}
-use Rattle.replay.specs.Numbered.{differs_by, leaves_by, lowest_latch, lowest_table}
+use Rattle.replay.specs.ByBits.{differs_by, leaves_by, lowest_latch, lowest_table}
 use Rattle.replay.specs.Recorded.{AreComputed, free_at, recorded, value_at, value_of}
 use Rattle.vcd_reader.specs.Sampled.{Sampled}
 
--- the numbers of all signals, and their values at a sample
-abbrev pub numbers_in : Design → Sampled → List (Option ℕ)
-numbers_in design recording = map (recorded design recording) (range_with_len 0 design.signals)
+-- the bits of all signals, and their values at a sample
+abbrev pub bits_in : Design → Sampled → List (Option Bit)
+bits_in design recording = map (recorded design recording) (range_with_len 0 design.signals)
 
 abbrev pub values_in : Design → Sampled → ℕ → List Bool
-values_in design recording sample = map (value_of recording sample) (numbers_in design recording)
+values_in design recording sample = map (value_of recording sample) (bits_in design recording)
 
-pub number-is : (design : Design) (recording : Sampled) (signal : ℕ) → signal < design.signals → slice_index_or (numbers_in design recording) signal None ≡ recorded design recording signal
-number-is design recording signal within = get_or-map-range_with_len (recorded design recording) 0 design.signals signal signal None within (omega arith)
+pub bit-is : (design : Design) (recording : Sampled) (signal : ℕ) → signal < design.signals → slice_index_or (bits_in design recording) signal None ≡ recorded design recording signal
+bit-is design recording signal within = get_or-map-range_with_len (recorded design recording) 0 design.signals signal signal None within (omega arith)
 
 pub value-is : (design : Design) (recording : Sampled) (sample signal : ℕ) → signal < design.signals → bit (values_in design recording sample) signal ≡ value_at design recording sample signal
 value-is design recording sample signal within =
-    let long : signal < length (numbers_in design recording) = omega (arith, within, length-map-range_with_len (recorded design recording) 0 design.signals) in
-    get_or-map (value_of recording sample) (numbers_in design recording) signal None false long ∙ ap (value_of recording sample) (number-is design recording signal within)
+    let long : signal < length (bits_in design recording) = omega (arith, within, length-map-range_with_len (recorded design recording) 0 design.signals) in
+    get_or-map (value_of recording sample) (bits_in design recording) signal None false long ∙ ap (value_of recording sample) (bit-is design recording signal within)
 
 -- the values of inputs and latches
 free-from : (design : Design) (recording : Sampled) (sample : ℕ) (signals : List ℕ) → All (λ signal. signal < design.signals) signals
@@ -68,14 +69,14 @@ latch-same design recording valuations (suc sample) at_first earlier latch withi
 
 -- ---- tables
 
-output-same : (recording : Sampled) (valuation : List Bool) (sample output : ℕ) (number : Option ℕ) → (is_some number && differ (value_of recording sample number) (bit valuation output)) ≡ output_leaves recording valuation sample output number
+output-same : (recording : Sampled) (valuation : List Bool) (sample output : ℕ) (found : Option Bit) → (is_some found && differ (value_of recording sample found) (bit valuation output)) ≡ output_leaves recording valuation sample output found
 output-same recording valuation sample output None = refl
-output-same recording valuation sample output (Some number) = refl
+output-same recording valuation sample output (Some found) = refl
 
 table-same : (design : Design) (recording : Sampled) (valuations : ℕ → List Bool) (sample : ℕ) (valuation : List Bool) (table : Table) → table.output < design.signals → valuation ≡ valuations sample
-    → differs_by (numbers_in design recording) valuation (values_in design recording sample) table ≡ table_leaves design recording valuations sample table
+    → differs_by (bits_in design recording) valuation (values_in design recording sample) table ≡ table_leaves design recording valuations sample table
 table-same design recording valuations sample valuation table within there =
-    ap (λ (n : Option ℕ). is_some n && differ (bit (values_in design recording sample) table.output) (bit valuation table.output)) (number-is design recording table.output within)
+    ap (λ (b : Option Bit). is_some b && differ (bit (values_in design recording sample) table.output) (bit valuation table.output)) (bit-is design recording table.output within)
     ∙ ap (λ (b : Bool). is_some (recorded design recording table.output) && differ b (bit valuation table.output)) (value-is design recording sample table.output within)
     ∙ ap (λ (v : List Bool). is_some (recorded design recording table.output) && differ (value_at design recording sample table.output) (bit v table.output)) there
     ∙ output-same recording (valuations sample) sample table.output (recorded design recording table.output)
@@ -84,16 +85,16 @@ table-same design recording valuations sample valuation table within there =
 
 pub lowest-is : (design : Design) (recording : Sampled) (valuations : ℕ → List Bool) (sample : ℕ) (at_first : Bool) (earlier valuation : List Bool) → IsSound design
     → at_first ≡ (sample == 0) → (0 < sample → earlier ≡ valuations (sample - 1)) → valuation ≡ valuations sample
-    → lowest_table design.tables (lowest_latch design.latches at_first earlier (values_in design recording sample)) (numbers_in design recording) valuation (values_in design recording sample)
+    → lowest_table design.tables (lowest_latch design.latches at_first earlier (values_in design recording sample)) (bits_in design recording) valuation (values_in design recording sample)
     ≡ lowest None (leaving design recording valuations sample)
 lowest-is design recording valuations sample at_first earlier valuation sound first before there =
     let vs = values_in design recording sample in
-    let ns = numbers_in design recording in
+    let bs = bits_in design recording in
     let of_latches : filter (leaves_by at_first earlier vs) design.latches ≡ filter (latch_leaves design recording valuations sample) design.latches =
     kept-same (leaves_by at_first earlier vs) (latch_leaves design recording valuations sample) design.latches
     (λ place other lt. latch-same design recording valuations sample at_first earlier (get_or design.latches place other) (latches-within design sound place other lt) first before) in
-    let of_tables : filter (differs_by ns valuation vs) design.tables ≡ filter (table_leaves design recording valuations sample) design.tables =
-    kept-same (differs_by ns valuation vs) (table_leaves design recording valuations sample) design.tables
+    let of_tables : filter (differs_by bs valuation vs) design.tables ≡ filter (table_leaves design recording valuations sample) design.tables =
+    kept-same (differs_by bs valuation vs) (table_leaves design recording valuations sample) design.tables
     (λ place other lt. table-same design recording valuations sample valuation (get_or design.tables place other) (outputs-within design sound place other lt) there) in
     ap (λ (ts : List Table). lowest (lowest_latch design.latches at_first earlier vs) (map (λ (t : Table). t.output) ts)) of_tables
     ∙ ap (λ (ls : List Latch). lowest (lowest None (map (λ (l : Latch). l.output) ls)) (map (λ (t : Table). t.output) (filter (table_leaves design recording valuations sample) design.tables))) of_latches
@@ -101,21 +102,21 @@ lowest-is design recording valuations sample at_first earlier valuation sound fi
 
 -- ---- the lowest signal that leaves, by what was read and computed
 
-module _ (design : Design) (recording : Sampled) (valuations : ℕ → List Bool) (sample : ℕ) (numbers : List (Option ℕ)) (read free valuation earlier : List Bool) (at_first : Bool)
+module _ (design : Design) (recording : Sampled) (valuations : ℕ → List Bool) (sample : ℕ) (bits : List (Option Bit)) (read free valuation earlier : List Bool) (at_first : Bool)
     (latches first : Option ℕ) where
-  pub sample-is : IsSound design → AreComputed design recording valuations → sample < length recording.samples → numbers ≡ numbers_in design recording
-      → read ≡ map (value_of recording sample) numbers → free ≡ values read (free_of design) → ((other : List Bool) → IsFilled design free other → other ≡ valuation)
+  pub sample-is : IsSound design → AreComputed design recording valuations → sample < length recording.samples → bits ≡ bits_in design recording
+      → read ≡ map (value_of recording sample) bits → free ≡ values read (free_of design) → ((other : List Bool) → IsFilled design free other → other ≡ valuation)
       → at_first ≡ (sample == 0) → (0 < sample → earlier ≡ valuations (sample - 1)) → latches ≡ lowest_latch design.latches at_first earlier read
-      → first ≡ lowest_table design.tables latches numbers valuation read → (valuation ≡ valuations sample) × (lowest None (leaving design recording valuations sample) ≡ first)
-  sample-is sound computed within of_numbers of_read of_free only of_first of_earlier of_latches of_tables =
-      let values_are : read ≡ values_in design recording sample = of_read ∙ ap (λ (ns : List (Option ℕ)). map (value_of recording sample) ns) of_numbers in
+      → first ≡ lowest_table design.tables latches bits valuation read → (valuation ≡ valuations sample) × (lowest None (leaving design recording valuations sample) ≡ first)
+  sample-is sound computed within of_bits of_read of_free only of_first of_earlier of_latches of_tables =
+      let values_are : read ≡ values_in design recording sample = of_read ∙ ap (λ (bs : List (Option Bit)). map (value_of recording sample) bs) of_bits in
       let free_are : free_at design recording sample ≡ free = sym (free-is design recording sample (free-within design sound)) ∙ ap (λ (vs : List Bool). values vs (free_of design)) (sym values_are) ∙ sym of_free in
       let there : valuation ≡ valuations sample = sym (only (valuations sample) (subst (λ (fs : List Bool). IsFilled design fs (valuations sample)) free_are (computed sample within))) in (
         there,
         sym (of_tables
-            ∙ ap (λ (l : Option ℕ). lowest_table design.tables l numbers valuation read) of_latches
-            ∙ ap (λ (ns : List (Option ℕ)). lowest_table design.tables (lowest_latch design.latches at_first earlier read) ns valuation read) of_numbers
-            ∙ ap (λ (vs : List Bool). lowest_table design.tables (lowest_latch design.latches at_first earlier vs) (numbers_in design recording) valuation vs) values_are
+            ∙ ap (λ (l : Option ℕ). lowest_table design.tables l bits valuation read) of_latches
+            ∙ ap (λ (bs : List (Option Bit)). lowest_table design.tables (lowest_latch design.latches at_first earlier read) bs valuation read) of_bits
+            ∙ ap (λ (vs : List Bool). lowest_table design.tables (lowest_latch design.latches at_first earlier vs) (bits_in design recording) valuation vs) values_are
             ∙ lowest-is design recording valuations sample at_first earlier valuation sound of_first of_earlier there),
       )
 

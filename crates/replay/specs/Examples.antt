@@ -3,6 +3,8 @@ use Rattle.std.specs.Prelude.{◌≡◌, ℕ, zero, suc, Bool as Truth, true, fa
 use Rattle.netlist.specs.Design.{Design}
 use Rattle.netlist.specs.declared.latch.Init.TheVariants.{Zero, One, Free}
 use Rattle.netlist.specs.declared.rows.Mark.TheVariants as marks
+use Rattle.psl_sugar.specs.Vectors.{bit_of_signal, only_bit}
+use Rattle.psl_tree.specs.declared.name.Name.{Name}
 use Rattle.replay.specs.Leaving.{leaves}
 use Rattle.replay.specs.Recorded.{first_missing, recorded}
 use Rattle.trace.specs.Examples.{named_from}
@@ -83,22 +85,49 @@ Misses =
     × (first_missing gated (recording_of (codes "y" ∷ []) []) ≡ Some 3)
     × (first_missing gated (recording_of (codes "i" ∷ codes "s" ∷ []) []) ≡ Some 1)
 
--- a signal that is wider than a bit is none that is found, one of a single index is
-abbrev pub one_name : List ℕ → ℕ → ℕ → Sampled
-one_name text left right = record {
-  names = record { text = text; signal = 0; left = left; right = right } ∷ [];
-  samples = [];
-  times = [];
-  places = [];
-  unknown = unknowns.Zero;
-}
+-- a recording that has just some names, and no samples
+abbrev pub of_names : List Name → Sampled
+of_names names = record { names = names; samples = []; times = []; places = []; unknown = unknowns.Zero }
 
+abbrev pub one_name : List ℕ → ℕ → ℕ → Sampled
+one_name text left right = of_names (record { text = text; signal = 0; left = left; right = right } ∷ [])
+
+-- a signal that is wider than a bit is none that is found, one of a single index is
 abbrev pub Finds : Type 0
 Finds =
     (recorded toggle (one_name (codes "q") 1 0) 1 ≡ None)
-    × (recorded toggle (one_name (codes "q") 7 7) 1 ≡ Some 0)
+    × (recorded toggle (one_name (codes "q") 7 7) 1 ≡ Some (only_bit 0))
     × (recorded toggle (one_name (codes "xq") 0 0) 1 ≡ None)
-    × (recorded toggle (one_name (codes "x.q") 0 0) 1 ≡ Some 0)
+    × (recorded toggle (one_name (codes "x.q") 0 0) 1 ≡ Some (only_bit 0))
+
+-- a netlist of an input that has a name
+abbrev pub one_input : List ℕ → Design
+one_input text = record { signals = 1; inputs = 0 ∷ []; latches = []; tables = []; names = named_from 0 (text ∷ []) }
+
+-- with an index behind it a name stands for the bit of a vector that has this index, whichever end of the range is the lower
+-- one; no bit has an index out of the range, or one with a leading zero, and a signal of one bit is no vector
+abbrev pub Indexes : Type 0
+Indexes =
+    (recorded (one_input (codes "c[3]")) (one_name (codes "c") 3 0) 0 ≡ Some (bit_of_signal 0 3))
+    × (recorded (one_input (codes "c[3]")) (one_name (codes "c") 0 3) 0 ≡ Some (bit_of_signal 0 0))
+    × (recorded (one_input (codes "c[5]")) (one_name (codes "top.c") 7 4) 0 ≡ Some (bit_of_signal 0 1))
+    × (recorded (one_input (codes "u.c[1][0]")) (one_name (codes "top.u.c[1]") 1 0) 0 ≡ Some (bit_of_signal 0 0))
+    × (recorded (one_input (codes "c[4]")) (one_name (codes "c") 3 0) 0 ≡ None)
+    × (recorded (one_input (codes "c[03]")) (one_name (codes "c") 3 0) 0 ≡ None)
+    × (recorded (one_input (codes "c[0]")) (one_name (codes "c") 0 0) 0 ≡ None)
+
+-- a name that is there with its index goes before; the vector has to be one
+abbrev pub IndexesOfSeveral : Type 0
+IndexesOfSeveral =
+    (recorded (one_input (codes "c[3]"))
+    (of_names (record { text = codes "c"; signal = 0; left = 3; right = 0 } ∷ record { text = codes "c[3]"; signal = 1; left = 0; right = 0 } ∷ [])) 0
+    ≡ Some (only_bit 1))
+    × (recorded (one_input (codes "c[3]"))
+    (of_names (record { text = codes "a.c"; signal = 0; left = 3; right = 0 } ∷ record { text = codes "b.c"; signal = 1; left = 3; right = 0 } ∷ [])) 0
+    ≡ None)
+    × (recorded (one_input (codes "b.c[3]"))
+    (of_names (record { text = codes "a.c"; signal = 0; left = 3; right = 0 } ∷ record { text = codes "b.c"; signal = 1; left = 3; right = 0 } ∷ [])) 0
+    ≡ Some (bit_of_signal 1 3))
 
 pub record AreReplayed : Type 0 where
   pub toggles : Toggles
@@ -106,3 +135,5 @@ pub record AreReplayed : Type 0 where
   pub follows : Follows
   pub misses : Misses
   pub finds : Finds
+  pub indexes : Indexes
+  pub several : IndexesOfSeveral

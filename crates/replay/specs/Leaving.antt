@@ -7,6 +7,7 @@ use Rattle.netlist.specs.declared.latch.Init.{Init}
 use Rattle.netlist.specs.declared.latch.Init.TheVariants as inits
 use Rattle.netlist.specs.declared.latch.Latch.{Latch}
 use Rattle.netlist.specs.declared.table.Table.{Table}
+use Rattle.psl_sugar.specs.declared.vector.Bit.{Bit}
 use Rattle.replay.specs.Recorded.{recorded, value_at, value_of}
 use Rattle.vcd_reader.specs.Sampled.{Sampled}
 
@@ -27,10 +28,10 @@ abbrev pub latch_leaves : Design → Sampled → (ℕ → List Truth) → ℕ �
 latch_leaves design recording valuations zero latch = differs_from latch.init (value_at design recording 0 latch.output)
 latch_leaves design recording valuations (suc sample) latch = differ (value_at design recording (suc sample) latch.output) (bit (valuations sample) latch.input)
 
--- A table leaves it where its output is one signal of one bit in the recording, and has not the value that its rows say.
-abbrev pub output_leaves : Sampled → List Truth → ℕ → ℕ → Option ℕ → Truth
+-- A table leaves it where its output is one bit of the recording, and has not the value that its rows say.
+abbrev pub output_leaves : Sampled → List Truth → ℕ → ℕ → Option Bit → Truth
 output_leaves recording valuation sample output None = false
-output_leaves recording valuation sample output (Some number) = differ (value_of recording sample (Some number)) (bit valuation output)
+output_leaves recording valuation sample output (Some found) = differ (value_of recording sample (Some found)) (bit valuation output)
 
 abbrev pub table_leaves : Design → Sampled → (ℕ → List Truth) → ℕ → Table → Truth
 table_leaves design recording valuations sample table = output_leaves recording (valuations sample) sample table.output (recorded design recording table.output)

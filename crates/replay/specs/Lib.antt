@@ -1,6 +1,6 @@
 pub mod Answers
+pub mod ByBits
 pub mod Examples
 pub mod Leaving
-pub mod Numbered
 pub mod Paths
 pub mod Recorded

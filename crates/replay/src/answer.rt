@@ -14,8 +14,8 @@ pub enum Replay {
 /// Why a recording is not compared with a netlist.
 #[derive(Debug, Drop, Error)]
 pub enum ReplayFault {
-    /// The first input or latch, by its first name and in the order of the netlist, that is no signal of the recording, or
-    /// several, or one wider than a bit.
+    /// The first input or latch, by its first name and in the order of the netlist, that is not one bit of the recording:
+    /// neither one signal of one bit nor, where an index stands behind the name, that bit of one vector.
     #[error("an input or a latch is not in the recording")]
     MissingSignal(Text),
     /// The allocator refused memory.

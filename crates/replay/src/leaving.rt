@@ -1,12 +1,13 @@
 ghost use Rattle.std.specs.Prelude.{◌≡◌, ℕ, ◌<◌, Bool as Truth, List, All, cond, map, length, IfOk};
 ghost use Rattle.std.specs.List.{range_with_len};
 ghost use Rattle.replay.specs.Leaving.{differ, differs_from, leaves, lower};
-ghost use Rattle.replay.specs.Numbered.{AreNamed, differs_by, leaves_by, lowest_latch, lowest_table};
+ghost use Rattle.replay.specs.ByBits.{AreBitsOf, differs_by, leaves_by, lowest_latch, lowest_table};
 ghost use Rattle.replay.specs.Recorded.{AreComputed, recorded};
 
 use crate::values::{free_count, free_values, no_hints, read_values, zeros};
 use netlist::{Init, Latch, Netlist, Table, soundness_law};
 use psl_base::NoMemory;
+use psl_sugar::Bit;
 use std::alloc::Global;
 use vcd_reader::Recording;
 
@@ -15,10 +16,10 @@ pub(crate) fn leaves(
     alloc: Global,
     netlist: &Netlist,
     recording: &Recording,
-    numbers: &[Option<u32>],
+    bits: &[Option<Bit>],
 ) -> Result<Option<(u32, u32)>, NoMemory>
-    requires numbers { numbers.now ≡ map (recorded netlist.now recording.now) (range_with_len 0 netlist.now.signals) }
-    requires named { AreNamed recording.now.names numbers.now }
+    requires bits { bits.now ≡ map (recorded netlist.now recording.now) (range_with_len 0 netlist.now.signals) }
+    requires in_range { AreBitsOf recording.now.names bits.now }
     ensures { IfOk result (λ found. (valuations : ℕ → List Truth) → AreComputed netlist.now recording.now valuations → found ≡ leaves netlist.now recording.now valuations) }
 {
     soundness_law(netlist);
@@ -29,7 +30,7 @@ pub(crate) fn leaves(
     let mut earlier = zeros(alloc, signals)?;
     let mut valuation = zeros(alloc, signals)?;
     for sample in 0..recording.samples() {
-        read_values(recording, sample, numbers, &mut hints, &mut values);
+        read_values(recording, sample, bits, &mut hints, &mut values);
         free_values(netlist, values.as_slice(), &mut free);
         netlist.evaluate(&free, &mut valuation);
         let at_first = sample == 0;
@@ -42,7 +43,7 @@ pub(crate) fn leaves(
         let first = leaving_tables(
             netlist.tables().as_slice(),
             latches,
-            numbers,
+            bits,
             valuation.as_slice(),
             values.as_slice(),
         );
@@ -108,19 +109,19 @@ fn differs_from(init: Init, value: bool) -> bool
 fn leaving_tables(
     tables: &[Table],
     before: Option<u32>,
-    numbers: &[Option<u32>],
+    bits: &[Option<Bit>],
     valuation: &[bool],
     values: &[bool],
 ) -> Option<u32>
-    requires numbers { All (λ table. table.output < length numbers.now) tables.now }
+    requires bits { All (λ table. table.output < length bits.now) tables.now }
     requires valuation { All (λ table. table.output < length valuation.now) tables.now }
     requires values { All (λ table. table.output < length values.now) tables.now }
-    ensures { result ≡ lowest_table tables.now before numbers.now valuation.now values.now }
+    ensures { result ≡ lowest_table tables.now before bits.now valuation.now values.now }
 {
     let mut lowest = before;
     for table in tables {
         lowest = lower_if(
-            differs_by(numbers, valuation, values, table),
+            differs_by(bits, valuation, values, table),
             lowest,
             table.output,
         );
@@ -129,14 +130,14 @@ fn leaving_tables(
 }
 
 /// Whether the output of a table is recorded and has not the value of the valuation.
-fn differs_by(numbers: &[Option<u32>], valuation: &[bool], values: &[bool], table: &Table) -> bool
-    requires number { table.now.output < length numbers.now }
+fn differs_by(bits: &[Option<Bit>], valuation: &[bool], values: &[bool], table: &Table) -> bool
+    requires bit { table.now.output < length bits.now }
     requires valuation { table.now.output < length valuation.now }
     requires value { table.now.output < length values.now }
-    ensures { result ≡ differs_by numbers.now valuation.now values.now table.now }
+    ensures { result ≡ differs_by bits.now valuation.now values.now table.now }
 {
     let output = table.output as usize;
-    numbers[output].is_some() && differ(values[output], valuation[output])
+    bits[output].is_some() && differ(values[output], valuation[output])
 }
 
 /// Whether two values differ.

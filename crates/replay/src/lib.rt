@@ -2,9 +2,9 @@
 #![tactic(auto)]
 
 mod answer;
+mod bits;
 mod laws;
 mod leaving;
-mod numbers;
 mod replaying;
 mod values;
 

@@ -1,11 +1,13 @@
-ghost use Rattle.std.specs.Prelude.{◌≡◌, ◌+◌, ◌<◌, map, length, replicate, false, All, Any, IfOk, IfSome};
+ghost use Rattle.std.specs.Prelude.{◌≡◌, ◌+◌, ◌<◌, map, length, replicate, false, All, IfOk, IfSome};
 ghost use Rattle.netlist.specs.Design.{free_of};
 ghost use Rattle.netlist.specs.Valuations.{values};
-ghost use Rattle.replay.specs.Numbered.{AreNamed};
+ghost use Rattle.psl_tree.specs.Names.{AtomInRange};
+ghost use Rattle.replay.specs.ByBits.{AreBitsOf, atom_of};
 ghost use Rattle.replay.specs.Recorded.{value_of};
 
 use netlist::{Latch, Netlist, soundness_law};
 use psl_base::{Bits, NoMemory};
+use psl_sugar::Bit;
 use psl_tree::{Atom, Edge};
 use std::alloc::Global;
 use vcd_reader::Recording;
@@ -25,38 +27,38 @@ pub(crate) fn no_hints(alloc: Global, count: usize) -> Result<Vec<usize>, NoMemo
     Ok(hints)
 }
 
-/// The values of recorded signals at a sample, 0 where there is none.
+/// The values of recorded bits at a sample, 0 where there is none.
 pub(crate) fn read_values(
     recording: &Recording,
     sample: u32,
-    numbers: &[Option<u32>],
+    bits: &[Option<Bit>],
     hints: &mut [usize],
     into: &mut Bits,
 )
     requires sample { sample < length recording.now.samples }
-    requires named { AreNamed recording.now.names numbers.now }
-    requires hints { length hints.old ≡ length numbers.now }
-    requires room { length into.old ≡ length numbers.now }
-    ensures values { into.new ≡ map (value_of recording.now sample) numbers.now }
-    ensures hints { length hints.new ≡ length numbers.now }
+    requires in_range { AreBitsOf recording.now.names bits.now }
+    requires hints { length hints.old ≡ length bits.now }
+    requires room { length into.old ≡ length bits.now }
+    ensures values { into.new ≡ map (value_of recording.now sample) bits.now }
+    ensures hints { length hints.new ≡ length bits.now }
 {
-    for place in 0..numbers.len() {
-        let value = value_at(recording, sample, numbers[place], &mut hints[place]);
+    for place in 0..bits.len() {
+        let value = value_at(recording, sample, bits[place], &mut hints[place]);
         into.set(place, value);
     }
 }
 
-/// The value of a recorded signal at a sample, 0 where there is none.
-fn value_at(recording: &Recording, sample: u32, number: Option<u32>, hint: &mut usize) -> bool
+/// The value of a recorded bit at a sample, 0 where there is none.
+fn value_at(recording: &Recording, sample: u32, bit: Option<Bit>, hint: &mut usize) -> bool
     requires sample { sample < length recording.now.samples }
-    requires named { IfSome number (λ signal. Any (λ name. name.signal ≡ signal) recording.now.names) }
-    ensures { result ≡ value_of recording.now sample number }
+    requires in_range { IfSome bit (λ some. AtomInRange recording.now.names (atom_of some)) }
+    ensures { result ≡ value_of recording.now sample bit }
 {
-    match number {
-        Some(signal) => {
+    match bit {
+        Some(bit) => {
             let atom = Atom {
-                signal,
-                bit: 0,
+                signal: bit.signal,
+                bit: bit.place,
                 edge: Edge::Value,
             };
             recording.bit_near(sample, &atom, hint)

@@ -8,7 +8,7 @@ use Rattle.psl_names.proofs.buses.add_index.Goals as goal
 pub returns : goal.returns
 returns c = λ query.
     let name = indexed_in c.in-Some.indexed in
-    let found = ap (option_map indexed_in) (sym c.in-Some.is) ∙ c.split.ensures ∙ ap indexed c.as_slice.ensures in
+    let found = ap (option_map indexed_in) (sym c.in-Some.is) ∙ c.split_index.ensures ∙ ap indexed c.as_slice.ensures in
     let wide = c.widened-range.ensures ∙ ap (widened c.in-Some.indexed.index) (copied_range c.get.result ∙ ap (option_map range_in) c.get.ensures.value) in
     range_written c.args.ranges.now c.insert.new.self name c.widened-range.result c.in_ok-insert.ensures.updates wide query
     ∙ ap (λ one. with_name query one (range_at c.args.ranges.now query)) found

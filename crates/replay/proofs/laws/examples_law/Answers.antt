@@ -8,4 +8,6 @@ returns c = record {
   follows = (refl, refl, refl);
   misses = (refl, refl, refl, refl, refl);
   finds = (refl, refl, refl, refl);
+  indexes = (refl, refl, refl, refl, refl, refl, refl);
+  several = (refl, refl, refl);
 }

@@ -2,7 +2,7 @@ use Rattle.std.proofs.Common.{None}
 use Rattle.netlist.specs.declared.latch.Latch.{Latch}
 use Rattle.replay.proofs.Lowest.{kept-at}
 use Rattle.replay.proofs.leaving.leaving_latches.Goals as goal
-use Rattle.replay.specs.Numbered.{leaves_by}
+use Rattle.replay.specs.ByBits.{leaves_by}
 
 pub loop-latch-preserved : goal.loop-latch-preserved
 loop-latch-preserved c =

@@ -4,7 +4,7 @@ use Rattle.replay.specs.Recorded.{value_of}
 
 abbrev pub invariant-loop-place : goal.invariant-loop-place
 invariant-loop-place l = record {
-  room : length l.into ≡ length l.numbers;
-  hints : length l.hints ≡ length l.numbers;
-  values : take l.place l.into ≡ map (value_of l.recording l.sample) (take l.place l.numbers);
+  room : length l.into ≡ length l.bits;
+  hints : length l.hints ≡ length l.bits;
+  values : take l.place l.into ≡ map (value_of l.recording l.sample) (take l.place l.bits);
 }
