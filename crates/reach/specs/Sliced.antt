@@ -7,6 +7,7 @@ use Rattle.joint_theory.specs.Reaching.{two_states}
 use Rattle.joint_theory.specs.Sliced as theory
 use Rattle.joint_theory.specs.Sliced.{kept_by}
 use Rattle.run_terms.specs.Formulas.{whole}
+use Rattle.reach_solver.specs.Texts.{text_of}
 use Rattle.reach.specs.declared.sliced.Sliced.{Sliced}
 
 -- how many variables a formula over a slice has, its clauses for two neighbours, and those for an entry into a cube
@@ -27,4 +28,5 @@ sliced_relative joined slice frame initial cube =
 pub record IsSliced (joined : Joined) (sliced : Sliced) : Type 0 where
   pub variables : sliced.pair.variables ≡ sliced_variables joined sliced.slice
   pub clauses : sliced.pair.clauses ≡ sliced_pair joined sliced.slice
+  pub text : sliced.text ≡ text_of sliced.pair.clauses
   pub circuit : sliced.circuit ≡ circuit_of (two_states joined.design joined.automaton joined.visits)

@@ -12,7 +12,7 @@ use crate::core_bits::no_bits;
 use crate::leading::are_within;
 use crate::question::Question;
 use crate::reading::value_at;
-use crate::signal_order::SignalOrder;
+use crate::signal_order::{SignalOrder, compute};
 use crate::ternary::{Ternaries, Ternary, all_unknown, at, write};
 use clauses::Clauses;
 use gates_theory::Literals;
@@ -150,7 +150,7 @@ fn first_values(alloc: Global, joint: &Joint, order: &SignalOrder) -> Result<Ter
         }
     }
     let none = no_bits(alloc, signals as usize)?;
-    order.compute(netlist, &none, &mut values);
+    compute(netlist, &order.tables, &none, &mut values);
     Ok(values)
 }
 

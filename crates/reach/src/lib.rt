@@ -11,6 +11,7 @@ mod asked_values;
 mod asking;
 mod bit_places;
 mod completing;
+mod cones;
 mod core_bits;
 mod ending;
 mod knowing;

@@ -2,20 +2,28 @@
 // other, as long as the others still tell all that the cube and the obligations ask.
 use crate::asked_values::Meeting;
 use crate::bit_places::{BitPlaces, Says};
+use crate::cones::{Cones, cones_of};
 use crate::core_bits::no_bits;
 use crate::reading::value_at;
-use crate::signal_order::SignalOrder;
+use crate::signal_order::{SignalOrder, compute};
 use crate::ternary::{Ternaries, Ternary, all_unknown, at, write};
 use joint::Joint;
 use psl_base::{Bits, NoMemory};
 use reach_frames::Entry;
 use std::alloc::Global;
 
+// So many signals are left out at once at first.
+const FIRST_STEP: usize = 8;
+
+// So many turns there are for each signal, at the most.
+const MOST_TURNS: usize = 8;
+
 /// What leads into a cube.
 #[derive(Clone, Copy)]
 struct Lead<'a> {
     joint: &'a Joint<'a>,
     order: &'a SignalOrder,
+    cones: &'a Cones,
     entry: &'a Entry,
     cube: &'a [i32],
     places: BitPlaces,
@@ -47,9 +55,9 @@ impl Lead<'_> {
         })
     }
 
-    /// Keeps all signals of which the bits of a state can say enough.
+    /// Keeps all signals that bear on it, and of which the bits of a state can say enough.
     fn keep_all(&self, trial: &mut Trial) {
-        for signal in self.order.told.as_slice() {
+        for signal in self.cones.told.as_slice() {
             write_bit(&mut trial.kept, *signal as usize, true);
         }
     }
@@ -65,7 +73,7 @@ impl Lead<'_> {
 
     /// Notes the values of kept signals in the first state.
     fn note_kept(&self, trial: &mut Trial) {
-        for signal in self.order.told.as_slice() {
+        for signal in self.cones.told.as_slice() {
             let value = self.told_value(&trial.kept, *signal);
             write(&mut trial.now, *signal as usize, value);
         }
@@ -74,7 +82,7 @@ impl Lead<'_> {
     /// The latches move.
     fn move_latches(&self, trial: &mut Trial) {
         let latches = self.joint.netlist().latches().as_slice();
-        for number in self.order.latches.as_slice() {
+        for number in self.cones.latches.as_slice() {
             if let Some(latch) = latches.get(*number as usize) {
                 let value = at(&trial.now, latch.input as usize);
                 write(&mut trial.next, latch.output as usize, value);
@@ -115,8 +123,8 @@ impl Lead<'_> {
     /// Whether what is kept is enough.
     fn is_enough(&self, trial: &mut Trial, none: &Bits) -> bool {
         self.note_kept(trial);
-        let (order, netlist) = (self.order, self.joint.netlist());
-        order.compute(netlist, &trial.kept, &mut trial.now);
+        let (cones, netlist) = (self.cones, self.joint.netlist());
+        compute(netlist, &cones.now, &trial.kept, &mut trial.now);
         let meeting = Meeting {
             violation: self.joint.violation(),
             places: self.places,
@@ -128,16 +136,46 @@ impl Lead<'_> {
         }
         self.move_latches(trial);
         self.choose_inputs(trial);
-        order.compute(netlist, none, &mut trial.next);
+        compute(netlist, &cones.next, none, &mut trial.next);
         self.all_reached(trial)
     }
 
-    /// Leaves out each signal without which the others are still enough.
-    fn leave_out(&self, trial: &mut Trial, none: &Bits) {
-        for signal in self.order.told.as_slice() {
-            write_bit(&mut trial.kept, *signal as usize, false);
-            if !self.is_enough(trial, none) {
-                write_bit(&mut trial.kept, *signal as usize, true);
+    /// Keeps the signals from one place to another, or leaves them out.
+    fn keep(&self, trial: &mut Trial, from: usize, to: usize, value: bool) {
+        let told = self.cones.told.as_slice();
+        for place in from..to.min(told.len()) {
+            write_bit(&mut trial.kept, told[place] as usize, value);
+        }
+    }
+
+    /// Leaves out the signals from one place to another, if the others are still enough: whether they are.
+    fn leave_out(&self, trial: &mut Trial, none: &Bits, from: usize, to: usize) -> bool {
+        self.keep(trial, from, to, false);
+        if self.is_enough(trial, none) {
+            return true;
+        }
+        self.keep(trial, from, to, true);
+        false
+    }
+
+    /// Leaves out each signal without which the others are still enough, and several at once where none of them is
+    /// needed.
+    fn leave_out_all(&self, trial: &mut Trial, none: &Bits) {
+        let count = self.cones.told.len();
+        let mut place: usize = 0;
+        let mut step: usize = FIRST_STEP;
+        for _ in 0..count.saturating_mul(MOST_TURNS) {
+            if place >= count {
+                return;
+            }
+            step = step.min(count - place);
+            if self.leave_out(trial, none, place, place + step) {
+                place += step;
+                step = step.saturating_mul(2);
+            } else if step > 1 {
+                step = step / 2;
+            } else {
+                place += 1;
             }
         }
     }
@@ -184,9 +222,11 @@ pub(crate) fn lifted_mask(
     entry: &Entry,
     cube: &[i32],
 ) -> Result<Option<Bits>, NoMemory> {
+    let cones = cones_of(alloc, joint, order, entry, cube)?;
     let lead = Lead {
         joint,
         order,
+        cones: &cones,
         entry,
         cube,
         places: BitPlaces::of(joint),
@@ -197,7 +237,7 @@ pub(crate) fn lifted_mask(
     if !lead.is_enough(&mut trial, &none) {
         return Ok(None);
     }
-    lead.leave_out(&mut trial, &none);
+    lead.leave_out_all(&mut trial, &none);
     let mask = lead.mask(alloc, &trial.kept)?;
     Ok(Some(mask))
 }

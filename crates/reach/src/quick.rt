@@ -16,7 +16,7 @@ ghost use Rattle.reach_solver.specs.Solvers.{IsOver};
 use crate::completing::completed;
 use crate::machine::{JointMachine, negated};
 use crate::sliced::Sliced;
-use clauses::{Clauses, Cnf};
+use clauses::Clauses;
 use gates_theory::Literals;
 use psl_base::{Bits, NoMemory};
 use reach_frames::{Entered, Entry, is_in_cube, is_met};
@@ -167,23 +167,25 @@ fn entered_over(
     }
 }
 
-/// The solver over a formula that a machine has, or a new one.
+/// The solver over the formula of a slice that a machine has, or a new one.
 fn solver_over(
     alloc: Global,
     machine: &JointMachine,
-    formula: &Cnf,
+    sliced: &Sliced,
 ) -> Result<ReachSolver, NoMemory>
-    ensures { IfOk result (λ solver. IsOver solver formula.now.variables formula.now.clauses) }
+    requires { IsSliced machine.now.joint.now sliced.now }
+    ensures { IfOk result (λ solver. IsOver solver sliced.now.pair.variables sliced.now.pair.clauses) }
 {
+    let formula = &sliced.pair;
     match machine.solver.replace(None) {
         Some(solver) => {
-            if !solver.is_full() && solver.is_over(formula) {
-                return Ok(solver);
+            if solver.is_full() || !solver.is_over(formula, sliced.text.as_slice()) {
+                return solver.anew(alloc, formula);
             }
+            Ok(solver)
         }
-        None => {}
+        None => ReachSolver::new(alloc, formula),
     }
-    ReachSolver::new(alloc, formula)
 }
 
 /// Whether a state that meets a frame, is outside the cube, and begins where that is asked, leads into the cube, if a
@@ -212,7 +214,7 @@ pub(crate) fn quick(
         initial,
         cube,
     };
-    let mut solver = solver_over(alloc, machine, &sliced.pair)?;
+    let mut solver = solver_over(alloc, machine, sliced)?;
     let entered = entered_over(alloc, machine, sliced, entering, &mut solver)?;
     machine.solver.set(Some(solver));
     Ok(entered)

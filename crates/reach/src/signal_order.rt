@@ -40,7 +40,7 @@ fn order_of(alloc: Global, netlist: &Netlist) -> Result<Signals, NoMemory> {
 }
 
 /// Those of some tables that drive kept signals, in the same order.
-fn kept_tables(
+pub(crate) fn kept_tables(
     alloc: Global,
     netlist: &Netlist,
     order: &Signals,
@@ -58,7 +58,11 @@ fn kept_tables(
 }
 
 /// Those of a netlist's latches that drive kept signals, by their numbers.
-fn kept_latches(alloc: Global, netlist: &Netlist, kept: &Bits) -> Result<Signals, NoMemory> {
+pub(crate) fn kept_latches(
+    alloc: Global,
+    netlist: &Netlist,
+    kept: &Bits,
+) -> Result<Signals, NoMemory> {
     let latches = netlist.latches().as_slice();
     let mut numbers = Signals::new(alloc);
     for place in 0..latches.len() {
@@ -126,7 +130,7 @@ fn add_determined(
 }
 
 /// Adds those of some signals that are kept behind others.
-fn add_kept(signals: &mut Signals, more: &Signals, kept: &Bits) -> Result<(), NoMemory> {
+pub(crate) fn add_kept(signals: &mut Signals, more: &Signals, kept: &Bits) -> Result<(), NoMemory> {
     for signal in more.as_slice() {
         if value_at(kept, *signal as usize) {
             signals.push(*signal)?;
@@ -157,16 +161,36 @@ impl SignalOrder {
         })
     }
 
-    /// Computes the outputs of the tables that are not among some signals.
-    pub fn compute(&self, netlist: &Netlist, except: &Bits, values: &mut Ternaries) {
-        let tables = netlist.tables().as_slice();
-        for number in self.tables.as_slice() {
-            if let Some(table) = tables.get(*number as usize) {
-                let output = table.output as usize;
-                if !value_at(except, output) {
-                    let value = value_of_table(table, values);
-                    write(values, output, value);
+    /// Marks the signals from which marked ones are computed.
+    pub fn mark_sources(&self, netlist: &Netlist, marks: &mut Bits) {
+        let numbers = self.tables.as_slice();
+        for back in 0..numbers.len() {
+            let number = numbers[numbers.len() - 1 - back];
+            if let Some(table) = netlist.tables().as_slice().get(number as usize) {
+                if value_at(marks, table.output as usize) {
+                    mark_all(marks, &table.inputs);
                 }
+            }
+        }
+    }
+}
+
+/// Marks some signals.
+fn mark_all(marks: &mut Bits, signals: &Signals) {
+    for signal in signals.as_slice() {
+        set(marks, *signal as usize);
+    }
+}
+
+/// Computes the outputs of some tables, in their order, that are not among some signals.
+pub(crate) fn compute(netlist: &Netlist, order: &Signals, except: &Bits, values: &mut Ternaries) {
+    let tables = netlist.tables().as_slice();
+    for number in order.as_slice() {
+        if let Some(table) = tables.get(*number as usize) {
+            let output = table.output as usize;
+            if !value_at(except, output) {
+                let value = value_of_table(table, values);
+                write(values, output, value);
             }
         }
     }

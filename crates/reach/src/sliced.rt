@@ -6,6 +6,7 @@ use clauses::{Cnf, CnfFault};
 use gates_theory::Circuit;
 use joint::{Joint, Slice};
 use psl_base::NoMemory;
+use reach_solver::{Literals, text_of};
 use std::alloc::Global;
 
 /// A slice of the signals, the formula of a state and a neighbour over it, and the circuit that tells neighbours.
@@ -13,6 +14,8 @@ use std::alloc::Global;
 pub(crate) struct Sliced {
     pub slice: Slice,
     pub pair: Cnf,
+    /// The clauses of the formula as one list.
+    pub text: Literals,
     pub circuit: Circuit,
 }
 
@@ -22,6 +25,7 @@ impl Drop for Sliced {
         let Sliced {
             slice: _,
             pair: _,
+            text: _,
             circuit: _,
         } = self;
     }
@@ -43,9 +47,11 @@ pub(crate) fn sliced_of(alloc: Global, joint: &Joint) -> Result<Option<Sliced>, 
         Err(CnfFault::TooLarge) => return Ok(None),
         Err(CnfFault::NoMemory) => return Err(NoMemory),
     };
+    let text = text_of(alloc, &pair)?;
     Ok(Some(Sliced {
         slice,
         pair,
+        text,
         circuit,
     }))
 }

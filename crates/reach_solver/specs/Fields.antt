@@ -1,8 +1,9 @@
 -- What a solver keeps of its fields, and what they stand for.
-use Rattle.std.specs.Prelude.{◌≡◌, ◌+◌, ◌≤◌, length, drop, IsTrue}
+use Rattle.std.specs.Prelude.{◌≡◌, ◌+◌, ◌≤◌, length, drop, take, IsTrue}
 use Rattle.clauses.specs.Literals.{clauses_within}
 use Rattle.reach_solver.specs.declared.solver.ReachSolver.TheInside.{Inside}
 use Rattle.reach_solver.specs.Solvers.{selected, Selecting}
+use Rattle.reach_solver.specs.Texts.{text_of}
 
 abbrev pub selecting_of : Inside → Selecting
 selecting_of solver = record {
@@ -16,3 +17,4 @@ pub record IsReachSolver (solver : Inside) : Type 0 where
   pub rest : drop solver.count solver.growing.clauses ≡ selected solver.variables solver.chosen
   pub room : solver.variables + length solver.chosen ≤ solver.growing.variables
   pub within : IsTrue (clauses_within solver.variables solver.chosen)
+  pub text : solver.text ≡ text_of (take solver.count solver.growing.clauses)

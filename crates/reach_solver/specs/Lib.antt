@@ -1,2 +1,3 @@
 pub mod Fields
 pub mod Solvers
+pub mod Texts

@@ -6,5 +6,7 @@
 
 mod fingerprint;
 mod solver;
+mod text;
 
 pub use solver::{Literals, ReachSolver, Told};
+pub use text::text_of;

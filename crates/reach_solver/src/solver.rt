@@ -1,10 +1,12 @@
 // A formula, and clauses with selectors.
-ghost use Rattle.std.specs.Prelude.{◌≡◌, suc, ◌+◌, ◌≤◌, ◌<◌, [], ◌∷◌, ◌++◌, pos, negsuc, length, take, slice_get, Some, IsTrue, IfOk, IfSome, OnOk};
+ghost use Rattle.std.specs.Prelude.{◌≡◌, suc, ◌+◌, ◌≤◌, ◌<◌, [], ◌∷◌, ◌++◌, pos, negsuc, length, slice_get, Some, IsTrue, IfOk, IfSome, OnOk};
 ghost use Rattle.clauses.specs.Literals.{clause_within, clauses_within};
 ghost use Rattle.clauses.specs.declared.flat.TheConstants.{MOST_VARIABLES};
 ghost use Rattle.reach_solver.specs.Solvers.{AreSelected, Excludes, Grows, IsMore, IsOver, IsSelected};
+ghost use Rattle.reach_solver.specs.Texts.{text_of as text_is};
 
 use crate::fingerprint::fingerprint;
+use crate::text::{append, text_of};
 use cdcl::{Asked, Growing};
 use clauses::{Clauses, Cnf, CnfFault, MOST_VARIABLES};
 use psl_base::{Bits, Items, NoMemory};
@@ -15,8 +17,12 @@ use std::marker::Model;
 /// Literals: the variable n, counted from 1, is the number n, and its negation -n.
 pub type Literals = Items<i32>;
 
-// So many clauses have selectors before a solver has to begin anew.
-const MOST_SELECTORS: u32 = 20_000;
+// A solver has room for so many selectors, and for four more for each clause that was asked before it.
+const LEAST_ROOM: u32 = 1000;
+
+// To begin anew costs about as much, for each clause of the formula, as a question where so many clauses have selectors
+// and are not asked.
+const RENEWAL: usize = 4;
 
 /// What a solver tells.
 #[derive(Debug, Drop)]
@@ -40,6 +46,13 @@ pub struct ReachSolver {
     chosen: Clauses,
     // By fingerprint, the place of such a clause.
     places: HashMap<u64, u32>,
+    // The clauses of the formula as one list.
+    text: Literals,
+    // For so many clauses there is room, and so many were asked last.
+    room: u32,
+    asked: usize,
+    // The clauses that were not asked, summed over all questions.
+    wear: usize,
 }
 
 impl Model for ReachSolver {
@@ -63,6 +76,10 @@ impl Drop for ReachSolver {
             count: _,
             chosen: _,
             places: _,
+            text: _,
+            room: _,
+            asked: _,
+            wear: _,
         } = self;
     }
 }
@@ -76,28 +93,64 @@ impl ReachSolver {
     pub fn new(alloc: Global, formula: &Cnf) -> Result<ReachSolver, NoMemory>
         ensures { IfOk result (λ solver. IsOver solver formula.now.variables formula.now.clauses) }
     {
-        let room = MOST_SELECTORS.min(MOST_VARIABLES - formula.variables);
+        ReachSolver::for_asked(alloc, formula, 0)
+    }
+
+    /// A solver over a formula, without a further clause, that is to follow on this one: it has room for the clauses that
+    /// were asked last.
+    ///
+    /// # Errors
+    ///
+    /// `NoMemory` if memory is refused.
+    pub fn anew(&self, alloc: Global, formula: &Cnf) -> Result<ReachSolver, NoMemory>
+        ensures { IfOk result (λ solver. IsOver solver formula.now.variables formula.now.clauses) }
+    {
+        ReachSolver::for_asked(alloc, formula, self.asked)
+    }
+
+    /// A solver over a formula, with room for questions with so many clauses.
+    fn for_asked(alloc: Global, formula: &Cnf, asked: usize) -> Result<ReachSolver, NoMemory>
+        ensures { IfOk result (λ solver. IsOver solver formula.now.variables formula.now.clauses) }
+    {
+        let room = room_for(asked).min(MOST_VARIABLES - formula.variables);
         Ok(ReachSolver {
             growing: Growing::new(alloc, formula, room)?,
             variables: formula.variables,
             count: formula.clauses.len(),
             chosen: Clauses::new(alloc),
             places: HashMap::new(alloc),
+            text: text_of(alloc, formula)?,
+            room,
+            asked,
+            wear: 0,
         })
     }
 
-    /// Whether the solver is over a formula. It is true only where it is.
-    pub fn is_over(&self, formula: &Cnf) -> bool
+    /// Whether the solver is over a formula, whose clauses are given as one list too. It is true only where it is.
+    pub fn is_over(&self, formula: &Cnf, text: &[i32]) -> bool
+        requires { text.now ≡ text_is formula.now.clauses }
         ensures { IsTrue result → IsOver self.now formula.now.variables formula.now.clauses }
     {
-        self.variables == formula.variables
-            && self.count == formula.clauses.len()
-            && begins_with(self.growing.clauses(), &formula.clauses)
+        if self.variables != formula.variables {
+            return false;
+        }
+        self.text.as_slice() == text
     }
 
-    /// Whether a solver over the same formula had better begin anew, for want of room.
+    /// Whether a solver over the same formula had better begin anew: for want of room, or where the clauses that are asked
+    /// no longer cost more than that.
     pub fn is_full(&self) -> bool {
-        self.growing.variables() - self.variables >= MOST_SELECTORS
+        self.chosen.len() >= self.room as usize || self.wear / RENEWAL > self.count
+    }
+
+    /// Notes with how many clauses a question comes.
+    fn note_asked(&mut self, count: usize)
+        ensures { self.new ≡ self.old }
+    {
+        self.asked = count;
+        self.wear = self
+            .wear
+            .saturating_add(self.chosen.len().saturating_sub(count));
     }
 
     /// The place of a clause among those that have selectors, if it is found there.
@@ -232,6 +285,24 @@ impl ReachSolver {
         requires literals { IsTrue (clause_within self.old.variables literals.now) }
         ensures { IfOk result (Excludes self.old (clauses.now ++ clause.now ∷ []) literals.now) }
     {
+        self.note_asked(clauses.len());
+        self.ask_selected(alloc, clauses, clause, literals, steps)
+    }
+
+    /// The same, by selectors of the clauses.
+    fn ask_selected(
+        &mut self,
+        alloc: Global,
+        clauses: &Clauses,
+        clause: &[i32],
+        literals: &[i32],
+        steps: u64,
+    ) -> Result<Told, NoMemory>
+        requires within { IsTrue (clauses_within self.old.variables clauses.now) }
+        requires also { IsTrue (clause_within self.old.variables clause.now) }
+        requires literals { IsTrue (clause_within self.old.variables literals.now) }
+        ensures { IfOk result (Excludes self.old (clauses.now ++ clause.now ∷ []) literals.now) }
+    {
         let mut assumed = match self.select_all(alloc, clauses, clause) {
             Ok(Some(selectors)) => selectors,
             Ok(None) | Err(CnfFault::TooLarge) => return Ok(Told::Nothing),
@@ -244,16 +315,6 @@ impl ReachSolver {
             Asked::Spent => Ok(Told::Nothing),
         }
     }
-}
-
-/// Adds literals at the end.
-fn append(all: &mut Literals, literals: &[i32]) -> Result<(), NoMemory>
-    ensures { OnOk result (all.new ≡ all.old ++ literals.now) }
-{
-    for literal in literals {
-        all.push(*literal)?;
-    }
-    Ok(())
 }
 
 /// Whether there is a variable behind so many, which is opened where there is room for it.
@@ -279,15 +340,8 @@ fn guarded(alloc: Global, clause: &[i32], before: u32) -> Result<Literals, NoMem
     Ok(guarded)
 }
 
-/// Whether clauses begin with others. These are no more.
-fn begins_with(clauses: &Clauses, others: &Clauses) -> bool
-    requires { length others.now ≤ length clauses.now }
-    ensures { IsTrue result → take (length others.now) clauses.now ≡ others.now }
-{
-    for place in 0..others.len() {
-        if clauses.at(place) != others.at(place) {
-            return false;
-        }
-    }
-    true
+/// How many selectors there is to be room for, where so many clauses are asked.
+fn room_for(asked: usize) -> u32 {
+    let asked = u32::try_from(asked).unwrap_or(u32::MAX);
+    asked.saturating_mul(4).saturating_add(LEAST_ROOM)
 }

@@ -1,12 +1,13 @@
-use Rattle.std.proofs.Common.{◌≡◌, ◌<◌, refl, sym, ap, ◌∙◌, subst, ℕ, ◌+◌, ℤ, negsuc, List, [], ◌∷◌, ◌++◌, length, drop, arith}
+use Rattle.std.proofs.Common.{◌≡◌, ◌<◌, refl, sym, ap, ◌∙◌, subst, ℕ, ◌+◌, ℤ, negsuc, List, [], ◌∷◌, ◌++◌, length, drop, take, arith}
 use Rattle.std.specs.Prelude.{IsTrue}
-use Rattle.std.proofs.lemmas.List.{length-append}
+use Rattle.std.proofs.lemmas.List.{length-append, take-append-le}
 use Rattle.cdcl.specs.Questions.{Formula}
 use Rattle.clauses.specs.Literals.{clause_within, clauses_within}
 use Rattle.clauses.specs.declared.flat.TheConstants.{MOST_VARIABLES}
 use Rattle.gates_theory.proofs.Within.{wider}
 use Rattle.reach_solver.specs.Fields.{selecting_of}
 use Rattle.reach_solver.specs.Solvers.{selected, Grows, Selecting}
+use Rattle.reach_solver.specs.Texts.{text_of}
 use Rattle.reach_solver.proofs.Selectors.{chosen-grows, drop-more, guard-within, selected-more, within-more}
 use Rattle.reach_solver.proofs.solver.ReachSolver.choose.Goals as goal
 
@@ -71,6 +72,9 @@ invariant_of-self-in_default c =
       within = subst (λ (cs : List (List ℤ)). IsTrue (clauses_within inside.variables cs)) (sym (chosen-are c))
           (within-more inside.variables inside.chosen clause c.self.invariant.within
           (subst (λ (s : Selecting). IsTrue (clause_within s.variables clause)) (sym c.self.view_is) c.requires));
+      text = c.self.invariant.text
+          ∙ ap text_of (sym (ap (take inside.count) (clauses-are c)
+          ∙ take-append-le inside.count inside.growing.clauses (guard ∷ []) c.self.invariant.formula));
     }
 
 pub returns-clause-grows : goal.returns-clause-grows

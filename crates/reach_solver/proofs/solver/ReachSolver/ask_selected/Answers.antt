@@ -6,7 +6,7 @@ use Rattle.clauses.specs.Literals.{clause_within}
 use Rattle.reach_solver.specs.Fields.{selecting_of}
 use Rattle.reach_solver.specs.Solvers.{AreSelected, IsOver, Selecting}
 use Rattle.reach_solver.proofs.Selectors.{assumed-within, excluded, within-inside}
-use Rattle.reach_solver.proofs.solver.ReachSolver.ask.Goals as goal
+use Rattle.reach_solver.proofs.solver.ReachSolver.ask_selected.Goals as goal
 
 pub ask-requires : goal.ask-requires
 ask-requires c =
