@@ -43,7 +43,7 @@ use Rattle.bounded_frames.proofs.Blocks.{number-in, owed-in}
 use Rattle.bounded_frames.proofs.Exceeding.{and_not, makes-exceeds}
 
 -- only what a combination owes matters
-same-combination : (before : Option (List ℤ)) (now : List ℤ) (later other : ℕ → List Node → Built) (m : ℕ) → ((r : ℕ) (nodes : List Node) → r < m → later r nodes ≡ other r nodes)
+pub same-combination : (before : Option (List ℤ)) (now : List ℤ) (later other : ℕ → List Node → Built) (m : ℕ) → ((r : ℕ) (nodes : List Node) → r < m → later r nodes ≡ other r nodes)
     → (positive : Positive) → OwesWithin 0 m positive → (nodes : List Node) → combination_by 0 before now later positive nodes ≡ combination_by 0 before now other positive nodes
 same-combination before now later other m same (Const value) within nodes = refl
 same-combination before now later other m same (Holds test) within nodes = refl
@@ -69,7 +69,7 @@ number_in a before v p q = number_of (map (is_true v) (number_at a before p q))
 abbrev pub asks_in : Automaton → ℕ → ℕ → Assignment → ℕ → ℕ → ℕ → Bool
 asks_in a n before v p q r = owed_in a before v (suc p) r && serves a (p == n) q (number_in a before v p q) r (number_in a before v (suc p) r)
 
-neither : (x y : Bool) → (x || y) ≡ false → (x ≡ false) × (y ≡ false)
+pub neither : (x y : Bool) → (x || y) ≡ false → (x ≡ false) × (y ≡ false)
 neither true y e = absurd (cc)
 neither false y e = (refl, e)
 

@@ -1,5 +1,5 @@
 -- The free nodes of places: where they stand, and what they are told.
-use Rattle.std.proofs.Common.{◌≡◌, ℕ, zero, suc, ◌+◌, ◌*◌, ◌<◌, ◌≤◌, Bool, false, List, [], ◌∷◌, ◌++◌, map, take, length, get_or, refl, sym, ap, ◌∙◌, arith, length-append, suc-mul}
+use Rattle.std.proofs.Common.{◌≡◌, ℕ, zero, suc, ◌+◌, ◌*◌, ◌<◌, ◌≤◌, Bool, false, cond, List, [], ◌∷◌, ◌++◌, map, take, length, get_or, refl, sym, ap, ◌∙◌, arith, length-append, suc-mul}
 use Rattle.std.specs.Bool.{IsTrue}
 use Rattle.std.specs.List.{flat_map, range_with_len}
 use Rattle.std.proofs.lemmas.Bool.{and_parts}
@@ -17,6 +17,7 @@ use Rattle.gates_nodes.specs.declared.node.Node.TheVariants.{Free}
 use Rattle.gates_nodes.specs.Nodes.{nodes_hold, nodes_within, told}
 use Rattle.gates_nodes.proofs.Values.{nodes_hold-append, nodes_within-append}
 use Rattle.gates_theory.specs.Circuits.{same}
+use Rattle.gates_theory.specs.Distinct.{following}
 use Rattle.gates_theory.proofs.Literals.{within_from}
 use Rattle.gates_theory.proofs.Parts.{same-is}
 use Rattle.gates_theory.proofs.Within.{following-within}
@@ -109,14 +110,40 @@ module _ (covers : List Cover) (bits : ℕ → ℕ → Bool) (v : Assignment) wh
 bits-cons : (w : ℕ) (o : Obligation) (os : List Obligation) → bits_of w (o ∷ os) ≡ suc (digits_of w o) + bits_of w os
 bits-cons w o os = sum_by-cons (λ obligation. suc (digits_of w obligation)) o os
 
-bits-fit : (w : ℕ) (os : List Obligation) (q : ℕ) → q < length os → bits_of w (take q os) + suc (digits_of w (obligation_at os q)) ≤ bits_of w os
+pub bits-fit : (w : ℕ) (os : List Obligation) (q : ℕ) → q < length os → bits_of w (take q os) + suc (digits_of w (obligation_at os q)) ≤ bits_of w os
 bits-fit w [] q low = absurd (omega arith)
 bits-fit w (o ∷ os) zero low = omega (arith, bits-cons w o os)
 bits-fit w (o ∷ os) (suc q) low = omega (arith, bits-cons w o os, bits-cons w o (take q os), bits-fit w os q (omega arith))
 
+-- with one obligation more there are its bits more
+pub bits-next : (w : ℕ) (os : List Obligation) (q : ℕ) → q < length os → bits_of w (take (suc q) os) ≡ bits_of w (take q os) + suc (digits_of w (obligation_at os q))
+bits-next w [] q low = absurd (omega arith)
+bits-next w (o ∷ os) zero low = omega (arith, bits-cons w o [])
+bits-next w (o ∷ os) (suc q) low = omega (arith, bits-cons w o (take q os), bits-cons w o (take (suc q) os), bits-next w os q (omega arith))
+
 pub bits-below : (a : Automaton) (q : ℕ) → q < length a.obligations
     → bits_before a q + suc (digits_of (number_width (length a.obligations)) (obligation_at a.obligations q)) ≤ place_bits a
 bits-below a q low = bits-fit (number_width (length a.obligations)) a.obligations q low
+
+-- an obligation that is not accepting has all digits of a number
+pub number-is : (a : Automaton) (before p q : ℕ) → (obligation_at a.obligations q).accepting ≡ false
+    → number_at a before p q ≡ following (suc (before + p * place_bits a + bits_before a q)) (number_width (length a.obligations))
+number-is a before p q plain =
+    ap (λ b. following (suc (before + p * place_bits a + bits_before a q)) (cond b 0 (number_width (length a.obligations)))) plain
+
+pub number-fits : (a : Automaton) (n before p q : ℕ) → p < suc (suc n) → q < length a.obligations → (obligation_at a.obligations q).accepting ≡ false
+    → suc (before + p * place_bits a + bits_before a q) + number_width (length a.obligations) ≤ before + (suc (suc n) * place_bits a + n)
+number-fits a n before p q low below plain =
+    let w = number_width (length a.obligations) in
+    let d = digits_of w (obligation_at a.obligations q) in
+    let same : d ≡ w = ap (λ b. cond b 0 w) plain in
+    let fit = bits-below a q below in
+    let e = mul-add-lt p (place_bits a) (bits_before a q + d) (suc (suc n)) low (omega (arith, fit)) in
+    omega (arith, same, fit, e)
+
+-- the bits of one place are not more than those of all
+pub places-many : (a : Automaton) (n : ℕ) → place_bits a + n ≤ length (place_nodes a n)
+places-many a n = omega (arith, places-length a n, suc-mul (suc n) (place_bits a))
 
 -- so their literals are those of variables
 module _ (a : Automaton) (n before variables : ℕ) (many : before + (suc (suc n) * place_bits a + n) ≤ variables) where

@@ -29,7 +29,7 @@ use Rattle.run_terms.specs.Automata.{IsSound, TestsSignals}
 use Rattle.bounded_frames.specs.Searches.{search_cone}
 use Rattle.bounded_frames.specs.Tested.{signals_of, signals_of_boolean, signals_of_positive}
 
-split : {X : Type 0} (P : X → Type 0) (xs ys : List X) → All P (xs ++ ys) → All P xs × All P ys
+pub split : {X : Type 0} (P : X → Type 0) (xs ys : List X) → All P (xs ++ ys) → All P xs × All P ys
 split P [] ys all = (All-nil P, all)
 split P (x ∷ xs) ys all =
     let rest = split P xs ys (All-tail P x (xs ++ ys) all) in
@@ -97,17 +97,22 @@ pub record Premises (d : Design) (a : Automaton) : Type 0 where
   pub some : List ℕ
   pub ordered : IsOrder d.tables some
 
-module _ (d : Design) (a : Automaton) (on : Premises d a) where
+-- the signals of atoms are those of the netlist
+module _ (d : Design) (sound : netlists.IsSound d) where
   in-range : (atom : Atom) → AtomInRange d.names atom → atom.signal < d.signals
   in-range atom range =
       let found = range.named in
-      let bit = on.sound.names found.0 found.1 found.2 in
+      let bit = sound.names found.0 found.1 found.2 in
       subst (λ k. k < d.signals) found.4 (subst (λ (name : Name). name.signal < d.signals) found.3 bit.signal)
 
+  pub tested-within : (a : Automaton) → TestsSignals d a → All (λ signal. signal < d.signals) (signals_of a)
+  tested-within a tests = obligations-signals (λ signal. signal < d.signals) (AtomInRange d.names) in-range a.obligations tests
+
+module _ (d : Design) (a : Automaton) (on : Premises d a) where
   all-within : All (λ signal. signal < d.signals) (with_latches d (signals_of a))
   all-within =
       All-append (λ signal. signal < d.signals) (signals_of a) (map (λ latch. latch.output) d.latches)
-      (obligations-signals (λ signal. signal < d.signals) (AtomInRange d.names) in-range a.obligations on.tests)
+      (tested-within d on.sound a on.tests)
       (All-map (λ signal. signal < d.signals) (λ (latch : Latch). latch.output) d.latches (latches-within d on.sound))
 
   pub cone-least : IsLeast d (with_latches d (signals_of a)) (search_cone d a)

@@ -44,7 +44,7 @@ module _ (d : Design) (a : Automaton) (on : Premises d a) (n : ℕ) where
   abbrev B : ℕ
   B = before_places d a n
 
-  more : V0 ≤ V
+  pub more : V0 ≤ V
   more = let s = so d a on n in more-extends 0 (placed_nodes d a n) (asked_of d a n).nodes (record { more = s.more; is = s.grown })
 
   wide : (l : ℤ) → IsTrue (is_within V0 l) → IsTrue (is_within V l)
@@ -73,7 +73,7 @@ module _ (d : Design) (a : Automaton) (on : Premises d a) (n : ℕ) where
       (each-flat test place (range_with_len 0 (place_bits a)) (each-range (λ k. IsTrue (list_all test (place k))) (place_bits a)
       (λ k below. same-within V g (bit_at a B (suc p) k) (bit_at a B (suc n) k) (begins-within p low) (bits-within (suc p) k (omega arith) below) (bits-within (suc n) k (omega arith) below))))
 
-  asked-within : IsTrue (clauses_within V (asked_clauses d a n))
+  pub asked-within : IsTrue (clauses_within V (asked_clauses d a n))
   asked-within =
       let test = clause_within V in
       let front = first_clauses a n B in

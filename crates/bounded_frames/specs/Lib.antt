@@ -1,6 +1,10 @@
+pub mod Adding
 pub mod Examples
+pub mod Extending
 pub mod Found
+pub mod Framing
 pub mod Obligations
 pub mod Places
 pub mod Searches
+pub mod Serving
 pub mod Tested
