@@ -1,7 +1,6 @@
 -- A certificate that is passed proves its claim.
 use Rattle.std.proofs.Common.{◌≡◌, ◌⊎◌, ◌↔◌, inl, inr, ◌∙◌, ap, sym, subst, ℕ, ℤ, Bool as Truth, true, false, List, Option, Some, refl}
 use Rattle.std.specs.Bool.{IsTrue}
-use Rattle.std.proofs.lemmas.Bool.{false≢true}
 use Rattle.alternating_theory.specs.Acceptance.{Accepts}
 use Rattle.alternating_theory.specs.Obligations.{Automaton}
 use Rattle.cert_theory.specs.declared.header.Asked.{Asked}
@@ -18,14 +17,11 @@ use Rattle.netlist.specs.Design.{Design}
 use Rattle.netlist.specs.Runs.{IsRun, word}
 use Rattle.netlist.specs.Sound as netlists
 use Rattle.netlist.specs.declared.run.Run.{Run}
-use Rattle.owed.specs.Owed.{is_assertion}
 use Rattle.owed.specs.Violations.{AcceptsViolatingRuns, violation_of}
 use Rattle.psl_tree.specs.declared.directive.Directive.{Directive}
-use Rattle.psl_tree.specs.declared.directive.Kind.{Kind}
-use Rattle.psl_tree.specs.declared.directive.Kind.TheVariants.{Assert, Assume, Cover}
 use Rattle.run_terms.specs.Automata.{IsSound, TestsSignals}
 use Rattle.run_terms.specs.Formulas.{HasModel, values_of}
-use Rattle.cert_check.specs.Claims.{EachSatisfies, IsProved, asked_of, bad_query, directive_of, initial_query, is_some_assertion, queries_by, queries_for, queries_of, step_query}
+use Rattle.cert_check.specs.Claims.{EachSatisfies, IsProved, asked_of, bad_query, directive_of, initial_query, has_claim, queries_by, queries_for, queries_of, step_query}
 
 -- a formula that is refuted has no model
 refuted_none : (variables : ℕ) (clauses : List (List ℤ)) → IsTrue (clauses_within variables clauses) → IsRefuted (record { variables = variables; clauses = clauses })
@@ -127,11 +123,6 @@ module _ (design : Design) (unit : List Directive) (directive : Directive) (soun
       → (asked : Asked) → IsShown asked (queries_for design (violation_of unit directive)) → EachSatisfies design unit directive
   each_satisfies refutes within inducts initially steps badly inductive asked is = by_either refutes within inducts initially steps badly inductive is.by
 
-assert_is : (kind : Kind) → is_assertion kind ≡ true → kind ≡ Assert
-assert_is Assert is = refl
-assert_is Assume is = absurd (false≢true is)
-assert_is Cover is = absurd (false≢true is)
-
 pub is_proved : (design : Design) (unit : List Directive) (number : ℕ) (directive : Directive) (text : List ℕ) → directive_of unit number ≡ Some directive
     → IsPassed (asked_of unit number) (queries_of design unit number) text
     → ((asked : Asked) → IsShown asked (queries_for design (violation_of unit directive)) → EachSatisfies design unit directive) → IsProved design unit number
@@ -140,6 +131,6 @@ is_proved design unit number directive text is passed each =
     record {
       directive = directive;
       is = is;
-      is_assertion = assert_is directive.kind (sym (ap is_some_assertion is) ∙ here.is_assertion);
+      has_claim = sym (ap has_claim is) ∙ here.has_claim;
       each = each (asked_of unit number) (subst (λ (found : Option Directive). IsShown (asked_of unit number) (queries_by design unit found)) is here);
     }

@@ -16,25 +16,24 @@ use Rattle.joint_theory.specs.Reaching.{bad_variables, initial_variables, query_
 use Rattle.netlist.specs.Design.{Design}
 use Rattle.netlist.specs.Runs.{IsRun, word}
 use Rattle.netlist.specs.declared.run.Run.{Run}
-use Rattle.owed.specs.Owed.{is_assertion, owed}
+use Rattle.owed.specs.Owed.{is_asked, owed}
 use Rattle.owed.specs.Violations.{violation_of}
 use Rattle.psl_tree.specs.Satisfaction.{Sat}
 use Rattle.psl_tree.specs.Trace.{trace_of}
 use Rattle.psl_tree.specs.declared.directive.Directive.{Directive}
-use Rattle.psl_tree.specs.declared.directive.Kind.TheVariants.{Assert}
 
 -- the directive of a number
 abbrev pub directive_of : List Directive → ℕ → Option Directive
 directive_of unit number = find (λ (directive : Directive). directive.number == number) unit
 
--- there is a directive, and it is an assertion
-abbrev pub is_some_assertion : Option Directive → Truth
-is_some_assertion None = false
-is_some_assertion (Some directive) = is_assertion directive.kind
+-- there is a directive, and it claims something: it is an assertion or a cover
+abbrev pub has_claim : Option Directive → Truth
+has_claim None = false
+has_claim (Some directive) = is_asked true directive.kind
 
 -- what is asked for by a number
 abbrev pub asked_of : List Directive → ℕ → Asked
-asked_of unit number = record { number = number; is_assertion = is_some_assertion (directive_of unit number) }
+asked_of unit number = record { number = number; has_claim = has_claim (directive_of unit number) }
 
 -- the formula of a window of joint states: no open path is initial, or none is of the other kind
 abbrev pub window_query : Design → Automaton → Truth → ℕ → ℕ → Query
@@ -110,9 +109,9 @@ abbrev pub EachSatisfies : Design → List Directive → Directive → Type 0
 EachSatisfies design unit directive =
     (run : Run) → IsRun design run → Sat (trace_of (word design run)) (owed unit directive) None
 
--- the number is that of an assertion, and each run satisfies what is owed of it
+-- the number is that of a directive or a cover, and each run satisfies what is owed of it
 pub record IsProved (design : Design) (unit : List Directive) (number : ℕ) : Type 0 where
   pub directive : Directive
   pub is : directive_of unit number ≡ Some directive
-  pub is_assertion : directive.kind ≡ Assert
+  pub has_claim : is_asked true directive.kind ≡ true
   pub each : EachSatisfies design unit directive

@@ -80,12 +80,12 @@ IsFaultBehind design unit directive header behind FormulaTooLarge =
     IsSized design header.window (plain_owed unit directive) × IsLarge design (violation_of unit directive) header behind
 IsFaultBehind design unit directive header behind NoMemory = Unit {0}
 
--- the clauses behind a header of a text, for the assertion of a number
+-- the clauses behind a header of a text, for the directive of a number
 abbrev pub ClausesIn : Design → List Directive → ℕ → List ℕ → Header → List (List ℤ) → Type 0
 ClausesIn design unit number text header clauses =
     HasClauses (asked_of unit number) (queries_of design unit number) text header clauses
 
--- the text has a header of a certificate of the assertion, and a limit is passed; want of memory has no cause
+-- the text has a header of a certificate of the directive, and a limit is passed; want of memory has no cause
 pub record HasCause (design : Design) (unit : List Directive) (number : ℕ) (text : List ℕ) (fault : CertFault) : Type 0 where
   pub header : Header
   pub directive : Directive

@@ -26,7 +26,7 @@ use psl_tree::Unit;
 use run_gates::automaton_law;
 use std::alloc::Global;
 
-/// Whether a text is a certificate that each run of a netlist satisfies what is owed of the assertion of a number: the
+/// Whether a text is a certificate that each run of a netlist satisfies what is owed of the directive of a number: the
 /// numbers of a text's directives count from 1. No line is refused, or the first one that is counts, with its number from
 /// 1. The text has at most `FILE_LIMIT` bytes, and the unit's atoms are in range of the netlist.
 ///

@@ -5,7 +5,7 @@ ghost use Rattle.cert_check.specs.Claims as spec;
 
 use cert_theory::Asked;
 use netlist::Netlist;
-use owed::is_assertion;
+use owed::is_asked;
 use psl_tree::{Directive, Unit};
 
 /// That each run of a netlist satisfies what is owed of a directive of a text.
@@ -32,11 +32,11 @@ pub(crate) fn asked_of(unit: &Unit, number: u32) -> Asked
     match directive_of(unit, number) {
         Some(directive) => Asked {
             number,
-            is_assertion: is_assertion(directive.kind),
+            has_claim: is_asked(true, directive.kind),
         },
         None => Asked {
             number,
-            is_assertion: false,
+            has_claim: false,
         },
     }
 }

@@ -1,5 +1,5 @@
 //! The checker of certificates: whether the text of one shows that each run of a netlist satisfies what is owed of an
-//! assertion. It stands on nothing of the solver.
+//! assertion or of a cover. It stands on nothing of the solver.
 #![tactic(auto)]
 
 mod checking;

@@ -198,7 +198,7 @@ has_header asked header r0 r1 r2 r3 r4 r5 r6 all =
     let behind = window_lines header.form header.window ++ (live_lines header.form header.live ++ end) in
     record {
       number = subst (λ (n : ℕ). MayBe Assertion n) number gives.1.may;
-      is_assertion = all.asked_for.1.1;
+      has_claim = all.asked_for.1.1;
       numbers = record {
         visits = all.visits.1.may;
         window = window_may header.form header.window r3 r4 all.window;

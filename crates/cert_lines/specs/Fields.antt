@@ -14,7 +14,7 @@ use Rattle.cert_theory.specs.Lines.{form_line, last_line}
 use Rattle.cert_lines.specs.declared.reading.Reading.{Reading}
 use Rattle.cert_lines.specs.Readings.{Takes}
 
--- a line names a form, gives a number, or gives that of the assertion that is asked for
+-- a line names a form, gives a number, or gives that of the directive that is asked for
 abbrev pub GivesForm : Form → Reading → Reading → Type 0
 GivesForm form old new = Takes (form_line form) old new
 

@@ -38,14 +38,14 @@ impl<'a> Reading<'a> {
         }
     }
 
-    /// The line with the number of the assertion that is asked for.
+    /// The line with the number of the directive that is asked for.
     pub(crate) fn asked(&mut self, asked: Asked) -> Result<(), Refusal>
         ensures asked { IfOk result (λ _. IsAskedFor asked self.old self.new) }
         ensures refused { IfErr result (IsRefusedBy (IsNoAsked asked) self.old) }
     {
         let wrong = self.refused(CertReason::WrongAssertion);
         let number = self.number(Field::Assertion)?;
-        if number == asked.number && asked.is_assertion {
+        if number == asked.number && asked.has_claim {
             Ok(())
         } else {
             Err(wrong)

@@ -9,7 +9,7 @@ ghost use Rattle.cert_lines.specs.Readings.{IsAt, RefusesAs};
 use crate::{Reading, Refusal};
 use cert_theory::{Asked, Field, Header};
 
-/// Reads the header of a certificate of the assertion that is asked for, from the first line on.
+/// Reads the header of a certificate of the directive that is asked for, from the first line on.
 ///
 /// # Errors
 ///

@@ -147,7 +147,7 @@ pub text_begins : (asked : Asked) (number : ℕ) (header : Header) (text : List 
     → text ≡ lines_text lines → lines ≡ header_lines number header ++ behind → HasHeader asked text header
 text_begins asked number header text lines behind is_asked may is text_is lines_are = record {
   number = subst (MayBe Assertion) is_asked.0 may;
-  is_assertion = is_asked.1;
+  has_claim = is_asked.1;
   numbers = is;
   rest = lines_text behind;
   is = text_is

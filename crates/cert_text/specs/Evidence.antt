@@ -32,7 +32,7 @@ pub record IsRefuted (query : Query) (log : List LogEntry) : Type 0 where
   pub drops_live : DropsLive query log
   pub empty_last : All (λ entry. is_empty_lemma entry ≡ false) (take (length log - 1) log)
 
--- a certificate is of the assertion that is asked for, and its logs refute the two formulas
+-- a certificate is of the directive that is asked for, and its logs refute the two formulas
 pub record IsEvidence (asked : Asked) (queries : Queries) (certificate : Certificate) : Type 0 where
   pub is_asked : IsAsked asked certificate.assertion
   pub number : MayBe Assertion certificate.assertion
@@ -41,7 +41,7 @@ pub record IsEvidence (asked : Asked) (queries : Queries) (certificate : Certifi
   pub base : IsRefuted (queries.base certificate.visits certificate.window) certificate.base
   pub induction : IsRefuted (queries.induction certificate.visits certificate.window) certificate.induction
 
--- a certificate of clauses is of the assertion that is asked for, its clauses name state bits, and its logs refute the
+-- a certificate of clauses is of the directive that is asked for, its clauses name state bits, and its logs refute the
 -- three formulas; a state has no more bits than a formula may have variables
 pub record IsInductiveEvidence (asked : Asked) (queries : Queries) (certificate : InductiveCert) : Type 0 where
   pub is_asked : IsAsked asked certificate.assertion

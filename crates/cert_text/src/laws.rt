@@ -14,7 +14,7 @@ ghost use Rattle.cert_text.specs.Evidence.{DropsLive, IsEvidence, IsInductiveEvi
 ghost use Rattle.cert_text.specs.Examples.{HasFirstText, HasInductiveText, HasText, IsEvident, IsInductivelyEvident};
 ghost use Rattle.clauses.specs.Logs.{LogEntry};
 
-/// A law of the texts: where a certificate is of the assertion that is asked for and its logs refute the two formulas,
+/// A law of the texts: where a certificate is of the directive that is asked for and its logs refute the two formulas,
 /// its text is passed in either version, has no refusal, and begins with the header of its numbers. And the number of live lemmas that a header says of a log is
 /// the greatest at any moment, where each drop is of a live lemma.
 pub fn printed_law()
@@ -30,7 +30,7 @@ pub fn printed_law()
         → DropsLive query log → IsMostLive query log (most_live log) }
 {}
 
-/// A law of the texts: where a certificate of clauses is of the assertion that is asked for, its clauses name state bits
+/// A law of the texts: where a certificate of clauses is of the directive that is asked for, its clauses name state bits
 /// and its logs refute the three formulas, its text is passed, has no refusal, and begins with the header of its numbers.
 pub fn inductive_law()
     ensures passes { (asked : Asked) (queries : Queries) (certificate : InductiveCert)

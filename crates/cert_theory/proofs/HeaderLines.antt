@@ -98,7 +98,7 @@ ends_follow asked queries Clausal visits window live wide may first third =
       ),
     )
 
-pub header_follows : (asked : Asked) (queries : Queries) (header : Header) → MayBe Assertion asked.number → asked.is_assertion ≡ true → IsHeader header
+pub header_follows : (asked : Asked) (queries : Queries) (header : Header) → MayBe Assertion asked.number → asked.has_claim ≡ true → IsHeader header
     → FollowAll asked queries AtVersion (header_lines asked.number header) (behind_header header)
 header_follows asked queries header may assertion is = (
   AtAssertion header.form,
@@ -120,7 +120,7 @@ pub header_reaches : (asked : Asked) (queries : Queries) (text : List ℕ) (head
 header_reaches asked queries text header has = record {
   is = has.is;
   whole = header_lacks asked.number header has.number has.numbers;
-  follow = header_follows asked queries header has.number has.is_assertion has.numbers;
+  follow = header_follows asked queries header has.number has.has_claim has.numbers;
 }
 
 -- the first lines of two texts that are one

@@ -97,44 +97,44 @@ first_before queries header clauses within = within
 Known : Asked → Queries → Phase → Type 0
 Known asked queries AtVersion = Unit {0}
 Known asked queries (AtAssertion form) = Unit {0}
-Known asked queries (AtVisits form) = asked.is_assertion ≡ true
-Known asked queries (AtWindow form visits) = asked.is_assertion ≡ true
-Known asked queries (AtLive form visits window) = asked.is_assertion ≡ true
-Known asked queries (AtLast header) = asked.is_assertion ≡ true
-Known asked queries (InClauses header clauses) = (asked.is_assertion ≡ true) × AreWithin queries header clauses
+Known asked queries (AtVisits form) = asked.has_claim ≡ true
+Known asked queries (AtWindow form visits) = asked.has_claim ≡ true
+Known asked queries (AtLive form visits window) = asked.has_claim ≡ true
+Known asked queries (AtLast header) = asked.has_claim ≡ true
+Known asked queries (InClauses header clauses) = (asked.has_claim ≡ true) × AreWithin queries header clauses
 Known asked queries (InSection header clauses section entries) =
-    (asked.is_assertion ≡ true) × Before queries header clauses section × Progress (query_at queries header clauses section) entries
+    (asked.has_claim ≡ true) × Before queries header clauses section × Progress (query_at queries header clauses section) entries
 Known asked queries AtEnd = IsShown asked queries
 
-windowed_known : (asked : Asked) (queries : Queries) (form : Form) (visits window : ℕ) → asked.is_assertion ≡ true → Known asked queries (behind_window form visits window)
+windowed_known : (asked : Asked) (queries : Queries) (form : Form) (visits window : ℕ) → asked.has_claim ≡ true → Known asked queries (behind_window form visits window)
 unfolding Known
 windowed_known asked queries (Windowed One) visits window is = is
 windowed_known asked queries (Windowed Two) visits window is = is
 windowed_known asked queries Clausal visits window is = is
 
-visited_known : (asked : Asked) (queries : Queries) (form : Form) (visits : ℕ) → asked.is_assertion ≡ true → Known asked queries (behind_visits form visits)
+visited_known : (asked : Asked) (queries : Queries) (form : Form) (visits : ℕ) → asked.has_claim ≡ true → Known asked queries (behind_visits form visits)
 unfolding Known
 visited_known asked queries (Windowed version) visits is = is
 visited_known asked queries Clausal visits is = is
 
-headed_known : (asked : Asked) (queries : Queries) (form : Form) (header : Header) → asked.is_assertion ≡ true → Known asked queries (behind_form form header)
+headed_known : (asked : Asked) (queries : Queries) (form : Form) (header : Header) → asked.has_claim ≡ true → Known asked queries (behind_form form header)
 unfolding Known Before AreWithin
 headed_known asked queries (Windowed version) header is = (is, tt, nothing (queries.base header.visits header.window))
 headed_known asked queries Clausal header is = (is, none_within queries header)
 
 -- behind a section
-ended_known : (asked : Asked) (queries : Queries) (header : Header) (clauses : List (List ℤ)) (section : Section) → asked.is_assertion ≡ true
+ended_known : (asked : Asked) (queries : Queries) (header : Header) (clauses : List (List ℤ)) (section : Section) → asked.has_claim ≡ true
     → Before queries header clauses section → IsRefuted (query_at queries header clauses section) → Known asked queries (behind_section header clauses section)
 unfolding Known Before AreWithin
 ended_known asked queries header clauses Base is before refuted_ = (is, refuted_, nothing (queries.induction header.visits header.window))
 ended_known asked queries header clauses Induction is before refuted_ = record {
-  is_assertion = is;
+  has_claim = is;
   by = inl (record { visits = header.visits; window = header.window; base = before; induction = refuted_ });
 }
 ended_known asked queries header clauses Initial is before refuted_ = (is, (before, refuted_), nothing (queries.step header.visits clauses))
 ended_known asked queries header clauses Step is before refuted_ = (is, (before.0, before.1, refuted_), nothing (queries.bad header.visits clauses))
 ended_known asked queries header clauses Bad is before refuted_ = record {
-  is_assertion = is;
+  has_claim = is;
   by = inr (record { visits = header.visits; clauses = clauses; within = before.0; initial = before.1; step = before.2; bad = refuted_ });
 }
 

@@ -25,9 +25,9 @@ contradictions = record {
   width = λ visits. 3;
 }
 
--- an assertion of a number is asked for
+-- a directive of a number is asked for that claims something
 abbrev pub assertion : ℕ → Asked
-assertion number = record { number = number; is_assertion = true }
+assertion number = record { number = number; has_claim = true }
 
 -- the answer to a text, where the first directive is asked for
 abbrev pub Answers : List ℕ → CertAnswer → Type 0

@@ -33,9 +33,9 @@ pub record Says (field : Field) (line : List ℕ) (number : ℕ) : Type 0 where
   pub is : line ≡ field_line field number
   pub may : MayBe field number
 
--- a number is that of the assertion that is asked for
+-- a number is that of the directive that is asked for, which claims something
 abbrev pub IsAsked : Asked → ℕ → Type 0
-IsAsked asked number = (number ≡ asked.number) × (asked.is_assertion ≡ true)
+IsAsked asked number = (number ≡ asked.number) × (asked.has_claim ≡ true)
 
 -- the numbers of a header; in the first version as many lemmas may be live as there are numbers, and where the
 -- certificate has clauses the window is 1
@@ -46,10 +46,10 @@ pub record IsHeader (header : Header) : Type 0 where
   pub first : header.form ≡ Windowed One → header.live ≡ MOST_VARIABLES
   pub third : header.form ≡ Clausal → header.window ≡ 1
 
--- a text begins with the header of a certificate of the assertion that is asked for
+-- a text begins with the header of a certificate of the directive that is asked for
 pub record HasHeader (asked : Asked) (text : List ℕ) (header : Header) : Type 0 where
   pub number : MayBe Assertion asked.number
-  pub is_assertion : asked.is_assertion ≡ true
+  pub has_claim : asked.has_claim ≡ true
   pub numbers : IsHeader header
   pub rest : List ℕ
   pub is : text ≡ lines_text (header_lines asked.number header) ++ rest

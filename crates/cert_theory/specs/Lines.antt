@@ -67,7 +67,7 @@ live_lines (Windowed One) live = []
 live_lines (Windowed Two) live = field_line Live live ∷ []
 live_lines Clausal live = field_line Live live ∷ []
 
--- the lines of a header, of the certificate of an assertion
+-- the lines of a header, of the certificate of a directive
 abbrev pub header_lines : ℕ → Header → List (List ℕ)
 header_lines number header =
     form_line header.form

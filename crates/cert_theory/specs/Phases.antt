@@ -103,7 +103,7 @@ IsMisshapen (InClauses header clauses) line = ⊥
 IsMisshapen (InSection header clauses section entries) line = ⊥
 IsMisshapen AtEnd line = ⊥
 
--- a line that gives the number of an assertion that is not asked for
+-- a line that gives the number of a directive that is not asked for
 abbrev pub IsOfAnother : Asked → Phase → List ℕ → Type 0
 IsOfAnother asked AtVersion line = ⊥
 IsOfAnother asked (AtAssertion form) line =

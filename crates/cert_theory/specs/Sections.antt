@@ -20,7 +20,7 @@ pub record Query : Type 0 where
   pub variables : ℕ
   pub clauses : List (List ℤ)
 
--- what the certificates of an assertion speak of
+-- what the certificates of a directive speak of
 pub record Queries : Type 0 where
   -- the formulas for so many visits and a window
   pub base : ℕ → ℕ → Query

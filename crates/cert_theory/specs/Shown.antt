@@ -25,7 +25,7 @@ pub record IsInduced (queries : Queries) : Type 0 where
   pub step : IsRefuted (queries.step visits clauses)
   pub bad : IsRefuted (queries.bad visits clauses)
 
--- what was asked for is an assertion, and the formulas of a window or of clauses are refuted
+-- what was asked for claims something, and the formulas of a window or of clauses are refuted
 pub record IsShown (asked : Asked) (queries : Queries) : Type 0 where
-  pub is_assertion : asked.is_assertion ≡ true
+  pub has_claim : asked.has_claim ≡ true
   pub by : IsClosed queries ⊎ IsInduced queries

@@ -6,7 +6,7 @@ pub enum CertReason {
     /// A whole line behind the header is neither a clause's or an entry's nor the word that ends its part, or it is an
     /// entry's behind the empty lemma.
     BadLine,
-    /// The certificate is not of the assertion that was asked for, or there is no such assertion.
+    /// The certificate is not of the directive that was asked for, or this claims nothing.
     WrongAssertion,
     /// A lemma does not pass.
     LemmaFails,

@@ -1,10 +1,10 @@
 use clauses::{Clauses, Log};
 
-/// The evidence that each run of a netlist satisfies what is owed of an assertion: for a number of visits and a window,
+/// The evidence that each run of a netlist satisfies what is owed of a directive: for a number of visits and a window,
 /// that no joint path is open. Whoever has the text and the netlist can check it without the prover.
 #[derive(Debug)]
 pub struct Certificate {
-    /// The number of the assertion in its text, counted from 1.
+    /// The number of the directive in its text, counted from 1.
     pub assertion: u32,
     /// How many visits the joint states count.
     pub visits: u32,
@@ -33,7 +33,7 @@ impl Drop for Certificate {
 /// meets which can be reached, and no bad one. Its text is the third version of a certificate.
 #[derive(Debug)]
 pub struct InductiveCert {
-    /// The number of the assertion in its text, counted from 1.
+    /// The number of the directive in its text, counted from 1.
     pub assertion: u32,
     /// How many visits the joint states count.
     pub visits: u32,

@@ -24,7 +24,7 @@ pub enum Form {
 /// The lines of a header that give a number.
 #[derive(Clone, Copy, Debug, PartialEq, Eq, Drop)]
 pub enum Field {
-    /// The number of the assertion, counted from 1.
+    /// The number of the assertion or of the cover, counted from 1.
     Assertion,
     /// How many visits the joint states count.
     Visits,
@@ -63,6 +63,6 @@ pub struct Header {
 pub struct Asked {
     /// The number of a directive, counted from 1.
     pub number: u32,
-    /// Whether that directive is an assertion.
-    pub is_assertion: bool,
+    /// Whether that directive claims something of each run: an assertion does, and a cover, that it is not met.
+    pub has_claim: bool,
 }

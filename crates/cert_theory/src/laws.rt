@@ -50,7 +50,7 @@ pub fn one_header_law()
         → HasClauses asked queries text other others → clauses ≡ others }
 {}
 
-/// A law of the definitions: where the text of a certificate is passed, what was asked for is an assertion, and for some
+/// A law of the definitions: where the text of a certificate is passed, what was asked for claims something, and for some
 /// visits both formulas of some window are refuted, or the three formulas of some clauses over the state bits.
 pub fn shown_law()
     ensures shown { (asked : Asked) (queries : Queries) (text : List ℕ) → IsPassed asked queries text

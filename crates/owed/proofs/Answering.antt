@@ -19,10 +19,12 @@ use Rattle.psl_tree.specs.Names.{AtomInRange}
 use Rattle.psl_tree.specs.Trees.{Formula, And, Not, formula_of}
 use Rattle.psl_tree.specs.declared.atom.Atom.{Atom}
 use Rattle.psl_tree.specs.declared.directive.Directive.{Directive}
+use Rattle.psl_tree.specs.declared.directive.Kind.{Kind}
+use Rattle.psl_tree.specs.declared.directive.Kind.TheVariants.{Assert, Assume, Cover}
 use Rattle.owed.proofs.Assumed.{assumed-more, owed-plain}
 use Rattle.owed.proofs.Violating.{violations-loops}
 use Rattle.owed.specs.Laws.{IsInRangeOf}
-use Rattle.owed.specs.Owed.{is_assumption, assumptions, joined, conjunction, under, owed, plain_owed, plain_assumed, with_directive}
+use Rattle.owed.specs.Owed.{is_assumption, assumptions, broken, claimed, joined, conjunction, under, owed, plain_owed, plain_assumed, with_directive}
 use Rattle.owed.specs.Violations.{violation_of, AcceptsViolations, TestsNamesOf}
 
 pub assumed-next : (unit : List Directive) (i : ℕ) (d : Directive) → i < length unit → d ≡ get_or unit i d
@@ -30,10 +32,10 @@ pub assumed-next : (unit : List Directive) (i : ℕ) (d : Directive) → i < len
 assumed-next unit i d within is =
     ap plain_assumed (take_more unit i d within ∙ ap (λ e. take i unit ++ e ∷ []) (sym is)) ∙ assumed-more (take i unit) d
 
-pub owed-under : (new f : Formula) (c : Option Formula) (unit : List Directive) (d : Directive) → new ≡ under c f
+pub owed-under : (new f : Formula) (c : Option Formula) (unit : List Directive) (d : Directive) → new ≡ under c d.kind f
     → c ≡ plain_assumed unit → f ≡ plain (formula_of d.formula) None → new ≡ plain_owed unit d
 owed-under new f c unit d e assumed is =
-    e ∙ ap (λ b. under b f) assumed ∙ ap (λ g. under (plain_assumed unit) g) is ∙ sym (owed-plain unit d)
+    e ∙ ap (λ b. under b d.kind f) assumed ∙ ap (λ g. under (plain_assumed unit) d.kind g) is ∙ sym (owed-plain unit d)
 
 pub owed-clockless : (f : Formula) (unit : List Directive) (d : Directive) → f ≡ plain_owed unit d → IsPlain f
 owed-clockless f unit d e = subst (λ (g : Formula). IsPlain g) (sym e) (plain_plain (owed unit d) None)
@@ -64,10 +66,21 @@ fold-atoms P (d ∷ ds) acc a h =
     (All-head (λ d. AtomsOfFormula P (formula_of d.formula)) d ds h)
     (λ b k. fold-atoms P ds b k (All-tail (λ d. AtomsOfFormula P (formula_of d.formula)) d ds h))
 
-under-atoms : (P : Atom → Type 0) (c : Option Formula) (f : Formula) → AtomsIn P c → AtomsOfFormula P f → AtomsOfFormula P (under c f)
+claimed-atoms : (P : Atom → Type 0) (k : Kind) (f : Formula) → AtomsOfFormula P f → AtomsOfFormula P (claimed k f)
+claimed-atoms P Assert f h = h
+claimed-atoms P Assume f h = h
+claimed-atoms P Cover f h = h
+
+broken-atoms : (P : Atom → Type 0) (k : Kind) (f : Formula) → AtomsOfFormula P f → AtomsOfFormula P (broken k f)
+broken-atoms P Assert f h = h
+broken-atoms P Assume f h = h
+broken-atoms P Cover f h = h
+
+under-atoms : (P : Atom → Type 0) (c : Option Formula) (k : Kind) (f : Formula) → AtomsIn P c → AtomsOfFormula P f
+    → AtomsOfFormula P (under c k f)
 unfolding AtomsIn
-under-atoms P None f a h = h
-under-atoms P (Some g) f a h = (a, h)
+under-atoms P None k f a h = claimed-atoms P k f h
+under-atoms P (Some g) k f a h = (a, broken-atoms P k f h)
 
 none-atoms : (P : Atom → Type 0) → AtomsIn P None
 unfolding AtomsIn
@@ -77,7 +90,7 @@ plain_owed-atoms : (P : Atom → Type 0) (unit : List Directive) (d : Directive)
     → All (λ d. AtomsOfFormula P (formula_of d.formula)) unit → AtomsOfFormula P (formula_of d.formula) → AtomsOfFormula P (plain_owed unit d)
 plain_owed-atoms P unit d all own =
     formula-atoms P (owed unit d) None
-    (under-atoms P (conjunction (assumptions unit)) (formula_of d.formula) (fold-atoms P unit None (none-atoms P) all) own) tt
+    (under-atoms P (conjunction (assumptions unit)) d.kind (formula_of d.formula) (fold-atoms P unit None (none-atoms P) all) own) tt
 
 pub owed-in_range : (f : Formula) (unit : List Directive) (d : Directive) → f ≡ plain_owed unit d → IsInRangeOf unit d f
 owed-in_range f unit d e names all own =

@@ -3,6 +3,8 @@ use Rattle.std.proofs.Common.{◌≡◌, refl, sym, ◌∙◌, ap, List, [], ◌
 use Rattle.psl_tree.specs.Plain.{plain}
 use Rattle.psl_tree.specs.Trees.{Formula, And, formula_of}
 use Rattle.psl_tree.specs.declared.directive.Directive.{Directive}
+use Rattle.psl_tree.specs.declared.directive.Kind.{Kind}
+use Rattle.psl_tree.specs.declared.directive.Kind.TheVariants.{Assert, Assume, Cover}
 use Rattle.owed.specs.Owed.{is_assumption, assumptions, joined, conjunction, under, plain_assumed, with_directive, owed, plain_owed}
 
 abbrev pub plain_of : Formula → Formula
@@ -18,15 +20,19 @@ plain-fold [] acc = refl
 plain-fold (f ∷ fs) None = plain-fold fs (Some f)
 plain-fold (f ∷ fs) (Some a) = plain-fold fs (Some (And a f))
 
-plain-under : (c : Option Formula) (f : Formula) → plain (under c f) None ≡ under (plain_in c) (plain f None)
-plain-under None f = refl
-plain-under (Some a) f = refl
+plain-under : (c : Option Formula) (k : Kind) (f : Formula) → plain (under c k f) None ≡ under (plain_in c) k (plain f None)
+plain-under None Assert f = refl
+plain-under None Assume f = refl
+plain-under None Cover f = refl
+plain-under (Some a) Assert f = refl
+plain-under (Some a) Assume f = refl
+plain-under (Some a) Cover f = refl
 
 pub owed-plain : (unit : List Directive) (d : Directive)
-    → plain_owed unit d ≡ under (plain_assumed unit) (plain (formula_of d.formula) None)
+    → plain_owed unit d ≡ under (plain_assumed unit) d.kind (plain (formula_of d.formula) None)
 owed-plain unit d =
-    plain-under (conjunction (assumptions unit)) (formula_of d.formula)
-    ∙ ap (λ c. under c (plain (formula_of d.formula) None)) (plain-fold (assumptions unit) None)
+    plain-under (conjunction (assumptions unit)) d.kind (formula_of d.formula)
+    ∙ ap (λ c. under c d.kind (plain (formula_of d.formula) None)) (plain-fold (assumptions unit) None)
 
 -- what a directive adds, which is an assumption or not
 abbrev added : Truth → Option Formula → Formula → Option Formula

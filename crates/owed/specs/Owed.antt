@@ -1,4 +1,5 @@
--- What is owed of an assertion: its formula, under the assumptions of its text.
+-- What is owed of a directive under the assumptions of its text: of an assertion its formula, and of a cover that it is not
+-- met.
 use Rattle.std.specs.Prelude.{Bool as Truth, true, false, if◌then◌else◌, List, [], ◌∷◌, map, fold, Option, None, Some}
 use Rattle.psl_tree.specs.Plain.{plain}
 use Rattle.psl_tree.specs.Trees.{Formula, Not, And, formula_of}
@@ -6,10 +7,11 @@ use Rattle.psl_tree.specs.declared.directive.Directive.{Directive}
 use Rattle.psl_tree.specs.declared.directive.Kind.{Kind}
 use Rattle.psl_tree.specs.declared.directive.Kind.TheVariants.{Assert, Assume, Cover}
 
-abbrev pub is_assertion : Kind → Truth
-is_assertion Assert = true
-is_assertion Assume = false
-is_assertion Cover = false
+-- which directives are asked: assertions, and covers where these are to be
+abbrev pub is_asked : Truth → Kind → Truth
+is_asked covers Assert = true
+is_asked covers Assume = false
+is_asked covers Cover = covers
 
 abbrev pub is_assumption : Kind → Truth
 is_assumption Assert = false
@@ -31,10 +33,22 @@ joined (Some others) formula = Some (And others formula)
 abbrev pub conjunction : List Formula → Option Formula
 conjunction formulas = fold joined None formulas
 
--- a formula that has to hold where what is assumed does
-abbrev pub under : Option Formula → Formula → Formula
-under None formula = formula
-under (Some assumed) formula = Not (And assumed (Not formula))
+-- what a directive claims of each run: that it satisfies its formula, and of a cover that it does not
+abbrev pub claimed : Kind → Formula → Formula
+claimed Assert formula = formula
+claimed Assume formula = formula
+claimed Cover formula = Not formula
+
+-- what a run satisfies that breaks the claim
+abbrev pub broken : Kind → Formula → Formula
+broken Assert formula = Not formula
+broken Assume formula = Not formula
+broken Cover formula = formula
+
+-- the claim, which has to hold where what is assumed does
+abbrev pub under : Option Formula → Kind → Formula → Formula
+under None kind formula = claimed kind formula
+under (Some assumed) kind formula = Not (And assumed (broken kind formula))
 
 -- the conjunction of a text's assumptions with their clocks rewritten away, where no clock is in force
 abbrev pub plain_assumed : List Directive → Option Formula
@@ -45,10 +59,10 @@ abbrev pub with_directive : Option Formula → Directive → Option Formula
 with_directive others directive =
     if is_assumption directive.kind then joined others (plain (formula_of directive.formula) None) else others
 
--- what is owed of an assertion of a text
+-- what is owed of a directive of a text
 abbrev pub owed : List Directive → Directive → Formula
-owed unit assertion = under (conjunction (assumptions unit)) (formula_of assertion.formula)
+owed unit directive = under (conjunction (assumptions unit)) directive.kind (formula_of directive.formula)
 
 -- the same with its clocks rewritten away, where no clock is in force
 abbrev pub plain_owed : List Directive → Directive → Formula
-plain_owed unit assertion = plain (owed unit assertion) None
+plain_owed unit directive = plain (owed unit directive) None

@@ -1,4 +1,4 @@
--- Which assertions are within the limits of the formulas for a netlist.
+-- Which directives are within the limits of the formulas for a netlist.
 use Rattle.std.specs.Prelude.{ℕ, suc, ◌+◌, ◌*◌, ◌<◌, ◌≤◌}
 use Rattle.alternating.specs.Limits.{HasLargeSequence}
 use Rattle.netlist.specs.Design.{Design, marks_of}

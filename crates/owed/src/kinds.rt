@@ -14,12 +14,13 @@ pub(crate) fn is_assumed(kind: Kind) -> bool
     }
 }
 
-/// Whether a directive is an assertion.
-pub fn is_assertion(kind: Kind) -> bool
-    ensures { result ≡ spec.is_assertion kind }
+/// Whether a directive is asked: an assertion is, and a cover where covers are to be.
+pub fn is_asked(covers: bool, kind: Kind) -> bool
+    ensures { result ≡ spec.is_asked covers kind }
 {
     match kind {
         Kind::Assert => true,
-        Kind::Assume | Kind::Cover => false,
+        Kind::Assume => false,
+        Kind::Cover => covers,
     }
 }

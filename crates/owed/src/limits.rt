@@ -1,4 +1,4 @@
-// Which assertions are within the limits of the formulas for a netlist.
+// Which directives are within the limits of the formulas for a netlist.
 ghost use Rattle.std.specs.Prelude.{◌≡◌, ◌-◌, ◌^◌, ◌<◌, ◌≤◌, nat_lt, List, OnOk, IfErr};
 ghost use Rattle.gates.specs.declared.limits.TheConstants.{MOST_WORK};
 ghost use Rattle.owed.specs.Owed.{plain_assumed, plain_owed};
@@ -16,7 +16,7 @@ use psl_tree::{Directive, MOST_OBLIGATIONS};
 use std::alloc::Global;
 use thiserror::Error;
 
-/// Which limit an assertion passes.
+/// Which limit a directive passes.
 #[derive(Clone, Copy, Debug, PartialEq, Eq, Drop, Error)]
 pub enum LimitFault {
     /// A sequence of what is owed counts more than 1,024 states.
@@ -44,7 +44,7 @@ impl From<NoMemory> for LimitFault {
     }
 }
 
-/// Whether what is owed of an assertion is within the limits of formulas up to a depth or a window, which have one position
+/// Whether what is owed of a directive is within the limits of formulas up to a depth or a window, which have one position
 /// more, where `assumed_size` has told how large what its text assumes is. Nothing of it is built but one formula at a
 /// time.
 ///
@@ -53,18 +53,18 @@ impl From<NoMemory> for LimitFault {
 /// The first of the limits that it passes, in the order of the faults; and `NoMemory` if memory is refused.
 pub fn check_sizes(
     alloc: Global,
-    assertion: &Directive,
+    directive: &Directive,
     assumed: Option<Size>,
     netlist: &Netlist,
     depth: u32,
 ) -> Result<(), LimitFault>
     requires { depth < 2 ^ 32 - 1 }
     ensures sized { OnOk result ((unit : List Directive) → AreSizesOf assumed (plain_assumed unit)
-        → IsSized netlist.now depth (plain_owed unit assertion.now)) }
+        → IsSized netlist.now depth (plain_owed unit directive.now)) }
     ensures fault { IfErr result (λ fault. (unit : List Directive) → AreSizesOf assumed (plain_assumed unit)
-        → IsRefused netlist.now depth (plain_owed unit assertion.now) fault) }
+        → IsRefused netlist.now depth (plain_owed unit directive.now) fault) }
 {
-    let size = owed_size(alloc, assertion, assumed)?;
+    let size = owed_size(alloc, directive, assumed)?;
     if size.has_large_sequence {
         return Err(LimitFault::SereTooLarge);
     }

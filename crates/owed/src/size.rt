@@ -1,15 +1,15 @@
 ghost use Rattle.std.specs.Prelude.{◌≡◌, List, Option, None, Some, IfOk};
-ghost use Rattle.owed.specs.Owed.{joined, plain_assumed, plain_owed, under, with_directive};
+ghost use Rattle.owed.specs.Owed.{broken, claimed, joined, plain_assumed, plain_owed, under, with_directive};
 ghost use Rattle.owed.specs.Sizes.{AreSizesOf, IsSizeOf};
 ghost use Rattle.psl_tree.specs.Plain.{plain};
-ghost use Rattle.psl_tree.specs.Trees.{Formula, formula_of};
+ghost use Rattle.psl_tree.specs.Trees.{Formula, Not, And, formula_of};
 ghost use Rattle.psl_tree.specs.declared.directive.Directive.{Directive};
 
 use crate::kinds::is_assumed;
 use alternating::has_large_sequence;
 use clock_rewrite::unclock;
 use psl_base::NoMemory;
-use psl_tree::{Directive, Fl, Unit, measure, obligations};
+use psl_tree::{Directive, Fl, Kind, Unit, measure, obligations};
 use std::alloc::Global;
 
 /// How large a formula is.
@@ -35,18 +35,18 @@ pub fn assumed_size(alloc: Global, unit: &Unit) -> Result<Option<Size>, NoMemory
     Ok(size)
 }
 
-/// How large what is owed of an assertion is, with its clocks rewritten away, where `assumed_size` has told how large
+/// How large what is owed of a directive is, with its clocks rewritten away, where `assumed_size` has told how large
 /// what its text assumes is.
 pub fn owed_size(
     alloc: Global,
-    assertion: &Directive,
+    directive: &Directive,
     assumed: Option<Size>,
 ) -> Result<Size, NoMemory>
     ensures { IfOk result (λ size. (unit : List Directive) → AreSizesOf assumed (plain_assumed unit)
-        → IsSizeOf size (plain_owed unit assertion.now)) }
+        → IsSizeOf size (plain_owed unit directive.now)) }
 {
-    let size = size_of(alloc, &assertion.formula)?;
-    Ok(size_under(assumed, size))
+    let size = size_of(alloc, &directive.formula)?;
+    Ok(size_under(assumed, directive.kind, size))
 }
 
 // How large a formula is with its clocks rewritten away.
@@ -84,37 +84,65 @@ fn with_part(others: Option<Size>, part: Size) -> Size
 {
     match others {
         None => part,
-        Some(others) => Size {
-            has_large_sequence: others.has_large_sequence || part.has_large_sequence,
-            obligations: others
-                .obligations
-                .saturating_add(part.obligations)
-                .saturating_add(1),
-            constructors: others
-                .constructors
-                .saturating_add(part.constructors)
-                .saturating_add(1),
-        },
+        Some(others) => conjunction(others, part),
     }
 }
 
-// The size of a formula under what is assumed.
-fn size_under(assumed: Option<Size>, size: Size) -> Size
+// The size of the conjunction of two formulas.
+fn conjunction(first: Size, second: Size) -> Size
+    ensures { (left right : Formula) → IsSizeOf first left → IsSizeOf second right → IsSizeOf result (And left right) }
+{
+    Size {
+        has_large_sequence: first.has_large_sequence || second.has_large_sequence,
+        obligations: first
+            .obligations
+            .saturating_add(second.obligations)
+            .saturating_add(1),
+        constructors: first
+            .constructors
+            .saturating_add(second.constructors)
+            .saturating_add(1),
+    }
+}
+
+// The size of a negation.
+fn negation(size: Size) -> Size
+    ensures { (formula : Formula) → IsSizeOf size formula → IsSizeOf result (Not formula) }
+{
+    Size {
+        has_large_sequence: size.has_large_sequence,
+        obligations: size.obligations.saturating_add(1),
+        constructors: size.constructors.saturating_add(1),
+    }
+}
+
+// The size of the claim of a directive of this kind under what is assumed.
+fn size_under(assumed: Option<Size>, kind: Kind, size: Size) -> Size
     ensures { (formulas : Option Formula) (formula : Formula) → AreSizesOf assumed formulas → IsSizeOf size formula
-        → IsSizeOf result (under formulas formula) }
+        → IsSizeOf result (under formulas kind formula) }
 {
     match assumed {
-        None => size,
-        Some(assumed) => Size {
-            has_large_sequence: assumed.has_large_sequence || size.has_large_sequence,
-            obligations: assumed
-                .obligations
-                .saturating_add(size.obligations)
-                .saturating_add(3),
-            constructors: assumed
-                .constructors
-                .saturating_add(size.constructors)
-                .saturating_add(3),
-        },
+        None => claimed(kind, size),
+        Some(assumed) => negation(conjunction(assumed, broken(kind, size))),
+    }
+}
+
+// The size of what a directive of this kind claims.
+fn claimed(kind: Kind, size: Size) -> Size
+    ensures { (formula : Formula) → IsSizeOf size formula → IsSizeOf result (claimed kind formula) }
+{
+    match kind {
+        Kind::Assert | Kind::Assume => size,
+        Kind::Cover => negation(size),
+    }
+}
+
+// The size of what breaks the claim.
+fn broken(kind: Kind, size: Size) -> Size
+    ensures { (formula : Formula) → IsSizeOf size formula → IsSizeOf result (broken kind formula) }
+{
+    match kind {
+        Kind::Assert | Kind::Assume => negation(size),
+        Kind::Cover => size,
     }
 }
