@@ -54,7 +54,8 @@ one_limits values a b one two =
     let visits : a.visits ≡ b.visits = one_given _ _ _ _ _ (omega arith) one.visits two.visits in
     let steps : a.steps ≡ b.steps = one_given _ _ _ _ _ (omega arith) one.steps two.steps in
     let reach : a.reach ≡ b.reach = sym one.reach ∙ two.reach in
-    λ i. record { depth = depth i; visits = visits i; steps = steps i; reach = reach i }
+    let covers : a.covers ≡ b.covers = sym one.covers ∙ two.covers in
+    λ i. record { depth = depth i; visits = visits i; steps = steps i; reach = reach i; covers = covers i }
 
 -- the first byte of each tells how unknown bits read
 unknown_from : ℕ → Unknown

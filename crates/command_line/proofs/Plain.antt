@@ -14,7 +14,7 @@ use Rattle.command_line.specs.Evidences.{IsEvidence}
 use Rattle.command_line.specs.Kinds.{word_of}
 use Rattle.command_line.specs.Numbers.{IsGiven}
 use Rattle.command_line.specs.Ranges.{AreInRange}
-use Rattle.command_line.specs.Plain.{ArePlain, IsPlain, certificates_in, limits_of_depth, limits_of_reach, reach_flag, recordings_in, to_check, usual_limits, with_depth, with_options, with_points, with_recordings, with_unknown}
+use Rattle.command_line.specs.Plain.{ArePlain, IsPlain, certificates_in, flags, limits_of_covers, limits_of_depth, limits_of_reach, recordings_in, to_check, usual_limits, with_depth, with_options, with_points, with_recordings, with_unknown}
 use Rattle.command_line.specs.declared.Limits.{Limits}
 use Rattle.command_line.specs.declared.Unknown.{Unknown}
 use Rattle.command_line.specs.declared.Unknown.TheVariants.{Zero, One, Refuse}
@@ -180,12 +180,14 @@ plain_netlist most a b one two =
 -- the limits, where two of the options are not given
 usual : (values : Values) (limits : Limits) → IsGiven 1 1000 (values (codes "depth")) limits.depth → values (codes "visits") ≡ Some (codes "4")
     → values (codes "steps") ≡ Some (codes "1000000") → is_true (values (codes "reach")) ≡ limits.reach
-    → AreLimits values (record usual_limits { depth = limits.depth; reach = limits.reach })
-usual values limits depth visits steps reach = record {
+    → is_true (values (codes "covers")) ≡ limits.covers
+    → AreLimits values (record usual_limits { depth = limits.depth; reach = limits.reach; covers = limits.covers })
+usual values limits depth visits steps reach covers = record {
   depth = depth;
   visits = given_text 0 16 4 _ (codes "4") visits usual_visits (omega arith) (omega arith);
   steps = given_text 1 10000000 1000000 _ (codes "1000000") steps usual_steps (omega arith) (omega arith);
   reach = reach;
+  covers = covers;
 }
 
 -- certificates alone
@@ -205,7 +207,8 @@ plain_prove most a b one two =
       (
         run_given Prove words end (codes "unit") run,
         run_given Prove words end (codes "netlist") run,
-        usual _ usual_limits depth (run_given Prove words end (codes "visits") run) (run_given Prove words end (codes "steps") run) (ap is_true (run_given Prove words end (codes "reach") run)),
+        usual _ usual_limits depth (run_given Prove words end (codes "visits") run) (run_given Prove words end (codes "steps") run) (ap is_true (run_given Prove words end (codes "reach") run))
+            (ap is_true (run_given Prove words end (codes "covers") run)),
         certified _ _ (run_given Prove words end (codes "cert") run) (run_given Prove words end (codes "vcd") run) (run_given Prove words end (codes "loops") run),
       ),
     )
@@ -228,7 +231,8 @@ plain_depth most a b number one two above below =
       (
         run_given Prove words end (codes "unit") run,
         run_given Prove words end (codes "netlist") run,
-        usual _ (limits_of_depth number) depth (run_given Prove words end (codes "visits") run) (run_given Prove words end (codes "steps") run) (ap is_true (run_given Prove words end (codes "reach") run)),
+        usual _ (limits_of_depth number) depth (run_given Prove words end (codes "visits") run) (run_given Prove words end (codes "steps") run) (ap is_true (run_given Prove words end (codes "reach") run))
+            (ap is_true (run_given Prove words end (codes "covers") run)),
         certified _ _ (run_given Prove words end (codes "cert") run) (run_given Prove words end (codes "vcd") run) (run_given Prove words end (codes "loops") run),
       ),
     )
@@ -250,7 +254,31 @@ plain_reach most a b one two =
       (
         run_given Prove words end (codes "unit") run,
         run_given Prove words end (codes "netlist") run,
-        usual _ limits_of_reach depth (run_given Prove words end (codes "visits") run) (run_given Prove words end (codes "steps") run) (ap is_true (run_given Prove words end (codes "reach") run)),
+        usual _ limits_of_reach depth (run_given Prove words end (codes "visits") run) (run_given Prove words end (codes "steps") run) (ap is_true (run_given Prove words end (codes "reach") run))
+            (ap is_true (run_given Prove words end (codes "covers") run)),
+        certified _ _ (run_given Prove words end (codes "cert") run) (run_given Prove words end (codes "vcd") run) (run_given Prove words end (codes "loops") run),
+      ),
+    )
+
+pub plain_covers : (most : ℕ) (unit netlist : List ℕ) → IsPlain unit → IsPlain netlist
+    → IsCommand most (codes "prove" ∷ unit ∷ netlist ∷ codes "--covers" ∷ []) (prove unit netlist limits_of_covers (certificates_in None))
+unfolding clap_on_literals app
+plain_covers most a b one two =
+    let on_flag = codes "--covers" ∷ [] in
+    let words = a ∷ b ∷ on_flag in
+    let first = behind Prove start a in
+    let second = behind Prove first b in
+    let end = behind_any Prove second (codes "--covers") in
+    let run = word_then Prove start.held 1 end a (b ∷ on_flag) one refl
+    (word_then Prove first.held 2 end b on_flag two refl
+    (any_then Prove second end (codes "--covers") [] refl (ends Prove end))) in
+    let depth = given_text 1 1000 20 _ (codes "20") (run_given Prove words end (codes "depth") run) usual_depth (omega arith) (omega arith) in (
+      record { named = refl; taken = run_taken Prove words end run refl },
+      (
+        run_given Prove words end (codes "unit") run,
+        run_given Prove words end (codes "netlist") run,
+        usual _ limits_of_covers depth (run_given Prove words end (codes "visits") run) (run_given Prove words end (codes "steps") run) (ap is_true (run_given Prove words end (codes "reach") run))
+            (ap is_true (run_given Prove words end (codes "covers") run)),
         certified _ _ (run_given Prove words end (codes "cert") run) (run_given Prove words end (codes "vcd") run) (run_given Prove words end (codes "loops") run),
       ),
     )
@@ -326,17 +354,18 @@ options_run a b prefix limits more end plain range rest =
 -- limits in their ranges are those that their decimal forms say
 limits_given : (values : Values) (limits : Limits) → AreInRange limits → values (codes "depth") ≡ Some (decimal limits.depth)
     → values (codes "visits") ≡ Some (decimal limits.visits) → values (codes "steps") ≡ Some (decimal limits.steps)
-    → is_true (values (codes "reach")) ≡ limits.reach → AreLimits values limits
-limits_given values limits range depth visits steps reach = record {
+    → is_true (values (codes "reach")) ≡ limits.reach → is_true (values (codes "covers")) ≡ limits.covers → AreLimits values limits
+limits_given values limits range depth visits steps reach covers = record {
   depth = given_number 1 1000 limits.depth _ depth range.some_depth range.depth;
   visits = given_number 0 16 limits.visits _ visits (omega arith) range.visits;
   steps = given_number 1 10000000 limits.steps _ steps range.some_steps range.steps;
   reach = reach;
+  covers = covers;
 }
 
--- the flag has no range
-range_with : (limits : Limits) (reach : Bool) → AreInRange limits → AreInRange (record limits { reach = reach })
-range_with limits reach range = record {
+-- flags have no range
+range_with : (limits : Limits) (reach covers : Bool) → AreInRange limits → AreInRange (record limits { reach = reach; covers = covers })
+range_with limits reach covers range = record {
   some_depth = range.some_depth;
   depth = range.depth;
   visits = range.visits;
@@ -344,41 +373,76 @@ range_with limits reach range = record {
   steps = range.steps;
 }
 
-options_with : (most : ℕ) (unit netlist prefix : List ℕ) (limits : Limits) (reach : Bool) → ArePlain unit netlist prefix → AreInRange limits
-    → IsCommand most (with_options unit netlist (record limits { reach = reach }) prefix)
-    (prove unit netlist (record limits { reach = reach }) (certificates_in (Some prefix)))
+options_with : (most : ℕ) (unit netlist prefix : List ℕ) (limits : Limits) (reach covers : Bool) → ArePlain unit netlist prefix → AreInRange limits
+    → IsCommand most (with_options unit netlist (record limits { reach = reach; covers = covers }) prefix)
+    (prove unit netlist (record limits { reach = reach; covers = covers }) (certificates_in (Some prefix)))
 unfolding clap_on_literals app
-options_with most a b prefix limits true plain range =
-    let words = options_then a b limits prefix (reach_flag true) in
+options_with most a b prefix limits true true plain range =
+    let words = options_then a b limits prefix (flags true true) in
     let before = behind_options a b limits prefix in
-    let end = behind_any Prove before (codes "--reach") in
-    let run = options_run a b prefix limits (reach_flag true) end plain range (any_then Prove before end (codes "--reach") [] refl (ends Prove end)) in (
+    let middle = behind_any Prove before (codes "--reach") in
+    let end = behind_any Prove middle (codes "--covers") in
+    let run = options_run a b prefix limits (flags true true) end plain range (any_then Prove before end (codes "--reach") (codes "--covers" ∷ []) refl
+    (any_then Prove middle end (codes "--covers") [] refl (ends Prove end))) in (
       record { named = refl; taken = run_taken Prove words end run refl },
       (
         run_given Prove words end (codes "unit") run,
         run_given Prove words end (codes "netlist") run,
-        limits_given _ (record limits { reach = true }) (range_with limits true range) (run_given Prove words end (codes "depth") run) (run_given Prove words end (codes "visits") run)
-            (run_given Prove words end (codes "steps") run) (ap is_true (run_given Prove words end (codes "reach") run)),
+        limits_given _ (record limits { reach = true; covers = true }) (range_with limits true true range) (run_given Prove words end (codes "depth") run)
+            (run_given Prove words end (codes "visits") run) (run_given Prove words end (codes "steps") run)
+            (ap is_true (run_given Prove words end (codes "reach") run)) (ap is_true (run_given Prove words end (codes "covers") run)),
         certified _ _ (run_given Prove words end (codes "cert") run) (run_given Prove words end (codes "vcd") run) (run_given Prove words end (codes "loops") run),
       ),
     )
-options_with most a b prefix limits false plain range =
-    let words = options_then a b limits prefix [] in
-    let end = behind_options a b limits prefix in
-    let run = options_run a b prefix limits [] end plain range (ends Prove end) in (
+options_with most a b prefix limits true false plain range =
+    let words = options_then a b limits prefix (flags true false) in
+    let before = behind_options a b limits prefix in
+    let end = behind_any Prove before (codes "--reach") in
+    let run = options_run a b prefix limits (flags true false) end plain range (any_then Prove before end (codes "--reach") [] refl (ends Prove end)) in (
       record { named = refl; taken = run_taken Prove words end run refl },
       (
         run_given Prove words end (codes "unit") run,
         run_given Prove words end (codes "netlist") run,
-        limits_given _ (record limits { reach = false }) (range_with limits false range) (run_given Prove words end (codes "depth") run) (run_given Prove words end (codes "visits") run)
-            (run_given Prove words end (codes "steps") run) (ap is_true (run_given Prove words end (codes "reach") run)),
+        limits_given _ (record limits { reach = true; covers = false }) (range_with limits true false range) (run_given Prove words end (codes "depth") run)
+            (run_given Prove words end (codes "visits") run) (run_given Prove words end (codes "steps") run)
+            (ap is_true (run_given Prove words end (codes "reach") run)) (ap is_true (run_given Prove words end (codes "covers") run)),
+        certified _ _ (run_given Prove words end (codes "cert") run) (run_given Prove words end (codes "vcd") run) (run_given Prove words end (codes "loops") run),
+      ),
+    )
+options_with most a b prefix limits false true plain range =
+    let words = options_then a b limits prefix (flags false true) in
+    let before = behind_options a b limits prefix in
+    let end = behind_any Prove before (codes "--covers") in
+    let run = options_run a b prefix limits (flags false true) end plain range (any_then Prove before end (codes "--covers") [] refl (ends Prove end)) in (
+      record { named = refl; taken = run_taken Prove words end run refl },
+      (
+        run_given Prove words end (codes "unit") run,
+        run_given Prove words end (codes "netlist") run,
+        limits_given _ (record limits { reach = false; covers = true }) (range_with limits false true range) (run_given Prove words end (codes "depth") run)
+            (run_given Prove words end (codes "visits") run) (run_given Prove words end (codes "steps") run)
+            (ap is_true (run_given Prove words end (codes "reach") run)) (ap is_true (run_given Prove words end (codes "covers") run)),
+        certified _ _ (run_given Prove words end (codes "cert") run) (run_given Prove words end (codes "vcd") run) (run_given Prove words end (codes "loops") run),
+      ),
+    )
+options_with most a b prefix limits false false plain range =
+    let words = options_then a b limits prefix (flags false false) in
+    let before = behind_options a b limits prefix in
+    let end = before in
+    let run = options_run a b prefix limits (flags false false) end plain range (ends Prove end) in (
+      record { named = refl; taken = run_taken Prove words end run refl },
+      (
+        run_given Prove words end (codes "unit") run,
+        run_given Prove words end (codes "netlist") run,
+        limits_given _ (record limits { reach = false; covers = false }) (range_with limits false false range) (run_given Prove words end (codes "depth") run)
+            (run_given Prove words end (codes "visits") run) (run_given Prove words end (codes "steps") run)
+            (ap is_true (run_given Prove words end (codes "reach") run)) (ap is_true (run_given Prove words end (codes "covers") run)),
         certified _ _ (run_given Prove words end (codes "cert") run) (run_given Prove words end (codes "vcd") run) (run_given Prove words end (codes "loops") run),
       ),
     )
 
 pub plain_options : (most : ℕ) (unit netlist prefix : List ℕ) (limits : Limits) → ArePlain unit netlist prefix → AreInRange limits
     → IsCommand most (with_options unit netlist limits prefix) (prove unit netlist limits (certificates_in (Some prefix)))
-plain_options most a b prefix limits plain range = options_with most a b prefix limits limits.reach plain range
+plain_options most a b prefix limits plain range = options_with most a b prefix limits limits.reach limits.covers plain range
 
 pub plain_check : (most : ℕ) (unit netlist certificate : List ℕ) (number : ℕ) → ArePlain unit netlist certificate → 1 ≤ number
     → number < 2 ^ 32 → IsCommand most (to_check unit netlist number certificate) (check unit netlist number certificate)
@@ -440,7 +504,8 @@ plain_recordings most a b prefix number plain some most_loops =
       (
         run_given Prove words end (codes "unit") run,
         run_given Prove words end (codes "netlist") run,
-        usual _ usual_limits depth (run_given Prove words end (codes "visits") run) (run_given Prove words end (codes "steps") run) (ap is_true (run_given Prove words end (codes "reach") run)),
+        usual _ usual_limits depth (run_given Prove words end (codes "visits") run) (run_given Prove words end (codes "steps") run) (ap is_true (run_given Prove words end (codes "reach") run))
+            (ap is_true (run_given Prove words end (codes "covers") run)),
         record {
           cert = run_given Prove words end (codes "cert") run;
           vcd = run_given Prove words end (codes "vcd") run;

@@ -22,7 +22,7 @@ with_points unit recording unknown = codes "wave" ∷ unit ∷ recording ∷ cod
 
 -- the limits where no option is given
 abbrev pub usual_limits : Limits
-usual_limits = record { depth = 20; visits = 4; steps = 1000000; reach = false }
+usual_limits = record { depth = 20; visits = 4; steps = 1000000; reach = false; covers = false }
 
 abbrev pub limits_of_depth : ℕ → Limits
 limits_of_depth number = record usual_limits { depth = number }
@@ -31,20 +31,27 @@ limits_of_depth number = record usual_limits { depth = number }
 abbrev pub limits_of_reach : Limits
 limits_of_reach = record usual_limits { reach = true }
 
--- the flag, where it is to be given
-abbrev pub reach_flag : Bool → List (List ℕ)
-reach_flag true = codes "--reach" ∷ []
-reach_flag false = []
+-- the limits where `--covers` alone is given
+abbrev pub limits_of_covers : Limits
+limits_of_covers = record usual_limits { covers = true }
+
+-- the flags that are to be given
+abbrev pub flags : Bool → Bool → List (List ℕ)
+flags true true = codes "--reach" ∷ codes "--covers" ∷ []
+flags true false = codes "--reach" ∷ []
+flags false true = codes "--covers" ∷ []
+flags false false = []
 
 -- `prove UNIT NETLIST --depth N`
 abbrev pub with_depth : List ℕ → List ℕ → ℕ → List (List ℕ)
 with_depth unit netlist number = codes "prove" ∷ unit ∷ netlist ∷ codes "--depth" ∷ decimal number ∷ []
 
--- `prove --cert PREFIX --steps N --visits N UNIT --depth N NETLIST`, and behind it `--reach` where the limits have it
+-- `prove --cert PREFIX --steps N --visits N UNIT --depth N NETLIST`, and behind it `--reach` and `--covers` where the limits
+-- have them
 abbrev pub with_options : List ℕ → List ℕ → Limits → List ℕ → List (List ℕ)
 with_options unit netlist limits prefix =
     codes "prove" ∷ codes "--cert" ∷ prefix ∷ codes "--steps" ∷ decimal limits.steps ∷ codes "--visits"
-    ∷ decimal limits.visits ∷ unit ∷ codes "--depth" ∷ decimal limits.depth ∷ netlist ∷ reach_flag limits.reach
+    ∷ decimal limits.visits ∷ unit ∷ codes "--depth" ∷ decimal limits.depth ∷ netlist ∷ flags limits.reach limits.covers
 
 -- certificates alone, where there is a prefix for them
 abbrev pub certificates_in : Option (List ℕ) → Wanted

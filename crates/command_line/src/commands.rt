@@ -17,7 +17,7 @@ use clap::ArgMatches;
 /// The largest seed.
 const MOST_SEED: u32 = 0x7fff_ffff;
 
-/// The largest number of an assertion.
+/// The largest number of a directive.
 const MOST_NUMBER: u32 = 0xffff_ffff;
 
 /// The largest depth of a proof.
@@ -181,5 +181,6 @@ fn limits_of(matches: &ArgMatches) -> Option<Limits>
         visits,
         steps: u64::from(steps),
         reach: is_set(matches, "reach"),
+        covers: is_set(matches, "covers"),
     })
 }

@@ -76,6 +76,7 @@ pub fn args_of<'a>(alloc: Global, kind: Kind) -> Result<Vec<Arg<'a>>, AllocError
             optional(alloc, "vcd"),
             option(alloc, "loops", "1"),
             flag(alloc, "reach"),
+            flag(alloc, "covers"),
         ]?,
         Kind::Check => vec![in alloc;
             required(alloc, "unit"),

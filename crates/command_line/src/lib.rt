@@ -6,7 +6,7 @@ ghost use Rattle.std.specs.Prelude.{◌≡◌, ◌∷◌, ◌<◌, ◌≤◌, �
 ghost use Rattle.command_line.specs.Commands.{IsCommand, IsNoCommand, IsRefused, Meaning, meaning_of, most_seed};
 ghost use Rattle.command_line.specs.Commands.Meaning.{wave as a_wave, gen as a_gen, show as a_show, show_netlist as a_netlist, prove as a_proof, check as a_check, replay as a_replay};
 ghost use Rattle.command_line.specs.Ranges.{AreInRange, IsInRange};
-ghost use Rattle.command_line.specs.Plain.{ArePlain, IsPlain, certificates_in, limits_of_depth, limits_of_reach, recordings_in, to_check, usual_limits, with_depth, with_options, with_points, with_recordings, with_unknown};
+ghost use Rattle.command_line.specs.Plain.{ArePlain, IsPlain, certificates_in, limits_of_covers, limits_of_depth, limits_of_reach, recordings_in, to_check, usual_limits, with_depth, with_options, with_points, with_recordings, with_unknown};
 
 mod commands;
 mod kinds;
@@ -50,7 +50,8 @@ pub enum Command<'a> {
         netlist: &'a str,
     },
 
-    /// Proves the assertions of a text of a netlist, or finds runs that violate them.
+    /// Proves the assertions of a text of a netlist, or finds runs that violate them; and asks its covers where the limits
+    /// say so.
     Prove {
         unit: &'a str,
         netlist: &'a str,
@@ -58,7 +59,7 @@ pub enum Command<'a> {
         evidence: Evidence<'a>,
     },
 
-    /// Checks the certificate of an assertion of a text, which are numbered from 1, over a netlist.
+    /// Checks the certificate of a directive of a text, which are numbered from 1, over a netlist.
     Check {
         unit: &'a str,
         netlist: &'a str,
@@ -77,10 +78,10 @@ pub enum Command<'a> {
 /// The files in which `prove` leaves what it found.
 #[derive(Clone, Copy, Debug, PartialEq, Eq)]
 pub struct Evidence<'a> {
-    /// The certificate of a proof of assertion N is to be written to the name `PREFIX.N.cert`, where there is a PREFIX.
+    /// The certificate of a proof of directive N is to be written to the name `PREFIX.N.cert`, where there is a PREFIX.
     pub cert: Option<&'a str>,
 
-    /// The recording of a run that violates assertion N is to be written to the name `PREFIX.N.vcd`, where there is one.
+    /// The recording of a run of directive N is to be written to the name `PREFIX.N.vcd`, where there is one.
     pub vcd: Option<&'a str>,
 
     /// How often the loop of a run is written in its recording, from 1 to 16.
@@ -100,7 +101,7 @@ pub enum Unknown {
     Refuse,
 }
 
-/// How far the search for proofs and violations goes.
+/// How far the search for proofs and violations goes, and of which directives.
 #[derive(Clone, Copy, Debug, PartialEq, Eq)]
 pub struct Limits {
     /// The most positions of a run that is looked for, from 1 to 1,000.
@@ -114,6 +115,9 @@ pub struct Limits {
 
     /// Whether clauses that hold of all that can be reached are sought too: `--reach`.
     pub reach: bool,
+
+    /// Whether covers are asked too: `--covers`.
+    pub covers: bool,
 }
 
 /// Why words give no command.
@@ -192,6 +196,7 @@ pub fn plain_words()
     ensures depth { (most : ℕ) (unit netlist : List ℕ) (depth : ℕ) → IsPlain unit → IsPlain netlist → 1 ≤ depth → depth ≤ 1000
         → IsCommand most (with_depth unit netlist depth) (a_proof unit netlist (limits_of_depth depth) (certificates_in None)) }
     ensures reach { (most : ℕ) (unit netlist : List ℕ) → IsPlain unit → IsPlain netlist → IsCommand most (codes "prove" ∷ unit ∷ netlist ∷ codes "--reach" ∷ []) (a_proof unit netlist limits_of_reach (certificates_in None)) }
+    ensures covers { (most : ℕ) (unit netlist : List ℕ) → IsPlain unit → IsPlain netlist → IsCommand most (codes "prove" ∷ unit ∷ netlist ∷ codes "--covers" ∷ []) (a_proof unit netlist limits_of_covers (certificates_in None)) }
     ensures options { (most : ℕ) (unit netlist cert : List ℕ) (limits : Limits) → ArePlain unit netlist cert → AreInRange limits
         → IsCommand most (with_options unit netlist limits cert) (a_proof unit netlist limits (certificates_in (Some cert))) }
     ensures recordings { (most : ℕ) (unit netlist vcd : List ℕ) (loops : ℕ) → ArePlain unit netlist vcd → 1 ≤ loops → loops ≤ 16

@@ -1,6 +1,6 @@
 -- From the stage of a command, or from words that are none, to the answer of a run.
 use Rattle.std.proofs.Common.{◌≡◌, refl, sym, ◌∙◌, ap, subst, ℕ, Bool, List, [], ◌∷◌, Some, inl, inr}
-use Rattle.std.specs.Prelude.{◌≢◌, ◌⊎◌, Result, Ok, Err, IfOk, IfErr}
+use Rattle.std.specs.Prelude.{◌≢◌, ◌⊎◌, Result, Ok, Err, IfOk, IfErr, is_some}
 use Rattle.command_line.specs.Commands.{Meaning}
 use Rattle.command_line.specs.Commands.Meaning.{wave, show, show_netlist, gen, prove, check, replay}
 use Rattle.command_line.specs.Evidences.{Wanted}
@@ -8,7 +8,6 @@ use Rattle.command_line.specs.declared.Unknown.{Unknown}
 use Rattle.command_line.specs.declared.Limits.{Limits}
 use Rattle.psl_base.specs.Shelf.{Contents, ShelfState}
 use Rattle.commands.proofs.Staging.{cause-moved, same_state, none-unread}
-use Rattle.cert_theory.specs.declared.answer.CertAnswer.{CertAnswer}
 use Rattle.commands.specs.Checks.{CheckStage}
 use Rattle.commands.specs.Commands.{CommandStage, FirstRefusal, IsCommand, IsNoCommand, IsNamed, IsOfCommand, IsOutcomeOf, MeaningStage, MeaningOutcome, files_of, findings_outcome, replayed_outcome, wave_outcome}
 use Rattle.commands.specs.Endings.{Explained, IsUnwritten}
@@ -21,6 +20,7 @@ use Rattle.commands.specs.Rows.{OfWords, OfReading, OfWriting, OfMemory, cause_o
 use Rattle.commands.specs.Stages.{Then, OfTold, Gives, IsOfFiles, IsOfFilesOrMemory, IsStage, SpeaksOfFile}
 use Rattle.commands.specs.Waves.{WaveStage, ShowStage, ShowNetlistStage, unknown_of}
 use Rattle.commands.specs.declared.finish.Planned.{Planned}
+use Rattle.commands.specs.declared.outcome.CheckedCert.{CheckedCert}
 use Rattle.commands.specs.declared.outcome.Fault.{Fault}
 use Rattle.commands.specs.declared.outcome.Line.{Line}
 use Rattle.commands.specs.declared.outcome.Outcome.{Outcome}
@@ -157,10 +157,10 @@ words-answer words old fault e none = record {
 -- the commands
 
 pub wave-answers : (words : List (List ℕ)) (unit recording : List ℕ) (unknown : Unknown) (points : Bool) (old new : ShelfState) (judged : Judgement)
-    → IsCommand words (wave unit recording unknown points)
+    → is_some judged.settled ≡ points → IsCommand words (wave unit recording unknown points)
     → IsStage (unit ∷ recording ∷ []) (WaveStage unit recording (unknown_of unknown) points) old new (Ok judged) → IsAnswer itself words old new (Ok (wave_outcome judged))
-wave-answers words unit recording unknown points old new judged is s =
-    stage-answers words (wave unit recording unknown points) is old new (WaveStage unit recording (unknown_of unknown) points) wave_outcome (λ files result h. h) judged (judged, refl) (λ e. cc) s
+wave-answers words unit recording unknown points old new judged asked is s =
+    stage-answers words (wave unit recording unknown points) is old new (WaveStage unit recording (unknown_of unknown) points) wave_outcome (λ files result h. h) judged (judged, refl, asked) (λ e. cc) s
 
 pub wave-refuses : (words : List (List ℕ)) (unit recording : List ℕ) (unknown : Unknown) (points : Bool) (old new : ShelfState) (fault : Fault)
     → IsCommand words (wave unit recording unknown points)
@@ -198,7 +198,7 @@ pub proof-refuses : (words : List (List ℕ)) (unit netlist : List ℕ) (limits 
 proof-refuses words unit netlist limits wanted old new fault is s =
     stage-refuses words (prove unit netlist limits wanted) is old new (ProveStage unit netlist limits wanted) (findings_outcome limits) (λ files result h. h) fault s
 
-pub check-answers : (words : List (List ℕ)) (unit netlist : List ℕ) (number : ℕ) (certificate : List ℕ) (old new : ShelfState) (answer : CertAnswer)
+pub check-answers : (words : List (List ℕ)) (unit netlist : List ℕ) (number : ℕ) (certificate : List ℕ) (old new : ShelfState) (answer : CheckedCert)
     → IsCommand words (check unit netlist number certificate)
     → IsStage (unit ∷ netlist ∷ certificate ∷ []) (CheckStage unit netlist number certificate) old new (Ok answer) → IsAnswer itself words old new (Ok (Checked number answer))
 check-answers words unit netlist number certificate old new answer is s =

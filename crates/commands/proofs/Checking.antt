@@ -1,12 +1,12 @@
 -- A certificate is read behind the text and the netlist.
 use Rattle.std.proofs.Common.{ℕ, List, [], ◌∷◌, Ok, Err, inl, inr}
 use Rattle.std.specs.Prelude.{Result}
-use Rattle.cert_theory.specs.declared.answer.CertAnswer.{CertAnswer}
 use Rattle.psl_base.specs.Shelf.{ShelfState}
 use Rattle.commands.proofs.Composing.{stage-among, stage-first, stage-then}
 use Rattle.commands.specs.Checks.{CertStage, CheckStage}
 use Rattle.commands.specs.Stages.{IsOfFiles, IsStage}
 use Rattle.commands.specs.Waves.{SubjectStage}
+use Rattle.commands.specs.declared.outcome.CheckedCert.{CheckedCert}
 use Rattle.commands.specs.declared.outcome.Fault.{Fault}
 use Rattle.commands.specs.declared.subject.Subject.{Subject}
 
@@ -23,7 +23,7 @@ module _ (unit netlist : List ℕ) (number : ℕ) (certificate : List ℕ) where
   asks-first old new fault s =
       stage-first (unit ∷ netlist ∷ []) (certificate ∷ []) (SubjectStage unit netlist) (CertStage unit netlist number certificate) old new fault s
 
-  pub asks-then : (old mid new : ShelfState) (subject : Subject) (result : Result CertAnswer Fault)
+  pub asks-then : (old mid new : ShelfState) (subject : Subject) (result : Result CheckedCert Fault)
       → IsStage (unit ∷ netlist ∷ []) (SubjectStage unit netlist) old mid (Ok subject)
       → IsStage (unit ∷ netlist ∷ certificate ∷ []) (CertStage unit netlist number certificate subject) mid new result
       → IsStage (unit ∷ netlist ∷ certificate ∷ []) (CheckStage unit netlist number certificate) old new result

@@ -1,7 +1,7 @@
 -- The directives of a text are numbered from 1.
 use Rattle.std.proofs.Common.{◌≡◌, ap, ℕ, zero, suc, ◌+◌, List, [], ◌∷◌, map, Some, arith}
 use Rattle.std.specs.Prelude.{slice_get}
-use Rattle.findings.specs.Assertions.{AreNumbered}
+use Rattle.findings.specs.Asked.{AreNumbered}
 use Rattle.psl_layer_theory.specs.Answers.{IsUnit, Numbered, directive_of, numbered}
 use Rattle.psl_layer_theory.specs.Directives.{Asked, kernel}
 use Rattle.psl_grammar.specs.declared.tree.UnitTree.{UnitTree}

@@ -42,7 +42,6 @@ use Rattle.commands.proofs.SameOwed.{are-within, same-first-refused}
 use Rattle.commands.proofs.SameUnits.{SameUnit, all-judgeable, same-first, same-said}
 use Rattle.commands.proofs.Unknowns.{one-known}
 use Rattle.commands.specs.Diagnostics.{lex_diagnostic, parse_diagnostic, layer_diagnostic, judge_diagnostic, vcd_diagnostic, blif_diagnostic}
-use Rattle.cert_theory.specs.declared.answer.CertAnswer.{CertAnswer}
 use Rattle.commands.specs.Checks.{CertReading, CertStage, CheckStage}
 use Rattle.commands.specs.Commands.{CommandStage, FirstRefusal, MeaningStage, findings_outcome, replayed_outcome, wave_outcome}
 use Rattle.commands.specs.Faults.{missing_in, of_none}
@@ -58,6 +57,7 @@ use Rattle.commands.specs.Waves.{LinesReading, ShowStage, ShowNetlistStage, line
 use Rattle.commands.specs.Waves.{SubjectReading, SubjectStage, subject_of}
 use Rattle.commands.specs.declared.inputs.Circuit.{Circuit}
 use Rattle.commands.specs.declared.inputs.Inputs.{Inputs}
+use Rattle.commands.specs.declared.outcome.CheckedCert.{CheckedCert}
 use Rattle.commands.specs.declared.outcome.Fault.{Fault}
 use Rattle.commands.specs.declared.outcome.Line.{Line}
 use Rattle.commands.specs.declared.outcome.Outcome.{Outcome}
@@ -313,11 +313,11 @@ one-found-of : (unit netlist : List ℕ) (limits : Limits) (wanted : Wanted) (de
     (FoundReading unit netlist limits wanted (record { netlist = design; directives = v }))
 one-found-of unit netlist limits wanted design u v s (Ok a) (Ok b) h k = tt
 one-found-of unit netlist limits wanted design u v s (Ok a) (Err g) h (c, first, _) =
-    absurd (within_or_not design limits.depth v c (are-within design limits.depth u v s h.0) first)
+    absurd (within_or_not design limits.depth limits.covers v c (are-within design limits.depth limits.covers u v s h.0) first)
 one-found-of unit netlist limits wanted design u v s (Err f) (Ok b) (c, first, _) k =
-    absurd (within_or_not design limits.depth v c k.0 (same-first-refused design limits.depth u v s c first))
+    absurd (within_or_not design limits.depth limits.covers v c k.0 (same-first-refused design limits.depth limits.covers u v s c first))
 one-found-of unit netlist limits wanted design u v s (Err f) (Err g) (c, first, e) (d, first', e') =
-    e ∙ ap (size_fault unit netlist) (one_size_fault design limits.depth v c d (same-first-refused design limits.depth u v s c first) first') ∙ sym e'
+    e ∙ ap (size_fault unit netlist) (one_size_fault design limits.depth limits.covers v c d (same-first-refused design limits.depth limits.covers u v s c first) first') ∙ sym e'
 
 one-found : (unit netlist : List ℕ) (limits : Limits) (wanted : Wanted) (i j : Subject) → SameSubject i j
     → Agree (Any-two {A = Found}) (FoundReading unit netlist limits wanted i) (FoundReading unit netlist limits wanted j)
@@ -328,16 +328,16 @@ one-found unit netlist limits wanted i j same =
 -- certificates
 
 one-checked : (unit netlist : List ℕ) (number : ℕ) (i j : Subject) → SameSubject i j → (bytes : List ℕ)
-    → Agree (Any-two {A = CertAnswer}) (CertReading unit netlist number i bytes) (CertReading unit netlist number j bytes)
+    → Agree (Any-two {A = CheckedCert}) (CertReading unit netlist number i bytes) (CertReading unit netlist number j bytes)
 one-checked unit netlist number i j same bytes =
-    subst (λ (d : Design). Agree (Any-two {A = CertAnswer}) (CertReading unit netlist number i bytes)
+    subst (λ (d : Design). Agree (Any-two {A = CheckedCert}) (CertReading unit netlist number i bytes)
     (CertReading unit netlist number (record { netlist = d; directives = j.directives }) bytes)) same.netlists
     (one-checked-of unit netlist number i.netlist bytes i.directives j.directives same.directives)
 
 one-cert : (unit netlist : List ℕ) (number : ℕ) (certificate : List ℕ) (files : Contents) (i j : Subject) → SameSubject i j
-    → Agree (Any-two {A = CertAnswer}) (CertStage unit netlist number certificate i files) (CertStage unit netlist number certificate j files)
+    → Agree (Any-two {A = CheckedCert}) (CertStage unit netlist number certificate i files) (CertStage unit netlist number certificate j files)
 one-cert unit netlist number certificate files i j same =
-    agree-content (Any-two {A = CertAnswer}) (CertReading unit netlist number i) (CertReading unit netlist number j) certificate (files certificate)
+    agree-content (Any-two {A = CheckedCert}) (CertReading unit netlist number i) (CertReading unit netlist number j) certificate (files certificate)
     (one-checked unit netlist number i j same)
 
 -- replays
@@ -429,8 +429,8 @@ one-meaning (prove unit netlist limits wanted) files =
     one-outcome (Any-two {A = Found}) (ProveStage unit netlist limits wanted) (findings_outcome limits) files
     (one-loaded SameSubject (SubjectStage unit netlist) (FoundReading unit netlist limits wanted) files (one-subject unit netlist files) (one-found unit netlist limits wanted))
 one-meaning (check unit netlist number certificate) files =
-    one-outcome (Any-two {A = CertAnswer}) (CheckStage unit netlist number certificate) (Checked number) files
-    (agree-then SameSubject (Any-two {A = CertAnswer}) (SubjectStage unit netlist files) (SubjectStage unit netlist files)
+    one-outcome (Any-two {A = CheckedCert}) (CheckStage unit netlist number certificate) (Checked number) files
+    (agree-then SameSubject (Any-two {A = CheckedCert}) (SubjectStage unit netlist files) (SubjectStage unit netlist files)
     (λ i. CertStage unit netlist number certificate i files) (λ j. CertStage unit netlist number certificate j files)
     (one-subject unit netlist files) (one-cert unit netlist number certificate files))
 one-meaning (replay unit netlist name) files =

@@ -90,6 +90,7 @@ missing-fails name design recording cause fault missing told = record { gives = 
     by (inl e) = inl e
     by (inr (signal, is, e)) = inr record {
       cause = missing-cause name signal fault e;
-      file = inl (of-text name fault (missing-cause name signal fault e) (ap (λ (f : Fault). f.file) e));
+      file = inl (of-text name fault (missing-cause name signal fault e) (ap (λ (f : Fault). f.file) e)
+          (λ other. absurd (other (ap (λ (f : Fault). f.reason) e))));
       refusal = (signal, moved-missing design recording cause signal is missing, e);
     }

@@ -4,7 +4,7 @@ use Rattle.std.proofs.Common.{◌≡◌, refl, sym, ◌∙◌, ap, subst, ℕ, �
 use Rattle.std.specs.Prelude.{◌≢◌}
 use Rattle.std.proofs.lemmas.Option.{same_Some}
 use Rattle.alternating_theory.specs.Obligations.{Automaton}
-use Rattle.cert_check.specs.Claims.{asked_of, directive_of as directive_at, is_some_assertion, queries_by, queries_for, queries_of}
+use Rattle.cert_check.specs.Claims.{asked_of, directive_of as directive_at, has_claim, queries_by, queries_for, queries_of}
 use Rattle.cert_check.specs.Limits.{ClausesIn, FitsLimits, HasCause, IsFault, IsFaultBehind, IsLarge, IsLargeIn}
 use Rattle.cert_check.specs.declared.fault.CertFault.{CertFault}
 use Rattle.cert_check.specs.declared.fault.CertFault.TheVariants.{SereTooLarge, AutomatonTooLarge, UnrollTooLarge, FormulaTooLarge, NoMemory}
@@ -14,11 +14,10 @@ use Rattle.cert_theory.specs.Sections.{Queries}
 use Rattle.cert_theory.specs.Texts.{HasClauses}
 use Rattle.cert_theory.specs.declared.header.Form.{Form}
 use Rattle.cert_theory.specs.declared.header.Form.TheVariants.{Windowed, Clausal}
-use Rattle.cert_theory.specs.declared.answer.CertAnswer.{CertAnswer}
 use Rattle.cert_theory.specs.declared.header.Asked.{Asked}
 use Rattle.cert_theory.specs.declared.header.Header.{Header}
 use Rattle.netlist.specs.Design.{Design}
-use Rattle.owed.specs.Owed.{is_assertion}
+use Rattle.owed.specs.Owed.{is_asked}
 use Rattle.owed.specs.Violations.{violation_of}
 use Rattle.psl_layer_theory.specs.Answers.{Numbered, directive_of}
 use Rattle.psl_tree.specs.Trees.{Formula}
@@ -30,6 +29,7 @@ use Rattle.commands.proofs.SameOwed.{same-kind, same-owed, same-violation}
 use Rattle.commands.proofs.SameUnits.{SameUnit, heads, none-some, same-place, tails}
 use Rattle.commands.specs.Checks.{CertReading, IsUnchecked, cert_fault}
 use Rattle.commands.specs.Faults.{fault_in}
+use Rattle.commands.specs.declared.outcome.CheckedCert.{CheckedCert}
 use Rattle.commands.specs.declared.outcome.Fault.{Fault}
 use Rattle.commands.specs.declared.reason.Reason.TheVariants as reasons
 use Rattle.commands.specs.declared.subject.Subject.{Subject}
@@ -117,16 +117,16 @@ same-found (d ∷ u) (e ∷ v) number s =
     by true same rest = same
     by false same rest = rest
 
-same-assertion : (o p : Option Directive) → SameFound o p → is_some_assertion o ≡ is_some_assertion p
-same-assertion None None s = refl
-same-assertion (Some d) (Some e) s = ap is_assertion (same-kind d e s)
-same-assertion None (Some e) s = absurd s
-same-assertion (Some d) None s = absurd s
+same-claim : (o p : Option Directive) → SameFound o p → has_claim o ≡ has_claim p
+same-claim None None s = refl
+same-claim (Some d) (Some e) s = ap (is_asked true) (same-kind d e s)
+same-claim None (Some e) s = absurd s
+same-claim (Some d) None s = absurd s
 
 pub same-asked : (u v : List Directive) (number : ℕ) → SameUnit u v → asked_of u number ≡ asked_of v number
 same-asked u v number s =
-    let same = same-assertion (directive_at u number) (directive_at v number) (same-found u v number s) in
-    ap (λ (b : Bool). record { number = number; is_assertion = b }) same
+    let same = same-claim (directive_at u number) (directive_at v number) (same-found u v number s) in
+    ap (λ (b : Bool). record { number = number; has_claim = b }) same
 
 -- the directive of a number in the other text
 other-found : (o p : Option Directive) (d : Directive) → SameFound o p → o ≡ Some d → (e : Directive) × (p ≡ Some e) × (directive_of d ≡ directive_of e)
@@ -195,16 +195,16 @@ module _ (design : Design) (u v : List Directive) (s : SameUnit u v) where
 
 -- a text is checked, or one limit is told
 
-abbrev Any-two : CertAnswer → CertAnswer → Type 0
+abbrev Any-two : CheckedCert → CheckedCert → Type 0
 Any-two a b = Unit {0}
 
 abbrev of-design : Design → List Directive → Subject
 of-design design unit = record { netlist = design; directives = unit }
 
 module _ (unit netlist : List ℕ) (number : ℕ) (design : Design) (text : List ℕ) where
-  not-unchecked : (u v : List Directive) → SameUnit u v → (answer : CertAnswer) (fault : Fault)
-      → CertReading unit netlist number (of-design design u) text (Ok answer) → IsUnchecked unit netlist number (of-design design v) text fault → ⊥
-  not-unchecked u v s answer fault h k =
+  not-unchecked : (u v : List Directive) → SameUnit u v → (checked : CheckedCert) (fault : Fault)
+      → CertReading unit netlist number (of-design design u) text (Ok checked) → IsUnchecked unit netlist number (of-design design v) text fault → ⊥
+  not-unchecked u v s checked fault h k =
       let cause = moved-cause design v u (sym s) number text k.limit (cause-of design v number text k.limit k.is_limit k.passed) in
       fits-or-not design u cause.directive cause.header (ClausesIn design u number text cause.header) k.limit k.is_limit (h.fits cause.header cause.directive cause.has cause.is) cause.fault_is
 

@@ -1,6 +1,6 @@
--- Of directives that are equal but for where the program keeps their parts, the same is owed, and the same assertion is
+-- Of directives that are equal but for where the program keeps their parts, the same is owed, and the same directive is
 -- the first that is too large.
-use Rattle.std.proofs.Common.{◌≡◌, refl, sym, ◌∙◌, ap, subst, ℕ, cond, List, [], ◌∷◌, take, None}
+use Rattle.std.proofs.Common.{◌≡◌, refl, sym, ◌∙◌, ap, subst, ℕ, Bool, cond, List, [], ◌∷◌, take, None}
 use Rattle.std.specs.Prelude.{All}
 use Rattle.std.proofs.lemmas.List.Elements.{All-nil, All-cons, All-head, All-tail}
 use Rattle.alternating_theory.specs.Built.{built}
@@ -9,7 +9,7 @@ use Rattle.findings.specs.Sizes.{AreWithin, IsFirstRefused, IsRefused, IsWithin}
 use Rattle.findings.specs.declared.sizes.SizeFault.{SizeFault}
 use Rattle.findings.specs.declared.sizes.SizeFault.TheVariants as sizes
 use Rattle.netlist.specs.Design.{Design}
-use Rattle.owed.specs.Owed.{assumptions, conjunction, is_assertion, is_assumption, plain_owed, under}
+use Rattle.owed.specs.Owed.{assumptions, conjunction, is_asked, is_assumption, plain_owed, under}
 use Rattle.owed.specs.Violations.{violation_of}
 use Rattle.owed.specs.Sized as sized
 use Rattle.owed.specs.Sized.{IsSized}
@@ -39,27 +39,28 @@ same-assumptions (d ∷ u) (e ∷ v) s =
 
 pub same-owed : (u v : List Directive) (d e : Directive) → SameUnit u v → directive_of d ≡ directive_of e → plain_owed u d ≡ plain_owed v e
 same-owed u v d e s same =
-    ap (λ (fs : List Formula). plain (under (conjunction fs) (formula_of d.formula)) None) (same-assumptions u v s)
-    ∙ ap (λ (f : Formula). plain (under (conjunction (assumptions v)) f) None) (same-formula d e same)
+    ap (λ (fs : List Formula). plain (under (conjunction fs) d.kind (formula_of d.formula)) None) (same-assumptions u v s)
+    ∙ ap (λ (k : Kind). plain (under (conjunction (assumptions v)) k (formula_of d.formula)) None) (same-kind d e same)
+    ∙ ap (λ (f : Formula). plain (under (conjunction (assumptions v)) e.kind f) None) (same-formula d e same)
 
 -- so are the words that violate it
 pub same-violation : (u v : List Directive) (d e : Directive) → SameUnit u v → directive_of d ≡ directive_of e → violation_of u d ≡ violation_of v e
 same-violation u v d e s same = ap (λ (f : Formula). opposite_automaton (built f)) (same-owed u v d e s same)
 
-module _ (design : Design) (depth : ℕ) (u v : List Directive) (s : SameUnit u v) where
-  same-within : (d e : Directive) → directive_of d ≡ directive_of e → IsWithin design depth u d → IsWithin design depth v e
+module _ (design : Design) (depth : ℕ) (covers : Bool) (u v : List Directive) (s : SameUnit u v) where
+  same-within : (d e : Directive) → directive_of d ≡ directive_of e → IsWithin design depth covers u d → IsWithin design depth covers v e
   same-within d e same w is =
-      subst (IsSized design depth) (same-owed u v d e s same) (w (ap is_assertion (same-kind d e same) ∙ is))
+      subst (IsSized design depth) (same-owed u v d e s same) (w (ap (is_asked covers) (same-kind d e same) ∙ is))
 
-  all-within : (us vs : List Directive) → SameUnit us vs → All (IsWithin design depth u) us → All (IsWithin design depth v) vs
-  all-within [] [] same a = All-nil (IsWithin design depth v)
+  all-within : (us vs : List Directive) → SameUnit us vs → All (IsWithin design depth covers u) us → All (IsWithin design depth covers v) vs
+  all-within [] [] same a = All-nil (IsWithin design depth covers v)
   all-within [] (e ∷ vs) same a = absurd (none-some e vs same)
   all-within (d ∷ us) [] same a = absurd (none-some d us (sym same))
   all-within (d ∷ us) (e ∷ vs) same a =
-      All-cons (IsWithin design depth v) e vs (same-within d e (heads d e us vs same) (All-head (IsWithin design depth u) d us a))
-      (all-within us vs (tails d e us vs same) (All-tail (IsWithin design depth u) d us a))
+      All-cons (IsWithin design depth covers v) e vs (same-within d e (heads d e us vs same) (All-head (IsWithin design depth covers u) d us a))
+      (all-within us vs (tails d e us vs same) (All-tail (IsWithin design depth covers u) d us a))
 
-  pub are-within : AreWithin design depth u → AreWithin design depth v
+  pub are-within : AreWithin design depth covers u → AreWithin design depth covers v
   are-within a = all-within u v s a
 
   same-refused : (d e : Directive) (fault : SizeFault) → directive_of d ≡ directive_of e → IsRefused design depth u d fault → IsRefused design depth v e fault
@@ -73,13 +74,13 @@ module _ (design : Design) (depth : ℕ) (u v : List Directive) (s : SameUnit u 
       subst (λ (f : Formula). sized.IsRefused design depth f limits.UnrollTooLarge) (same-owed u v d e s same) r
   same-refused d e sizes.NoMemory same r = r
 
-  pub same-first-refused : (fault : SizeFault) → IsFirstRefused design depth u fault → IsFirstRefused design depth v fault
+  pub same-first-refused : (fault : SizeFault) → IsFirstRefused design depth covers u fault → IsFirstRefused design depth covers v fault
   same-first-refused fault first =
-      let at = there first.place u v first.assertion s first.here in record {
+      let at = there first.place u v first.directive s first.here in record {
         place = first.place;
-        assertion = at.0;
+        directive = at.0;
         here = at.1;
-        is = ap is_assertion (sym (same-kind first.assertion at.0 at.2)) ∙ first.is;
+        is = ap (is_asked covers) (sym (same-kind first.directive at.0 at.2)) ∙ first.is;
         before = all-within (take first.place u) (take first.place v) (same-take first.place u v s) first.before;
-        refused = same-refused first.assertion at.0 fault at.2 first.refused;
+        refused = same-refused first.directive at.0 fault at.2 first.refused;
       }

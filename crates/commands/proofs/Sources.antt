@@ -56,7 +56,7 @@ module _ {A F : Type 0} (diagnostic : F → Diagnostic) (IsValue : List ℕ → 
           gives = tt;
           refuses = subst (λ (c : Cause). HasCause c ⊥ old new (λ files. OfFile Reading name files (Err fault))) (sym of)
               (λ files told. let k = says files told in of-content Reading name files k.0 (Err fault) k.1 k.2 (cause, k.3, other, e));
-          named = inr (inl (of-text name fault of (ap (λ (f : Fault). f.file) e)));
+          named = inr (inl (of-text name fault of (ap (λ (f : Fault). f.file) e) (λ _. ap (λ (f : Fault). f.signal) e)));
           unread = other-unread new fault (λ reads. let wrong : OfText ≡ OfReading = sym of ∙ ap cause_of reads in cc);
           quiet = tt;
           counted = counted;

@@ -9,7 +9,7 @@ use Rattle.commands.specs.Stages.{SpeaksOfFile, AndThen, Then, ToldBy, OfContent
 use Rattle.commands.specs.declared.outcome.Fault.{Fault}
 use Rattle.commands.specs.declared.reason.Diagnostic.{Diagnostic}
 use Rattle.commands.specs.declared.reason.Reason.{Reason}
-use Rattle.commands.specs.declared.reason.Reason.TheVariants.{ReadFault, TooLong, NoMemory}
+use Rattle.commands.specs.declared.reason.Reason.TheVariants.{ReadFault, TooLong, MissingSignal, NoMemory}
 
 -- a cause for a weaker refusal, seen from an earlier state with the same contents
 pub cause-moved : (cause : Cause) (W : Type 0) (old mid new : ShelfState) (P Q : Contents → Type 0) → OnlyReads old mid
@@ -91,8 +91,9 @@ pub told-cause : {F : Type 0} (name : List ℕ) (diagnostic : F → Diagnostic) 
 told-cause name diagnostic cause fault said e h =
     subst (λ (d : Diagnostic). (fault ≡ of_none NoMemory) ⊎ ((d.reason ≢ NoMemory) × (fault ≡ fault_in name d))) e h
 
-pub of-text : (name : List ℕ) (fault : Fault) → cause_of fault.reason ≡ OfText → fault.file ≡ Some name → IsOfFile name fault
-of-text name fault e file = record { reason = subst SpeaksOfFile (sym e) tt; file = file }
+pub of-text : (name : List ℕ) (fault : Fault) → cause_of fault.reason ≡ OfText → fault.file ≡ Some name
+    → (fault.reason ≢ MissingSignal → fault.signal ≡ None) → IsOfFile name fault
+of-text name fault e file signal = record { reason = subst SpeaksOfFile (sym e) tt; file = file; signal = signal }
 
 -- a fault that was told is what the reading refuses
 pub told-fails : {A F : Type 0} (name : List ℕ) (diagnostic : F → Diagnostic) (IsValue : A → Type 0) (IsFault : F → Type 0) (cause : F) (fault : Fault) (said : Diagnostic)
@@ -105,7 +106,7 @@ told-fails name diagnostic IsValue IsFault cause fault said is text e h = record
     by (inl e) = inl e
     by (inr (other, e)) =
         let of : cause_of fault.reason ≡ OfText = ap (λ (f : Fault). cause_of f.reason) e ∙ text other in
-        inr record { cause = of; file = inl (of-text name fault of (ap (λ (f : Fault). f.file) e)); refusal = (cause, is, other, e) }
+        inr record { cause = of; file = inl (of-text name fault of (ap (λ (f : Fault). f.file) e) (λ _. ap (λ (f : Fault). f.signal) e)); refusal = (cause, is, other, e) }
 
 -- one reading after the other
 module _ {A B : Type 0} (First : Result A Fault → Type 0) (Next : A → Result B Fault → Type 0) (names : List (List ℕ)) where
@@ -144,8 +145,8 @@ text-named names Refusal fault (inr t) = inr t.file
 
 pub loading-named : (name : List ℕ) (old new : ShelfState) (fault : Fault) → LoadFails name old new fault → IsOfFilesOrMemory (name ∷ []) fault
 loading-named name old new fault (for_memory e) = inl e
-loading-named name old new fault (unread e _ _) = inr (inl (subst (IsOfFile name) (sym e) record { reason = tt; file = refl }))
-loading-named name old new fault (longer e _) = inr (inl (subst (IsOfFile name) (sym e) record { reason = tt; file = refl }))
+loading-named name old new fault (unread e _ _) = inr (inl (subst (IsOfFile name) (sym e) record { reason = tt; file = refl; signal = λ _. refl }))
+loading-named name old new fault (longer e _) = inr (inl (subst (IsOfFile name) (sym e) record { reason = tt; file = refl; signal = λ _. refl }))
 
 -- which of them are of reading
 

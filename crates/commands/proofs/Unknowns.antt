@@ -35,7 +35,7 @@ module _ (unknown : Unknown) (unit name : List ℕ) (sampled : Sampled) (directi
     gives = tt;
     refuses = inr (subst IsRefused (sym e) record {
       cause = refl;
-      file = inr (inl record { reason = tt; file = refl });
+      file = inr (inl record { reason = tt; file = refl; signal = λ _. refl });
       refusal = inl (sample, first, refl);
     });
   }

@@ -10,7 +10,7 @@ use Rattle.cert_theory.specs.declared.answer.CertAnswer.TheVariants.{Passed}
 use Rattle.cert_theory.specs.declared.header.Asked.{Asked}
 use Rattle.command_line.specs.Evidences.{Wanted}
 use Rattle.command_line.specs.declared.Limits.{Limits}
-use Rattle.findings.specs.Assertions.{assertions}
+use Rattle.findings.specs.Asked.{asked}
 use Rattle.findings.specs.Entries.{AreEntries, IsEntry, IsPassedText}
 use Rattle.findings.specs.declared.entry.FindingEntry.{FindingEntry}
 use Rattle.netlist.specs.Design.{Design}
@@ -21,10 +21,11 @@ use Rattle.psl_tree.specs.declared.directive.Directive.{Directive}
 use Rattle.commands.proofs.OneAnswer.{SameSubject, one-subject}
 use Rattle.commands.proofs.SameChecks.{cause-of, fault-of, moved-cause, same-asked, same-found, same-queries}
 use Rattle.commands.proofs.SameUnits.{SameUnit}
-use Rattle.commands.specs.Checks.{CertReading, CheckStage}
+use Rattle.commands.specs.Checks.{CertReading, CheckStage, Passes}
 use Rattle.commands.specs.Provings.{ProveStage, options_of, recordings_in}
 use Rattle.commands.specs.Stages.{AndThen, OfContent}
 use Rattle.commands.specs.Waves.{CircuitStage, NetlistReading, NetlistStage, SubjectReading, SubjectStage, UnitReading, UnitStage, with_netlist}
+use Rattle.commands.specs.declared.outcome.CheckedCert.{CheckedCert}
 use Rattle.commands.specs.declared.outcome.Fault.{Fault}
 use Rattle.commands.specs.declared.prove.Found.{Found}
 use Rattle.commands.specs.declared.subject.Subject.{Subject}
@@ -72,37 +73,37 @@ module _ (design : Design) (u v : List Directive) (s : SameUnit u v) (number : �
       (same-queries design u v s (directive_at u number) (directive_at v number) (same-found u v number s))
       (subst (λ (a : Asked). IsAnswer a (queries_of design u number) text answer) (same-asked u v number s) is)
 
-passed-of : (unit netlist : List ℕ) (design : Design) (u v : List Directive) (number : ℕ) (text : List ℕ) (result : Result CertAnswer Fault) → SameUnit u v
+passed-of : (unit netlist : List ℕ) (design : Design) (u v : List Directive) (number : ℕ) (text : List ℕ) (result : Result CheckedCert Fault) → SameUnit u v
     → IsPassedText design u number text → CertReading unit netlist number (record { netlist = design; directives = v }) text result
-    → result ≡ Ok Passed
-passed-of unit netlist design u v number text (Ok answer) s passed is =
-    ap Ok (one_answer (asked_of v number) (queries_of design v number) text answer Passed is.answers
-    (same-answer design u v s number text Passed passed.passed))
+    → Passes result
+passed-of unit netlist design u v number text (Ok checked) s passed is =
+    one_answer (asked_of v number) (queries_of design v number) text checked.answer Passed is.answers
+    (same-answer design u v s number text Passed passed.passed)
 passed-of unit netlist design u v number text (Err fault) s passed is =
     let cause = moved-cause design v u (sym s) number text is.limit (cause-of design v number text is.limit is.is_limit is.passed) in
     absurd (is.is_limit (passed.checked is.limit (fault-of design u number text is.limit is.is_limit cause)))
 
-passed-by : (unit netlist : List ℕ) (i j : Subject) (number : ℕ) (text : List ℕ) (result : Result CertAnswer Fault) → SameSubject i j
-    → IsPassedText i.netlist i.directives number text → CertReading unit netlist number j text result → result ≡ Ok Passed
+passed-by : (unit netlist : List ℕ) (i j : Subject) (number : ℕ) (text : List ℕ) (result : Result CheckedCert Fault) → SameSubject i j
+    → IsPassedText i.netlist i.directives number text → CertReading unit netlist number j text result → Passes result
 passed-by unit netlist i j number text result same passed is =
     passed-of unit netlist j.netlist i.directives j.directives number text result same.directives
     (subst (λ (d : Design). IsPassedText d i.directives number text) same.netlists passed) is
 
-of-content : (unit netlist certificate : List ℕ) (i j : Subject) (number : ℕ) (text : List ℕ) (result : Result CertAnswer Fault) → SameSubject i j
+of-content : (unit netlist certificate : List ℕ) (i j : Subject) (number : ℕ) (text : List ℕ) (result : Result CheckedCert Fault) → SameSubject i j
     → IsPassedText i.netlist i.directives number text → length text ≤ file_limit
-    → OfContent (CertReading unit netlist number j) certificate (Some text) result → result ≡ Ok Passed
+    → OfContent (CertReading unit netlist number j) certificate (Some text) result → Passes result
 of-content unit netlist certificate i j number text result same passed few (inl (many, _)) = absurd (omega arith)
 of-content unit netlist certificate i j number text result same passed few (inr (_, is)) = passed-by unit netlist i j number text result same passed is
 
 -- the text is that of a certificate by which some finding is proved, of a window or of clauses
 module _ (unit netlist certificate : List ℕ) (limits : Limits) (wanted : Wanted) (files later : Contents) (found : Found) (place : ℕ) (entry : FindingEntry) (text : List ℕ)
     (here : slice_get found.findings place ≡ Some entry)
-    (proves : (design : Design) (directives : List Directive) (options : Options) (recordings : Option (List ℕ × ℕ)) (assertion : Directive)
-    → IsEntry design directives options recordings assertion entry → IsPassedText design directives entry.number text)
+    (proves : (design : Design) (directives : List Directive) (options : Options) (recordings : Option (List ℕ × ℕ)) (directive : Directive)
+    → IsEntry design directives options recordings directive entry → IsPassedText design directives entry.number text)
     (units : later unit ≡ files unit) (netlists : later netlist ≡ files netlist) (written : later certificate ≡ Some text)
     (few : length text ≤ file_limit) where
   checked : (subject : Subject) → SubjectStage unit netlist files (Ok subject) → IsPassedText subject.netlist subject.directives entry.number text
-      → (result : Result CertAnswer Fault) → CheckStage unit netlist entry.number certificate later result → result ≡ Ok Passed
+      → (result : Result CheckedCert Fault) → CheckStage unit netlist entry.number certificate later result → Passes result
   checked subject is passed result (inl (fault, refused, _)) =
       absurd (one-subject unit netlist files (Ok subject) (Err fault) is (subject-moved unit netlist files later units netlists (Err fault) refused))
   checked subject is passed result (inr (other, given, read)) =
@@ -110,9 +111,9 @@ module _ (unit netlist certificate : List ℕ) (limits : Limits) (wanted : Wante
       (one-subject unit netlist files (Ok subject) (Ok other) is (subject-moved unit netlist files later units netlists (Ok other) given)) passed few
       (subst (λ (o : Option (List ℕ)). OfContent (CertReading unit netlist entry.number other) certificate o result) written read)
 
-  pub written-passes : ProveStage unit netlist limits wanted files (Ok found) → (result : Result CertAnswer Fault)
-      → CheckStage unit netlist entry.number certificate later result → result ≡ Ok Passed
+  pub written-passes : ProveStage unit netlist limits wanted files (Ok found) → (result : Result CheckedCert Fault)
+      → CheckStage unit netlist entry.number certificate later result → Passes result
   written-passes (inl (fault, _, e)) result check = absurd (let wrong : Ok found ≡ Err fault = e in cc)
   written-passes (inr (subject, is, about)) result check =
-      let at = entry-at subject.netlist subject.directives (options_of limits) (recordings_in wanted) (assertions subject.directives) found.findings place entry about.1.findings here in
+      let at = entry-at subject.netlist subject.directives (options_of limits) (recordings_in wanted) (asked limits.covers subject.directives) found.findings place entry about.1.findings here in
       checked subject is (proves subject.netlist subject.directives (options_of limits) (recordings_in wanted) at.0 at.1) result check

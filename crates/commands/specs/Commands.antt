@@ -1,11 +1,10 @@
 -- The commands: what the words after the program's name ask for, and what a run of them gives or refuses.
-use Rattle.std.specs.Prelude.{◌≡◌, ℕ, ◌⊎◌, List, [], ◌∷◌, Option, Some, Result, Ok, Err}
+use Rattle.std.specs.Prelude.{◌≡◌, ℕ, ◌⊎◌, List, [], ◌∷◌, Option, Some, Result, Ok, Err, is_some}
 use Rattle.command_line.specs.Commands as words_of
 use Rattle.command_line.specs.Commands.{Meaning}
 use Rattle.command_line.specs.Commands.Meaning.{wave, show, show_netlist, gen, prove, check, replay}
 use Rattle.command_line.specs.declared.Limits.{Limits}
 use Rattle.psl_base.specs.Shelf.{Contents, ShelfState}
-use Rattle.cert_theory.specs.declared.answer.CertAnswer.{CertAnswer}
 use Rattle.commands.specs.Checks.{CheckStage}
 use Rattle.commands.specs.Endings.{Explained}
 use Rattle.commands.specs.Faults.{of_none, fault_of}
@@ -13,6 +12,7 @@ use Rattle.commands.specs.Generated.{GeneratedStage}
 use Rattle.commands.specs.Provings.{ProveStage}
 use Rattle.commands.specs.Stages.{Then, IsOfFiles}
 use Rattle.commands.specs.Waves.{WaveStage, ShowStage, ShowNetlistStage, unknown_of}
+use Rattle.commands.specs.declared.outcome.CheckedCert.{CheckedCert}
 use Rattle.commands.specs.declared.outcome.Fault.{Fault}
 use Rattle.commands.specs.declared.outcome.Line.{Line}
 use Rattle.commands.specs.declared.outcome.Outcome.{Outcome}
@@ -68,20 +68,22 @@ MeaningStage (show_netlist unit netlist) files result =
 MeaningStage (prove unit netlist limits evidence) files result =
     Then (ProveStage unit netlist limits evidence) (λ found _ outcome. outcome ≡ Ok (findings_outcome limits found)) files result
 MeaningStage (check unit netlist number certificate) files result =
-    Then (CheckStage unit netlist number certificate) (λ answer _ outcome. outcome ≡ Ok (Checked number answer)) files result
+    Then (CheckStage unit netlist number certificate) (λ checked _ outcome. outcome ≡ Ok (Checked number checked)) files result
 MeaningStage (replay unit netlist recording) files result =
     Then (ReplayStage unit netlist recording) (λ found _ outcome. outcome ≡ Ok (replayed_outcome found)) files result
 MeaningStage (gen seed samples) files result = GeneratedStage seed samples result
 
--- what is known of a command's outcome whatever the files tell: its kind, and that of `gen` is exact
+-- what is known of a command's outcome whatever the files tell: its kind, that it says of a recording from where on verdicts
+-- are settled just where that is asked for, and that of `gen` is exact
 abbrev pub MeaningOutcome : Meaning → Outcome → Type 0
-MeaningOutcome (wave unit recording unknown points) outcome = (judged : Judgement) × (outcome ≡ wave_outcome judged)
+MeaningOutcome (wave unit recording unknown points) outcome =
+    (judged : Judgement) × (outcome ≡ wave_outcome judged) × (is_some judged.settled ≡ points)
 MeaningOutcome (show unit names) outcome = (lines : List Line) × (outcome ≡ Shown lines)
 MeaningOutcome (show_netlist unit netlist) outcome = (lines : List Line) × (outcome ≡ Shown lines)
 MeaningOutcome (prove unit netlist limits evidence) outcome =
     (found : Found) × (outcome ≡ findings_outcome limits found)
 MeaningOutcome (check unit netlist number certificate) outcome =
-    (answer : CertAnswer) × (outcome ≡ Checked number answer)
+    (checked : CheckedCert) × (outcome ≡ Checked number checked)
 MeaningOutcome (replay unit netlist recording) outcome = (found : Replayed) × (outcome ≡ replayed_outcome found)
 MeaningOutcome (gen seed samples) outcome = GeneratedStage seed samples (Ok outcome)
 

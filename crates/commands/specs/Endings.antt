@@ -5,6 +5,7 @@ use Rattle.cert_theory.specs.declared.answer.CertAnswer.{CertAnswer}
 use Rattle.cert_theory.specs.declared.answer.CertAnswer.TheVariants.{Passed, Refused}
 use Rattle.findings.specs.declared.entry.FindingEntry.{FindingEntry}
 use Rattle.prover.specs.Findings.{is_proved, is_violated}
+use Rattle.prover.specs.declared.finding.Finding.{Finding}
 use Rattle.psl_base.specs.Shelf.{Contents, ShelfState}
 use Rattle.psl_base.specs.Sink.{SinkState, AddsAll, AddsPart}
 use Rattle.psl_tree.specs.declared.directive.Kind.{Kind}
@@ -35,11 +36,23 @@ passes verdict = verdict.neutral || may_be_no verdict.kind
 abbrev pub verdicts_status : List Verdict → ℕ
 verdicts_status verdicts = if list_all passes verdicts then 0 else 1
 
--- 1 where some assertion is violated, else 0 where each is proved, and else 6
+-- an assertion that is violated and a cover that no run meets fail; an assertion that is proved and a cover that some run
+-- meets do as they should
+abbrev pub fails_as : Kind → Finding → Bool
+fails_as Assert finding = is_violated finding
+fails_as Assume finding = is_violated finding
+fails_as Cover finding = is_proved finding
+
+abbrev pub succeeds_as : Kind → Finding → Bool
+succeeds_as Assert finding = is_proved finding
+succeeds_as Assume finding = is_proved finding
+succeeds_as Cover finding = is_violated finding
+
+-- 1 where some directive fails, else 0 where each does as it should, and else 6
 abbrev pub findings_status : List FindingEntry → ℕ
 findings_status entries =
-    if list_any (λ entry. is_violated entry.finding) entries then 1
-    else if list_all (λ entry. is_proved entry.finding) entries then 0
+    if list_any (λ entry. fails_as entry.kind entry.finding) entries then 1
+    else if list_all (λ entry. succeeds_as entry.kind entry.finding) entries then 0
     else 6
 
 -- 0 where the certificate is passed, else 1
@@ -56,7 +69,7 @@ abbrev pub outcome_status : Outcome → ℕ
 outcome_status Nothing = 0
 outcome_status (Wave verdicts settled) = verdicts_status verdicts
 outcome_status (Findings entries columns depth visits) = findings_status entries
-outcome_status (Checked number answer) = answer_status answer
+outcome_status (Checked number checked) = answer_status checked.answer
 outcome_status (Shown lines) = 0
 outcome_status (Replayed answer samples verdicts) = replay_status answer verdicts
 outcome_status (Made seed samples bytes verdicts) = verdicts_status verdicts

@@ -1,4 +1,4 @@
--- What `prove UNIT NETLIST` gives: a finding for each assertion of the text on the netlist.
+-- What `prove UNIT NETLIST` gives: a finding for each directive of the text that is asked, on the netlist.
 use Rattle.std.specs.Prelude.{◌≡◌, ℕ, List, Option, Result, Ok, Err, option_map}
 use Rattle.command_line.specs.Evidences.{Wanted}
 use Rattle.command_line.specs.declared.Limits.{Limits}
@@ -23,7 +23,7 @@ use Rattle.commands.specs.declared.subject.Subject.{Subject}
 abbrev pub options_of : Limits → Options
 options_of limits = record { depth = limits.depth; visits = limits.visits; steps = limits.steps; reach = limits.reach }
 
--- what is told of an assertion that is too large: at its place in the text, or of the netlist
+-- what is told of a directive that is too large: at its place in the text, or of the netlist
 abbrev pub size_fault : List ℕ → List ℕ → SizeFault → Fault
 size_fault unit netlist (sizes.SereTooLarge place) = fault_in unit (at reasons.SereTooLarge place)
 size_fault unit netlist (sizes.AutomatonTooLarge place) = fault_in unit (at reasons.AutomatonTooLarge place)
@@ -34,17 +34,17 @@ size_fault unit netlist sizes.NoMemory = of_none reasons.NoMemory
 abbrev pub recordings_in : Wanted → Option (List ℕ × ℕ)
 recordings_in wanted = option_map (λ (prefix : List ℕ). (prefix, wanted.loops)) wanted.vcd
 
--- what is found out of the assertions of a text, and the names of the signals whose values are shown of a run
+-- what is found out of the directives of a text that are asked, and the names of the signals whose values are shown of a run
 pub record IsFound (design : Design) (limits : Limits) (wanted : Wanted) (directives : List Directive) (found : Found) : Type 0 where
-  pub findings : AreFindings design directives (options_of limits) (recordings_in wanted) found.findings
+  pub findings : AreFindings design directives (options_of limits) limits.covers (recordings_in wanted) found.findings
   pub columns : AreColumns design found.columns
 
--- the same where all assertions are within the limits; or the first that is too large
+-- the same where all of these are within the limits; or the first that is too large
 abbrev pub FoundReading : List ℕ → List ℕ → Limits → Wanted → Subject → Result Found Fault → Type 0
 FoundReading unit netlist limits wanted subject (Ok found) =
-    AreWithin subject.netlist limits.depth subject.directives × IsFound subject.netlist limits wanted subject.directives found
+    AreWithin subject.netlist limits.depth limits.covers subject.directives × IsFound subject.netlist limits wanted subject.directives found
 FoundReading unit netlist limits wanted subject (Err fault) =
-    (cause : SizeFault) × IsFirstRefused subject.netlist limits.depth subject.directives cause
+    (cause : SizeFault) × IsFirstRefused subject.netlist limits.depth limits.covers subject.directives cause
     × (fault ≡ size_fault unit netlist cause)
 
 -- `prove UNIT NETLIST`

@@ -1,4 +1,5 @@
--- The files that a run writes: the certificates of what it proved, and the recordings of runs that violate assertions.
+-- The files that a run writes: the certificates of what it proved, and the recordings of runs that violate assertions or
+-- meet covers.
 use Rattle.std.specs.Prelude.{◌≡◌, ◌⊎◌, ℕ, List, [], ◌∷◌, ◌++◌, map, Option, None, Some, Result, Ok, Err, codes, decimal}
 use Rattle.std.specs.List.{flat_map}
 use Rattle.cert_theory.specs.Printed.{cert_text, inductive_text}
@@ -57,12 +58,12 @@ files_of_finding wanted number (findings.Large query) recorded = []
 abbrev pub files_of_entry : Wanted → FindingEntry → List NewFile
 files_of_entry wanted entry = files_of_finding wanted entry.number entry.finding entry.recorded
 
--- the files of an outcome's evidence, in the order of the assertions
+-- the files of an outcome's evidence, in the order of the directives
 abbrev pub files_of_outcome : Wanted → Outcome → List NewFile
 files_of_outcome wanted Nothing = []
 files_of_outcome wanted (Wave verdicts settled) = []
 files_of_outcome wanted (Findings entries columns depth visits) = flat_map (files_of_entry wanted) entries
-files_of_outcome wanted (Checked number answer) = []
+files_of_outcome wanted (Checked number checked) = []
 files_of_outcome wanted (Shown lines) = []
 files_of_outcome wanted (Made seed samples bytes verdicts) = []
 files_of_outcome wanted (Replayed answer samples verdicts) = []

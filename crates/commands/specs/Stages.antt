@@ -8,7 +8,7 @@ use Rattle.commands.specs.Faults.{fault_in, of_file, of_none}
 use Rattle.commands.specs.Rows.{Cause, OfWords, OfReading, OfWriting, OfText, OfMemory, cause_of}
 use Rattle.commands.specs.declared.outcome.Fault.{Fault}
 use Rattle.commands.specs.declared.reason.Diagnostic.{Diagnostic}
-use Rattle.commands.specs.declared.reason.Reason.TheVariants.{ReadFault, TooLong, NoMemory}
+use Rattle.commands.specs.declared.reason.Reason.TheVariants.{ReadFault, TooLong, MissingSignal, NoMemory}
 
 -- What two readings give: what the first one refuses, and else what the second gives from the first one's value.
 abbrev pub AndThen : {A B : Type 0} → (Result A Fault → Type 0) → (A → Result B Fault → Type 0) → Result B Fault → Type 0
@@ -65,10 +65,11 @@ SpeaksOfFile OfWords = ⊥
 SpeaksOfFile OfWriting = ⊥
 SpeaksOfFile OfMemory = ⊥
 
--- the fault is of this file
+-- the fault is of this file; it names a signal only where one is missing
 pub record IsOfFile (name : List ℕ) (fault : Fault) : Type 0 where
   pub reason : SpeaksOfFile (cause_of fault.reason)
   pub file : fault.file ≡ Some name
+  pub signal : fault.reason ≢ MissingSignal → fault.signal ≡ None
 
 -- the fault is of one of these files
 abbrev pub IsOfFiles : List (List ℕ) → Fault → Type 0

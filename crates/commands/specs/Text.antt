@@ -19,6 +19,7 @@ use Rattle.psl_tree.specs.declared.directive.Kind.{Kind}
 use Rattle.psl_tree.specs.declared.directive.Kind.TheVariants.{Assert, Assume, Cover}
 use Rattle.psl_tree.specs.declared.name.Name.{Name}
 use Rattle.commands.specs.Rows.{fault_words}
+use Rattle.commands.specs.declared.outcome.CheckedCert.{CheckedCert}
 use Rattle.commands.specs.declared.outcome.Fault.{Fault}
 use Rattle.commands.specs.declared.outcome.Line.{Line}
 use Rattle.commands.specs.declared.outcome.Outcome.{Outcome}
@@ -127,21 +128,34 @@ valuation_lines part columns place [] = []
 valuation_lines part columns place (valuation ∷ valuations) =
     valuation_line part columns place valuation ++ valuation_lines part columns (suc place) valuations
 
+-- what is said of a directive of which a proof was found: each run satisfies an assertion, and none meets a cover
+abbrev pub proved_word : Kind → List ℕ
+proved_word Assert = codes "proved"
+proved_word Assume = codes "proved"
+proved_word Cover = codes "unreachable"
+
+-- and of one of which a run was found: it violates an assertion, and meets a cover
+abbrev pub run_word : Kind → List ℕ
+run_word Assert = codes "violated"
+run_word Assume = codes "violated"
+run_word Cover = codes "covered"
+
 -- how long the stem and the loop of a run are
-abbrev pub lengths_line : Run → List ℕ
-lengths_line run = codes "violated stem " ++ decimal (length run.stem) ++ codes " loop " ++ decimal (length run.loop_part) ++ line_feed
+abbrev pub lengths_line : Kind → Run → List ℕ
+lengths_line kind run =
+    run_word kind ++ codes " stem " ++ decimal (length run.stem) ++ codes " loop " ++ decimal (length run.loop_part) ++ line_feed
 
 -- a run: this line, and then its valuations
-abbrev pub run_text : List Name → Run → List ℕ
-run_text columns run =
-    lengths_line run ++ valuation_lines (codes "stem") columns 0 run.stem ++ valuation_lines (codes "loop") columns 0 run.loop_part
+abbrev pub run_text : Kind → List Name → Run → List ℕ
+run_text kind columns run =
+    lengths_line kind run ++ valuation_lines (codes "stem") columns 0 run.stem ++ valuation_lines (codes "loop") columns 0 run.loop_part
 
 -- a path behind which the inputs are held: how long it is, and then its valuations
-abbrev pub held_line : List (List Bool) → List ℕ
-held_line path = codes "violated stem " ++ decimal (length path) ++ (codes " held" ++ line_feed)
+abbrev pub held_line : Kind → List (List Bool) → List ℕ
+held_line kind path = run_word kind ++ codes " stem " ++ decimal (length path) ++ (codes " held" ++ line_feed)
 
-abbrev pub held_text : List Name → List (List Bool) → List ℕ
-held_text columns path = held_line path ++ valuation_lines (codes "stem") columns 0 path
+abbrev pub held_text : Kind → List Name → List (List Bool) → List ℕ
+held_text kind columns path = held_line kind path ++ valuation_lines (codes "stem") columns 0 path
 
 -- how many lemmas the solver learned
 abbrev pub steps_line : ℕ → List ℕ
@@ -151,21 +165,22 @@ steps_line steps = codes "undecided steps " ++ decimal steps ++ line_feed
 abbrev pub depth_line : ℕ → ℕ → List ℕ
 depth_line depth visits = codes "undecided depth " ++ decimal depth ++ codes " visits " ++ decimal visits ++ line_feed
 
--- what a finding says, by the columns, the depth and the visits: of a certificate of clauses, how many these are
-abbrev pub finding_text : List Name → ℕ → ℕ → Finding → List ℕ
-finding_text columns depth visits (findings.Proved certificate) =
-    codes "proved visits " ++ decimal certificate.visits ++ codes " window " ++ decimal certificate.window ++ line_feed
-finding_text columns depth visits (findings.ProvedReach certificate) =
-    codes "proved visits " ++ decimal certificate.visits ++ codes " clauses " ++ decimal (length certificate.clauses) ++ line_feed
-finding_text columns depth visits (findings.Violated run) = run_text columns run
-finding_text columns depth visits (findings.Held path end) = held_text columns path
-finding_text columns depth visits (findings.Depth paths) = depth_line depth visits
-finding_text columns depth visits (findings.DepthReach paths ends) = depth_line depth visits
-finding_text columns depth visits (findings.Steps query log) = steps_line (lemmas log)
-finding_text columns depth visits (findings.LogFull query log) = codes "undecided log" ++ line_feed
-finding_text columns depth visits (findings.Large query) = codes "undecided formula" ++ line_feed
+-- what a finding says of a directive of this kind, by the columns, the depth and the visits: of a certificate of clauses,
+-- how many these are
+abbrev pub finding_text : Kind → List Name → ℕ → ℕ → Finding → List ℕ
+finding_text kind columns depth visits (findings.Proved certificate) =
+    proved_word kind ++ codes " visits " ++ decimal certificate.visits ++ codes " window " ++ decimal certificate.window ++ line_feed
+finding_text kind columns depth visits (findings.ProvedReach certificate) =
+    proved_word kind ++ codes " visits " ++ decimal certificate.visits ++ codes " clauses " ++ decimal (length certificate.clauses) ++ line_feed
+finding_text kind columns depth visits (findings.Violated run) = run_text kind columns run
+finding_text kind columns depth visits (findings.Held path end) = held_text kind columns path
+finding_text kind columns depth visits (findings.Depth paths) = depth_line depth visits
+finding_text kind columns depth visits (findings.DepthReach paths ends) = depth_line depth visits
+finding_text kind columns depth visits (findings.Steps query log) = steps_line (lemmas log)
+finding_text kind columns depth visits (findings.LogFull query log) = codes "undecided log" ++ line_feed
+finding_text kind columns depth visits (findings.Large query) = codes "undecided formula" ++ line_feed
 
--- what is recorded of a run: the name of the file, how many samples it has and what it says of the assertion
+-- what is recorded of a run: the name of the file, how many samples it has and what it says of the directive
 abbrev pub judged_lines : List ℕ → ℕ → Verdict → List ℕ
 judged_lines name samples verdict =
     codes "  recording " ++ name ++ codes " samples " ++ decimal samples ++ (line_feed ++ codes "  judged ") ++ answers_line verdict
@@ -177,7 +192,8 @@ recorded_lines (Some (Judged name samples verdict text)) = judged_lines name sam
 
 abbrev pub entry_text : List Name → ℕ → ℕ → FindingEntry → List ℕ
 entry_text columns depth visits entry =
-    head Assert entry.number entry.label ++ finding_text columns depth visits entry.finding ++ recorded_lines entry.recorded
+    head entry.kind entry.number entry.label ++ finding_text entry.kind columns depth visits entry.finding
+    ++ recorded_lines entry.recorded
 
 -- the code and the name of a reason for which a certificate is refused
 abbrev pub reason_words : CertReason → List ℕ
@@ -197,8 +213,8 @@ abbrev pub cert_answer : CertAnswer → List ℕ
 cert_answer Passed = codes "passed"
 cert_answer (Refused reason line) = codes "refused " ++ reason_words reason ++ codes " line " ++ decimal line
 
-abbrev pub checked_line : ℕ → CertAnswer → List ℕ
-checked_line number answer = head Assert number None ++ cert_answer answer ++ line_feed
+abbrev pub checked_line : ℕ → CheckedCert → List ℕ
+checked_line number checked = head checked.kind number None ++ cert_answer checked.answer ++ line_feed
 
 -- each valuation that is shown has a value for the signal of each column
 abbrev pub IsShowable : Outcome → Type 0
@@ -210,7 +226,7 @@ abbrev pub text_of : Outcome → List ℕ
 text_of Nothing = []
 text_of (Wave verdicts settled) = judged_text verdicts settled
 text_of (Findings entries columns depth visits) = flat_map (entry_text columns depth visits) entries
-text_of (Checked number answer) = checked_line number answer
+text_of (Checked number checked) = checked_line number checked
 text_of (Shown lines) = flat_map meaning_line lines
 text_of (Replayed answer samples verdicts) = replay_line answer samples ++ flat_map verdict_line verdicts
 text_of (Made seed samples bytes verdicts) = made_line seed samples bytes ++ flat_map verdict_line verdicts

@@ -1,4 +1,5 @@
 ghost use Rattle.std.specs.Prelude.{◌≡◌, ◌≢◌, ◌⊎◌, ◌≤◌, ◌∷◌, [], length, All};
+ghost use Rattle.std.specs.Option.{option_copied};
 ghost use Rattle.commands.specs.Checks as spec;
 ghost use Rattle.commands.specs.Checks.{CertReading, CertStage, CheckStage};
 ghost use Rattle.commands.specs.Faults.{of_none};
@@ -7,18 +8,19 @@ ghost use Rattle.psl_base.specs.Places.{file_limit};
 ghost use Rattle.psl_tree.specs.Atoms.{AtomsOfFormula};
 ghost use Rattle.psl_tree.specs.Names.{AtomInRange};
 ghost use Rattle.psl_tree.specs.Trees.{formula_of};
+ghost use Rattle.cert_check.specs.Claims.{directive_of};
 
 use crate::faults::{at_directive, fault_in, of_none, whole};
 use crate::inputs::load;
-use crate::outcome::Fault;
+use crate::outcome::{CheckedCert, Fault};
 use crate::reason::Reason;
 use crate::subject::{Subject, load_subject};
-use cert_check::{CertAnswer, CertFault, check_cert};
+use cert_check::{CertFault, check_cert};
 use psl_base::Shelf;
-use psl_tree::Unit;
+use psl_tree::{Directive, Kind, Unit};
 use std::alloc::Global;
 
-/// What the words of `check` ask for: the names of the files, and the number of the assertion.
+/// What the words of `check` ask for: the names of the files, and the number of the directive.
 #[derive(Clone, Copy)]
 pub struct Question<'a> {
     pub unit: &'a str,
@@ -27,13 +29,13 @@ pub struct Question<'a> {
     pub certificate: &'a str,
 }
 
-/// Checks whether a certificate shows that each run of a netlist satisfies what is owed of an assertion of a text, all
-/// three read from files: `check UNIT NETLIST NUMBER CERTIFICATE`.
+/// Checks whether a certificate shows that each run of a netlist satisfies what is owed of a directive of a text, an assertion
+/// or a cover, all three read from files: `check UNIT NETLIST NUMBER CERTIFICATE`.
 pub fn check<F: Shelf>(
     alloc: Global,
     files: &mut F,
     question: Question<'_>,
-) -> Result<CertAnswer, Fault>
+) -> Result<CheckedCert, Fault>
     ensures { IsStage (question.entry.unit.now ∷ question.entry.netlist.now ∷ question.entry.certificate.now ∷ [])
         (CheckStage question.entry.unit.now question.entry.netlist.now question.entry.number question.entry.certificate.now)
         (F.state files.old) (F.state files.new) result }
@@ -48,7 +50,7 @@ fn check_file<F: Shelf>(
     files: &mut F,
     subject: &Subject,
     question: Question<'_>,
-) -> Result<CertAnswer, Fault>
+) -> Result<CheckedCert, Fault>
     requires { All (λ directive. AtomsOfFormula (AtomInRange subject.now.netlist.names) (formula_of directive.formula)) subject.now.directives }
     ensures { IsStage (question.entry.unit.now ∷ question.entry.netlist.now ∷ question.entry.certificate.now ∷ [])
         (CertStage question.entry.unit.now question.entry.netlist.now question.entry.number question.entry.certificate.now subject.now)
@@ -64,7 +66,7 @@ fn check_text(
     text: &[u8],
     subject: &Subject,
     question: Question<'_>,
-) -> Result<CertAnswer, Fault>
+) -> Result<CheckedCert, Fault>
     requires in_range { All (λ directive. AtomsOfFormula (AtomInRange subject.now.netlist.names) (formula_of directive.formula)) subject.now.directives }
     requires few { length text.now ≤ file_limit }
     ensures { IsReading (question.entry.unit.now ∷ question.entry.netlist.now ∷ [])
@@ -72,12 +74,45 @@ fn check_text(
 {
     let (directives, netlist) = (&subject.directives, &subject.netlist);
     match check_cert(alloc, directives, question.number, netlist, text) {
-        Ok(answer) => Ok(answer),
+        Ok(answer) => Ok(CheckedCert {
+            kind: answered_kind(directives, question.number),
+            answer,
+        }),
         Err(fault) => Err(cert_fault(alloc, question, directives, fault)),
     }
 }
 
-/// The fault of a certificate that is not checked: at the place of the assertion in the text, or of the netlist. It may be
+/// As what the directive of a number is answered for.
+fn answered_kind(directives: &Unit, number: u32) -> Kind
+    ensures { result ≡ spec.answered_kind (directive_of directives.now number) }
+{
+    match directive_of(directives, number) {
+        Some(directive) => answered_as(directive.kind),
+        None => Kind::Assert,
+    }
+}
+
+/// The directive of a number.
+fn directive_of(directives: &Unit, number: u32) -> Option<&Directive>
+    ensures { option_copied result ≡ directive_of directives.now number }
+{
+    directives
+        .as_slice()
+        .iter()
+        .find(|directive| directive.number == number)
+}
+
+/// As what a directive of this kind is: a cover as one, and all else as an assertion.
+fn answered_as(kind: Kind) -> Kind
+    ensures { result ≡ spec.answered_as kind }
+{
+    match kind {
+        Kind::Assert | Kind::Assume => Kind::Assert,
+        Kind::Cover => Kind::Cover,
+    }
+}
+
+/// The fault of a certificate that is not checked: at the place of the directive in the text, or of the netlist. It may be
 /// want of memory.
 fn cert_fault(alloc: Global, question: Question<'_>, directives: &Unit, fault: CertFault) -> Fault
     ensures { (result ≡ of_none Reason.NoMemory) ⊎ ((fault ≢ CertFault.NoMemory)

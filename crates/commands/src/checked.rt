@@ -1,21 +1,21 @@
 ghost use Rattle.std.specs.Prelude.{◌≡◌, ◌++◌, None, OnOk};
 ghost use Rattle.commands.specs.Text.{cert_answer, checked_line, reason_words};
 
+use crate::outcome::CheckedCert;
 use crate::report::add_head;
 use cert_check::{CertAnswer, CertReason};
 use psl_base::{NoMemory, add_bytes, add_number};
-use psl_tree::Kind;
 
-/// The line of what is answered to the certificate of an assertion.
+/// The line of what is answered to the certificate of a directive.
 pub(crate) fn add_checked(
     text: &mut Vec<u8>,
     number: u32,
-    answer: CertAnswer,
+    checked: CheckedCert,
 ) -> Result<(), NoMemory>
-    ensures { OnOk result (text.new.items ≡ text.old.items ++ checked_line number answer) }
+    ensures { OnOk result (text.new.items ≡ text.old.items ++ checked_line number checked) }
 {
-    add_head(text, Kind::Assert, number, &None)?;
-    add_answer(text, answer)?;
+    add_head(text, checked.kind, number, &None)?;
+    add_answer(text, checked.answer)?;
     add_bytes(text, b"\n")
 }
 

@@ -4,11 +4,10 @@ ghost use Rattle.std.specs.Result.{ForOk, ForErr};
 ghost use Rattle.psl_base.specs.Faults.{Rose};
 ghost use Rattle.psl_base.specs.Shelf.{OnlyWrites};
 ghost use Rattle.psl_base.specs.Sink.{AddsAll, SinkState};
-ghost use Rattle.commands.specs.Endings.{status_of, answer_status, outcome_status, findings_status, replay_status, verdicts_status, passes, may_be_no, IsUnwritten, IsToTell, Prints, AddsSome, EndsWith, EndsFaulted};
+ghost use Rattle.commands.specs.Endings.{status_of, answer_status, outcome_status, fails_as, findings_status, replay_status, succeeds_as, verdicts_status, passes, may_be_no, IsUnwritten, IsToTell, Prints, AddsSome, EndsWith, EndsFaulted};
 ghost use Rattle.commands.specs.Faults.{of_none, fault_of};
 ghost use Rattle.commands.specs.Saved.{FailsPlanned, HasSaved, WritingFails};
 ghost use Rattle.commands.specs.Text.{text_of, line_of};
-ghost use Rattle.prover.specs.Findings.{is_proved, is_violated};
 ghost use Rattle.psl_base.specs.Saves.{SavesAll, SavesPart, file_of};
 
 use crate::faults::of_none;
@@ -18,6 +17,7 @@ use crate::report::fault_line;
 use crate::rows::row_of;
 use cert_check::CertAnswer;
 use findings::FindingEntry;
+use prover::Finding;
 use psl_base::{Bytes, Failed, Save, Saves, Shelf, Sink, put_all, save_all};
 use psl_tree::Kind;
 use replay::Replay;
@@ -156,7 +156,7 @@ fn status_of_outcome(outcome: &Outcome) -> u8
 {
     match outcome {
         Outcome::Nothing | Outcome::Shown(_) => 0,
-        Outcome::Checked(_, answer) => status_of_answer(*answer),
+        Outcome::Checked(_, checked) => status_of_answer(checked.answer),
         Outcome::Findings { findings, .. } => status_of_findings(findings.as_slice()),
         Outcome::Replayed(replay, _, verdicts) => status_of_replay(replay, verdicts.as_slice()),
         Outcome::Wave(verdicts, _) | Outcome::Made(_, _, _, verdicts) => {
@@ -204,23 +204,45 @@ fn status_of_answer(answer: CertAnswer) -> u8
 fn status_of_findings(entries: &[FindingEntry]) -> u8
     ensures { result ≡ findings_status entries.now }
 {
-    if some_violated(entries) {
+    if some_fail(entries) {
         1
-    } else if all_proved(entries) {
+    } else if all_succeed(entries) {
         0
     } else {
         6
     }
 }
 
-fn some_violated(entries: &[FindingEntry]) -> bool
-    ensures { result ≡ list_any (λ entry. is_violated entry.finding) entries.now }
+fn some_fail(entries: &[FindingEntry]) -> bool
+    ensures { result ≡ list_any (λ entry. fails_as entry.kind entry.finding) entries.now }
 {
-    entries.iter().any(|entry| entry.finding.is_violated())
+    entries
+        .iter()
+        .any(|entry| fails_as(entry.kind, &entry.finding))
 }
 
-fn all_proved(entries: &[FindingEntry]) -> bool
-    ensures { result ≡ list_all (λ entry. is_proved entry.finding) entries.now }
+fn all_succeed(entries: &[FindingEntry]) -> bool
+    ensures { result ≡ list_all (λ entry. succeeds_as entry.kind entry.finding) entries.now }
 {
-    entries.iter().all(|entry| entry.finding.is_proved())
+    entries
+        .iter()
+        .all(|entry| succeeds_as(entry.kind, &entry.finding))
+}
+
+fn fails_as(kind: Kind, finding: &Finding) -> bool
+    ensures { result ≡ fails_as kind finding.now }
+{
+    match kind {
+        Kind::Assert | Kind::Assume => finding.is_violated(),
+        Kind::Cover => finding.is_proved(),
+    }
+}
+
+fn succeeds_as(kind: Kind, finding: &Finding) -> bool
+    ensures { result ≡ succeeds_as kind finding.now }
+{
+    match kind {
+        Kind::Assert | Kind::Assume => finding.is_proved(),
+        Kind::Cover => finding.is_violated(),
+    }
 }

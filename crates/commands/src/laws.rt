@@ -1,15 +1,15 @@
 // What follows from the definitions alone.
 ghost use Rattle.std.specs.Prelude.{◌≡◌, ◌≤◌, ℕ, List, Option, Result, Ok, Some, length, slice_get};
 ghost use Rattle.cert_theory.specs.Printed.{cert_text, inductive_text};
-ghost use Rattle.cert_theory.specs.declared.answer.CertAnswer.{CertAnswer};
 ghost use Rattle.cert_theory.specs.declared.certificate.Certificate.{Certificate};
 ghost use Rattle.cert_theory.specs.declared.certificate.InductiveCert.{InductiveCert};
 ghost use Rattle.cert_theory.specs.declared.header.Version.TheVariants.{Two};
 ghost use Rattle.command_line.specs.Evidences.{Wanted};
 ghost use Rattle.command_line.specs.declared.Limits.{Limits};
-ghost use Rattle.commands.specs.Checks.{CheckStage};
+ghost use Rattle.commands.specs.Checks.{CheckStage, Passes};
 ghost use Rattle.commands.specs.Commands.{FirstRefusal};
 ghost use Rattle.commands.specs.Provings.{ProveStage};
+ghost use Rattle.commands.specs.declared.outcome.CheckedCert.{CheckedCert};
 ghost use Rattle.commands.specs.declared.outcome.Fault.{Fault};
 ghost use Rattle.commands.specs.declared.prove.Found.{Found};
 ghost use Rattle.findings.specs.declared.entry.FindingEntry.{FindingEntry};
@@ -23,19 +23,19 @@ pub fn one_refusal()
 {}
 
 /// A law of the definitions: what `prove` writes of a proof is passed by `check`. Where a file has the text of the certificate
-/// of a proved assertion, and is no longer than a file may be, `check` passes it for the same text, netlist and number. So it
+/// of a proof, and is no longer than a file may be, `check` passes it for the same text, netlist and number. So it
 /// is of a certificate of a window, and of one of clauses.
 pub fn written_law()
     ensures passed { (unit netlist certificate : List ℕ) (limits : Limits) (wanted : Wanted) (files later : Contents) (found : Found) (place : ℕ)
-        (entry : FindingEntry) (evidence : Certificate) (result : Result CertAnswer Fault)
+        (entry : FindingEntry) (evidence : Certificate) (result : Result CheckedCert Fault)
         → ProveStage unit netlist limits wanted files (Ok found) → slice_get found.findings place ≡ Some entry
         → entry.finding ≡ Proved evidence → later unit ≡ files unit → later netlist ≡ files netlist
         → later certificate ≡ Some (cert_text Two evidence) → length (cert_text Two evidence) ≤ file_limit
-        → CheckStage unit netlist entry.number certificate later result → result ≡ Ok CertAnswer.Passed }
+        → CheckStage unit netlist entry.number certificate later result → Passes result }
     ensures passed_reach { (unit netlist certificate : List ℕ) (limits : Limits) (wanted : Wanted) (files later : Contents) (found : Found) (place : ℕ)
-        (entry : FindingEntry) (evidence : InductiveCert) (result : Result CertAnswer Fault)
+        (entry : FindingEntry) (evidence : InductiveCert) (result : Result CheckedCert Fault)
         → ProveStage unit netlist limits wanted files (Ok found) → slice_get found.findings place ≡ Some entry
         → entry.finding ≡ ProvedReach evidence → later unit ≡ files unit → later netlist ≡ files netlist
         → later certificate ≡ Some (inductive_text evidence) → length (inductive_text evidence) ≤ file_limit
-        → CheckStage unit netlist entry.number certificate later result → result ≡ Ok CertAnswer.Passed }
+        → CheckStage unit netlist entry.number certificate later result → Passes result }
 {}

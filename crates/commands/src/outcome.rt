@@ -13,7 +13,7 @@ pub enum Outcome {
     /// `wave`: the verdicts on a recording; and where that is asked for, from where on each is settled, with nothing for
     /// those that are neither settled for nor against.
     Wave(Verdicts, Option<Settlements>),
-    /// `prove`: a finding for each assertion; the first names of the netlist's inputs and then of its latches' outputs, in
+    /// `prove`: a finding for each directive that is asked; the first names of the netlist's inputs and then of its latches' outputs, in
     /// its order, whose values are shown of a run; and the depth and the visits that were asked for.
     Findings {
         findings: Findings,
@@ -22,7 +22,7 @@ pub enum Outcome {
         visits: u32,
     },
     /// `check`: the number that was asked for, counted from 1 as directives are, and what is answered to the certificate.
-    Checked(u32, CertAnswer),
+    Checked(u32, CheckedCert),
     /// `show`: what the directives of a text mean.
     Shown(Lines),
     /// `gen`: the seed, how many samples the made recording has, how many bytes its text has, and the
@@ -30,6 +30,14 @@ pub enum Outcome {
     Made(u64, u32, u64, Verdicts),
     /// `replay`: where a recording leaves a netlist, if it does; how many samples it has; and the verdicts on it.
     Replayed(Replay, u32, Verdicts),
+}
+
+/// What is answered to a certificate.
+#[derive(Clone, Copy, Debug, PartialEq, Eq)]
+pub struct CheckedCert {
+    /// As what the directive of the number is answered for: a cover as one, and all else, or none, as an assertion.
+    pub kind: Kind,
+    pub answer: CertAnswer,
 }
 
 /// From where on a verdict is settled: no samples that follow can change it.

@@ -3,7 +3,7 @@ ghost use Rattle.command_line.specs.Evidences.{evidence_of};
 ghost use Rattle.command_line.specs.Ranges.{AreInRange};
 ghost use Rattle.commands.specs.Provings.{FoundReading, IsFound, ProveStage, recordings_in};
 ghost use Rattle.commands.specs.Stages.{IsStage, IsReading};
-ghost use Rattle.findings.specs.Assertions.{AreNumbered};
+ghost use Rattle.findings.specs.Asked.{AreNumbered};
 ghost use Rattle.findings.specs.Columns.{ShowColumns};
 ghost use Rattle.findings.specs.Recordings.{wanted_of};
 ghost use Rattle.findings.specs.Sizes.{AreWithin};
@@ -33,7 +33,7 @@ pub struct Request<'a> {
     pub evidence: Evidence<'a>,
 }
 
-/// What is found out of a text's assertions, and what is shown of it.
+/// What is found out of a text's assertions, and of its covers where these are asked, and what is shown of it.
 #[derive(Drop)]
 pub struct Found {
     pub findings: Findings,
@@ -41,8 +41,8 @@ pub struct Found {
     pub columns: Names,
 }
 
-/// Proves the assertions of a text of a netlist, both read from files, or finds runs that violate them:
-/// `prove UNIT NETLIST`.
+/// Proves the assertions of a text of a netlist, both read from files, or finds runs that violate them, and asks its covers
+/// where the limits say so: `prove UNIT NETLIST`.
 pub fn prove<F: Shelf>(alloc: Global, files: &mut F, request: Request<'_>) -> Result<Found, Fault>
     requires range { AreInRange request.limits }
     requires loops { request.evidence.loops ≤ 16 }
@@ -54,7 +54,7 @@ pub fn prove<F: Shelf>(alloc: Global, files: &mut F, request: Request<'_>) -> Re
     prove_subject(alloc, &subject, request)
 }
 
-/// The same of what was read, where no assertion may be too large.
+/// The same of what was read, where no directive that is asked may be too large.
 fn prove_subject(alloc: Global, subject: &Subject, request: Request<'_>) -> Result<Found, Fault>
     requires range { AreInRange request.limits }
     requires in_range { All (λ directive. AtomsOfFormula (AtomInRange subject.now.netlist.names) (formula_of directive.formula)) subject.now.directives }
@@ -67,7 +67,8 @@ fn prove_subject(alloc: Global, subject: &Subject, request: Request<'_>) -> Resu
     ensures shown { IfOk result (λ found. ShowColumns found.columns found.findings) }
 {
     let (directives, netlist) = (&subject.directives, &subject.netlist);
-    match check_all(alloc, directives, netlist, request.limits.depth) {
+    let limits = request.limits;
+    match check_all(alloc, directives, netlist, limits.depth, limits.covers) {
         Ok(()) => {
             let found = find(alloc, directives, netlist, request)?;
             Ok(found)
@@ -84,7 +85,7 @@ fn find(
     request: Request<'_>,
 ) -> Result<Found, NoMemory>
     requires range { AreInRange request.limits }
-    requires within { AreWithin netlist.now request.limits.depth directives.now }
+    requires within { AreWithin netlist.now request.limits.depth request.limits.covers directives.now }
     requires in_range { All (λ directive. AtomsOfFormula (AtomInRange netlist.now.names) (formula_of directive.formula)) directives.now }
     requires numbered { AreNumbered directives.now }
     requires traceable { AreTraceable netlist.now directives.now (recordings_in (evidence_of request.evidence)) }
@@ -98,8 +99,9 @@ fn find(
         steps: request.limits.steps,
         reach: request.limits.reach,
     };
+    let covers = request.limits.covers;
     let recordings = recordings_of(request.evidence);
-    let findings = prove_all(alloc, directives, netlist, options, recordings)?;
+    let findings = prove_all(alloc, directives, netlist, options, covers, recordings)?;
     let columns = columns(alloc, netlist)?;
     Ok(Found { findings, columns })
 }

@@ -39,7 +39,7 @@ pub fn report(alloc: Global, outcome: &Outcome) -> Result<Bytes, NoMemory>
             };
             shown.add_entries(&mut text, findings.as_slice())?;
         }
-        Outcome::Checked(number, answer) => add_checked(&mut text, *number, *answer)?,
+        Outcome::Checked(number, checked) => add_checked(&mut text, *number, *checked)?,
         Outcome::Shown(lines) => add_meanings(&mut text, lines.as_slice())?,
         Outcome::Made(seed, samples, bytes, verdicts) => {
             add_made(&mut text, *seed, *samples, *bytes)?;

@@ -17,8 +17,8 @@ use prover::Finding;
 use psl_base::{Bytes, NoMemory, Save, Saves};
 use std::alloc::{AllocError, Global};
 
-/// The files of evidence that are to be written of an outcome, in the order of the assertions: the certificate of each one
-/// that was proved, and the recording of each one that is violated, where prefixes of their names are given.
+/// The files of evidence that are to be written of an outcome, in the order of the directives: the certificate of each proof,
+/// and the recording of each run, where prefixes of their names are given.
 pub fn saves_of(alloc: Global, evidence: Evidence<'_>, outcome: &Outcome) -> Result<Saves, NoMemory>
     ensures { IfOk result (λ saves. map file_of saves ≡ files_of_outcome (evidence_of evidence.entry) outcome.now) }
 {

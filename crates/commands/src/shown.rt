@@ -1,7 +1,7 @@
 // What is printed of findings.
 ghost use Rattle.std.specs.Prelude.{◌≡◌, ◌++◌, ◌<◌, length, All, OnOk};
 ghost use Rattle.std.specs.List.{flat_map};
-ghost use Rattle.commands.specs.Text.{depth_line, digit, entry_text, finding_text, held_line, held_text, judged_lines, lengths_line, recorded_lines, run_text, steps_line, valuation_line, valuation_lines, value_part};
+ghost use Rattle.commands.specs.Text.{depth_line, digit, entry_text, finding_text, held_line, held_text, judged_lines, lengths_line, recorded_lines, proved_word, run_text, run_word, steps_line, valuation_line, valuation_lines, value_part};
 ghost use Rattle.findings.specs.Columns.{HasColumns, ShowColumns, ShowsColumns};
 ghost use Rattle.netlist.specs.Valuations.{bit};
 
@@ -34,40 +34,42 @@ impl<'a> Shown<'a> {
         Ok(())
     }
 
-    /// Adds the lines of a finding, with the head of its assertion.
+    /// Adds the lines of a finding, with the head of its directive.
     fn add_entry(self, text: &mut Vec<u8>, entry: &FindingEntry) -> Result<(), NoMemory>
         requires { ShowsColumns self.columns.now entry.now.finding }
         ensures { OnOk result (text.new.items ≡ text.old.items
             ++ entry_text self.entry.columns.now self.entry.depth self.entry.visits entry.now) }
     {
-        add_head(text, Kind::Assert, entry.number, &entry.label)?;
-        self.add_finding(text, &entry.finding)?;
+        add_head(text, entry.kind, entry.number, &entry.label)?;
+        self.add_finding(text, entry.kind, &entry.finding)?;
         add_recorded(text, &entry.recorded)
     }
 
-    /// Adds what a finding says.
-    fn add_finding(self, text: &mut Vec<u8>, finding: &Finding) -> Result<(), NoMemory>
+    /// Adds what a finding says of a directive of this kind.
+    fn add_finding(self, text: &mut Vec<u8>, kind: Kind, finding: &Finding) -> Result<(), NoMemory>
         requires { ShowsColumns self.columns.now finding.now }
         ensures { OnOk result (text.new.items ≡ text.old.items
-            ++ finding_text self.entry.columns.now self.entry.depth self.entry.visits finding.now) }
+            ++ finding_text kind self.entry.columns.now self.entry.depth self.entry.visits finding.now) }
     {
         match finding {
             Finding::Proved(certificate) => {
-                add_bytes(text, b"proved visits ")?;
+                add_bytes(text, proved_text(kind))?;
+                add_bytes(text, b" visits ")?;
                 add_number(text, u64::from(certificate.visits))?;
                 add_bytes(text, b" window ")?;
                 add_number(text, u64::from(certificate.window))?;
                 add_bytes(text, b"\n")
             }
             Finding::ProvedReach(certificate) => {
-                add_bytes(text, b"proved visits ")?;
+                add_bytes(text, proved_text(kind))?;
+                add_bytes(text, b" visits ")?;
                 add_number(text, u64::from(certificate.visits))?;
                 add_bytes(text, b" clauses ")?;
                 add_number(text, certificate.clauses.len() as u64)?;
                 add_bytes(text, b"\n")
             }
-            Finding::Violated(run) => self.add_run(text, run),
-            Finding::Held(path, _) => self.add_held(text, path),
+            Finding::Violated(run) => self.add_run(text, kind, run),
+            Finding::Held(path, _) => self.add_held(text, kind, path),
             Finding::Depth(_) | Finding::DepthReach(_, _) => self.add_depth(text),
             Finding::Steps(_, log) => add_steps(text, log.lemmas() as u64),
             Finding::LogFull(_, _) => add_bytes(text, b"undecided log\n"),
@@ -87,22 +89,22 @@ impl<'a> Shown<'a> {
     }
 
     /// Adds how long the stem and the loop of a run are, and the lines of its valuations.
-    fn add_run(self, text: &mut Vec<u8>, run: &Run) -> Result<(), NoMemory>
+    fn add_run(self, text: &mut Vec<u8>, kind: Kind, run: &Run) -> Result<(), NoMemory>
         requires stem { All (HasColumns self.columns.now) run.now.stem }
         requires looped { All (HasColumns self.columns.now) run.now.loop_part }
-        ensures { OnOk result (text.new.items ≡ text.old.items ++ run_text self.entry.columns.now run.now) }
+        ensures { OnOk result (text.new.items ≡ text.old.items ++ run_text kind self.entry.columns.now run.now) }
     {
-        add_lengths(text, run)?;
+        add_lengths(text, kind, run)?;
         self.add_valuations(text, b"stem", run.stem.as_slice())?;
         self.add_valuations(text, b"loop", run.loop_part.as_slice())
     }
 
     /// Adds how long a path is behind which the inputs are held, and the lines of its valuations.
-    fn add_held(self, text: &mut Vec<u8>, path: &Valuations) -> Result<(), NoMemory>
+    fn add_held(self, text: &mut Vec<u8>, kind: Kind, path: &Valuations) -> Result<(), NoMemory>
         requires { All (HasColumns self.columns.now) path.now }
-        ensures { OnOk result (text.new.items ≡ text.old.items ++ held_text self.entry.columns.now path.now) }
+        ensures { OnOk result (text.new.items ≡ text.old.items ++ held_text kind self.entry.columns.now path.now) }
     {
-        add_held_length(text, path)?;
+        add_held_length(text, kind, path)?;
         self.add_valuations(text, b"stem", path.as_slice())
     }
 
@@ -156,11 +158,32 @@ impl<'a> Shown<'a> {
     }
 }
 
-/// Adds the line that says how long the stem and the loop of a run are.
-fn add_lengths(text: &mut Vec<u8>, run: &Run) -> Result<(), NoMemory>
-    ensures { OnOk result (text.new.items ≡ text.old.items ++ lengths_line run.now) }
+/// What is said of a directive of this kind of which a proof was found.
+fn proved_text(kind: Kind) -> &'static [u8]
+    ensures { result.now ≡ proved_word kind }
 {
-    add_bytes(text, b"violated stem ")?;
+    match kind {
+        Kind::Assert | Kind::Assume => b"proved",
+        Kind::Cover => b"unreachable",
+    }
+}
+
+/// What is said of a directive of this kind of which a run was found.
+fn run_text(kind: Kind) -> &'static [u8]
+    ensures { result.now ≡ run_word kind }
+{
+    match kind {
+        Kind::Assert | Kind::Assume => b"violated",
+        Kind::Cover => b"covered",
+    }
+}
+
+/// Adds the line that says how long the stem and the loop of a run are.
+fn add_lengths(text: &mut Vec<u8>, kind: Kind, run: &Run) -> Result<(), NoMemory>
+    ensures { OnOk result (text.new.items ≡ text.old.items ++ lengths_line kind run.now) }
+{
+    add_bytes(text, run_text(kind))?;
+    add_bytes(text, b" stem ")?;
     add_number(text, run.stem.len() as u64)?;
     add_bytes(text, b" loop ")?;
     add_number(text, run.loop_part.len() as u64)?;
@@ -168,10 +191,11 @@ fn add_lengths(text: &mut Vec<u8>, run: &Run) -> Result<(), NoMemory>
 }
 
 /// Adds the line that says how long a path is behind which the inputs are held.
-fn add_held_length(text: &mut Vec<u8>, path: &Valuations) -> Result<(), NoMemory>
-    ensures { OnOk result (text.new.items ≡ text.old.items ++ held_line path.now) }
+fn add_held_length(text: &mut Vec<u8>, kind: Kind, path: &Valuations) -> Result<(), NoMemory>
+    ensures { OnOk result (text.new.items ≡ text.old.items ++ held_line kind path.now) }
 {
-    add_bytes(text, b"violated stem ")?;
+    add_bytes(text, run_text(kind))?;
+    add_bytes(text, b" stem ")?;
     add_number(text, path.len() as u64)?;
     add_bytes(text, b" held\n")
 }

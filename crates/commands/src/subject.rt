@@ -1,5 +1,5 @@
 ghost use Rattle.std.specs.Prelude.{◌≤◌, ◌∷◌, [], All, IfOk};
-ghost use Rattle.findings.specs.Assertions.{AreNumbered};
+ghost use Rattle.findings.specs.Asked.{AreNumbered};
 ghost use Rattle.findings.specs.Traceable.{HasTraces};
 ghost use Rattle.psl_tree.specs.Atoms.{AtomsOfFormula};
 ghost use Rattle.psl_tree.specs.Counts.{formula_size};

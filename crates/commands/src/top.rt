@@ -42,8 +42,8 @@ pub fn run<F: Shelf, O: Sink, E: Sink>(
     err: &mut E,
 ) -> Report
     // The status follows from what was found out and the fault: without one it is 1 exactly where some assert or
-    // assume is neutral no, some assertion is violated, the certificate is refused or the recording leaves the netlist,
-    // else 6 where some assertion is undecided, else 0.
+    // assume is neutral no, some assertion is violated, some cover cannot be met, the certificate is refused or the
+    // recording leaves the netlist, else 6 where some assertion or cover is undecided, else 0.
     ensures status { result.status ≡ status_of result.outcome result.fault }
 
     // Each fault has its cause; without one, nothing that is told is refused. Writing has failed only where the count of
@@ -56,15 +56,17 @@ pub fn run<F: Shelf, O: Sink, E: Sink>(
     ensures no_command { IsNoCommand (map string_bytes words.now) → (result.fault ≡ Some (of_none Reason.Usage)) ⊎ ((result.fault ≡ Some (of_none Reason.WriteFault)) ⊎ (result.fault ≡ Some (of_none Reason.NoMemory))) }
 
     // A fault of a file names one that the words name, and one of reading is of the last that was asked for, without
-    // a place.
+    // a place. A signal is named only where one is missing.
     ensures named { IfSome result.fault (IsNamed (map string_bytes words.now)) }
     ensures unread { IfSome result.fault (IsUnread (F.state files.new)) }
 
-    // Whatever the files tell, the outcome is one of the command that the words are, and that of `gen` is exact.
+    // Whatever the files tell, the outcome is one of the command that the words are, with points of verdicts just where
+    // these are asked for, and that of `gen` is exact.
     ensures command { IsOfCommand (map string_bytes words.now) result.outcome }
 
     // The verdicts are satisfaction of the sampled word in the three views, the lines what the directives mean, and each
-    // finding has its evidence: a shortest run that violates what is owed; or a path such that each run which begins with it
+    // finding has its evidence, where what is owed of a cover is that it is not met: a shortest run that violates what is
+    // owed; or a path such that each run which begins with it
     // and then holds its inputs violates it, with how the search for a run whose loop closes ended; or a certificate, of a
     // window or of clauses, and all runs satisfy it; or the limit that was met, and no run that was looked for violates it,
     // with how each search for clauses ended where they are sought. What is answered to a certificate is its first refusal,
@@ -93,9 +95,9 @@ pub fn run<F: Shelf, O: Sink, E: Sink>(
         → (Rose (O.state out.old).faults (O.state out.new).faults → ⊥) → (Rose (E.state err.old).faults (E.state err.new).faults → ⊥)
         → FirstRefusal (map string_bytes words.now) told result.fault ⊎ IsOutOfMemory result.fault }
 
-    // Where prefixes are given, the certificate of each proved assertion is written to its name, `PREFIX.N.cert`, and the
-    // recording of each violated one that is not too long to its own, `PREFIX.N.vcd`, and every other content is as before;
-    // with a fault of writing the first ones are, in the order of the assertions, and the next may be in part. With any
+    // Where prefixes are given, the certificate of each proof is written to its name, `PREFIX.N.cert`, and the recording
+    // of each run that is not too long to its own, `PREFIX.N.vcd`, and every other content is as before;
+    // with a fault of writing the first ones are, in the order of the directives, and the next may be in part. With any
     // other fault, and where nothing is to be written, every content is as before.
     ensures saved { IsSavedBy (map string_bytes words.now) result.outcome result.fault (F.state files.old) (F.state files.new) }
 {
@@ -227,8 +229,8 @@ fn check_outcome<F: Shelf>(
         number,
         certificate,
     };
-    let answer = check(alloc, files, question)?;
-    Ok(Outcome::Checked(number, answer))
+    let checked = check(alloc, files, question)?;
+    Ok(Outcome::Checked(number, checked))
 }
 
 /// What `replay` finds out.

@@ -1,4 +1,4 @@
-ghost use Rattle.std.specs.Prelude.{◌≡◌, ◌⊎◌, ◌<◌, ◌≤◌, ◌∷◌, [], length, All, IfOk, IfSome};
+ghost use Rattle.std.specs.Prelude.{◌≡◌, ◌⊎◌, ◌<◌, ◌≤◌, ◌∷◌, [], length, All, IfOk, IfSome, is_some};
 ghost use Rattle.psl_tree.specs.Atoms.{AtomsOfFormula};
 ghost use Rattle.psl_tree.specs.Counts.{formula_size};
 ghost use Rattle.psl_tree.specs.Names.{AtomInRange};
@@ -38,7 +38,8 @@ pub fn wave<F: Shelf>(
     unknown: Unknown,
     points: bool,
 ) -> Result<Judgement, Fault>
-    ensures { IsStage (unit.now ∷ recording.now ∷ []) (WaveStage unit.now recording.now unknown points) (F.state files.old) (F.state files.new) result }
+    ensures stage { IsStage (unit.now ∷ recording.now ∷ []) (WaveStage unit.now recording.now unknown points) (F.state files.old) (F.state files.new) result }
+    ensures asked { IfOk result (λ judged. is_some judged.settled ≡ points) }
 {
     let inputs = load_inputs(alloc, files, unit, recording, unknown)?;
     judge_inputs(alloc, &inputs, unit, recording, unknown, points)
@@ -64,7 +65,8 @@ fn judge_inputs(
     unknown: Unknown,
     points: bool,
 ) -> Result<Judgement, Fault>
-    ensures { IsReading (unit.now ∷ name.now ∷ []) (JudgedReading points unknown unit.now name.now inputs.now) result }
+    ensures reading { IsReading (unit.now ∷ name.now ∷ []) (JudgedReading points unknown unit.now name.now inputs.now) result }
+    ensures asked { IfOk result (λ judged. is_some judged.settled ≡ points) }
 {
     let recording = &inputs.recording;
     let directives = directives(alloc, &inputs.tree, recording.names(), unit)?;
@@ -104,7 +106,8 @@ fn settled(
     requires in_range { All (λ directive. AtomsOfFormula (AtomInRange recording.now.names) (formula_of directive.formula)) directives.now }
     requires small { All (λ directive. formula_size (formula_of directive.formula) ≤ 4096) directives.now }
     requires judged { AreJudged recording.now directives.now verdicts.now }
-    ensures { IfOk result (AreSettled points recording.now directives.now verdicts.now) }
+    ensures settled { IfOk result (AreSettled points recording.now directives.now verdicts.now) }
+    ensures asked { IfOk result (λ settled. is_some settled ≡ points) }
 {
     if !points {
         return Ok(None);

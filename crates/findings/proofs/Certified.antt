@@ -4,7 +4,7 @@ use Rattle.std.specs.Prelude.{IfOk, IfErr}
 use Rattle.std.proofs.lemmas.Nat.{mul-le}
 use Rattle.std.proofs.lemmas.Option.{same_Some}
 use Rattle.cdcl.specs.Evidence as solver
-use Rattle.cert_check.specs.Claims.{asked_of, directive_of, is_some_assertion, queries_by, queries_of}
+use Rattle.cert_check.specs.Claims.{asked_of, directive_of, has_claim, queries_by, queries_of}
 use Rattle.cert_check.specs.Limits.{ClausesIn, HasCause, IsFault, IsFaultBehind}
 use Rattle.cert_check.specs.declared.fault.CertFault.{CertFault}
 use Rattle.cert_check.specs.declared.fault.CertFault.TheVariants.{SereTooLarge, AutomatonTooLarge, UnrollTooLarge, FormulaTooLarge, NoMemory}
@@ -41,7 +41,7 @@ use Rattle.prover.specs.declared.options.Options.{Options}
 use Rattle.prover.specs.declared.task.Task.{Task}
 use Rattle.psl_tree.specs.declared.directive.Directive.{Directive}
 use Rattle.owed.specs.Sized.{IsSized, bulk_of}
-use Rattle.findings.specs.Assertions.{IsAssertionOf}
+use Rattle.findings.specs.Asked.{IsAskedOf}
 use Rattle.findings.specs.Entries.{IsPassedFor, IsPassedText}
 
 -- what a law of the solver says of drops
@@ -71,19 +71,19 @@ module _ (design : Design) (unit : List Directive) (d : Directive) (options : Op
       }
 
   -- so the certificate is evidence
-  evidence : IsAssertionOf unit d → d.number ≤ 4294967295 → options.visits ≤ 16 → options.depth ≤ 1000
+  evidence : IsAskedOf unit d → d.number ≤ 4294967295 → options.visits ≤ 16 → options.depth ≤ 1000
       → (certificate : Certificate) → IsProved design unit d options certificate
       → IsEvidence (asked_of unit d.number) (queries_of design unit d.number) certificate
-  evidence assertion few visits depth certificate proved = record {
-    is_asked = (proved.number, ap is_some_assertion assertion.is ∙ assertion.kind);
-    number = subst (MayBe Assertion) (sym proved.number) (record { least = assertion.some; most = few });
+  evidence numbered few visits depth certificate proved = record {
+    is_asked = (proved.number, ap has_claim numbered.is ∙ numbered.kind);
+    number = subst (MayBe Assertion) (sym proved.number) (record { least = numbered.some; most = few });
     visits = record { least = omega arith; most = omega (arith, proved.visits, visits) };
     window = record { least = proved.some; most = omega (arith, proved.within, depth) };
     base =
-        subst (λ (f : Option Directive). IsRefuted ((queries_by design unit f).base certificate.visits certificate.window) certificate.base) (sym assertion.is)
+        subst (λ (f : Option Directive). IsRefuted ((queries_by design unit f).base certificate.visits certificate.window) certificate.base) (sym numbered.is)
         (refuted (Base certificate.visits certificate.window) certificate.base proved.base);
     induction =
-        subst (λ (f : Option Directive). IsRefuted ((queries_by design unit f).induction certificate.visits certificate.window) certificate.induction) (sym assertion.is)
+        subst (λ (f : Option Directive). IsRefuted ((queries_by design unit f).induction certificate.visits certificate.window) certificate.induction) (sym numbered.is)
         (refuted (Induction certificate.visits certificate.window) certificate.induction proved.induction);
   }
 
@@ -125,20 +125,20 @@ module _ (design : Design) (unit : List Directive) (d : Directive) (options : Op
   no-fault there text says has none NoMemory cause = refl
 
 -- what is found of a task
-pub passed-for : (task : Task) → IsProvable task → IsAssertionOf task.unit.now task.assertion.now → task.options.depth ≤ 1000 → task.assertion.now.number ≤ 4294967295
-    → (finding : Finding) → IsFinding task.netlist.now task.unit.now task.assertion.now task.options finding
-    → (certificate : Certificate) → finding ≡ Proved certificate → IsPassedFor task.netlist.now task.unit.now task.assertion.now.number certificate
-passed-for task provable assertion depth few finding is certificate same = λ version.
+pub passed-for : (task : Task) → IsProvable task → IsAskedOf task.unit.now task.directive.now → task.options.depth ≤ 1000 → task.directive.now.number ≤ 4294967295
+    → (finding : Finding) → IsFinding task.netlist.now task.unit.now task.directive.now task.options finding
+    → (certificate : Certificate) → finding ≡ Proved certificate → IsPassedFor task.netlist.now task.unit.now task.directive.now.number certificate
+passed-for task provable numbered depth few finding is certificate same = λ version.
     let design = task.netlist.now in
     let unit = task.unit.now in
-    let d = task.assertion.now in
+    let d = task.directive.now in
     let text = cert_text version certificate in
     let says = header_of version certificate in
     let proved : IsProved design unit d task.options certificate = subst (IsFinding design unit d task.options) same is in
-    let shows = evidence design unit d task.options assertion few provable.visits depth certificate proved in
+    let shows = evidence design unit d task.options numbered few provable.visits depth certificate proved in
     record {
       passed = text_passes (asked_of unit d.number) (queries_of design unit d.number) version certificate shows;
-      checked = no-fault design unit d task.options assertion.is text says (text_header (asked_of unit d.number) (queries_of design unit d.number) version certificate shows)
+      checked = no-fault design unit d task.options numbered.is text says (text_header (asked_of unit d.number) (queries_of design unit d.number) version certificate shows)
           (within-limits design unit d task.options provable.sized version certificate proved (ClausesIn design unit d.number text says));
     }
 

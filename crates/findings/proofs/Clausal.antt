@@ -1,7 +1,7 @@
 -- The text of a certificate of clauses that the prover gives is passed, and passes no limit of the checker.
 use Rattle.std.proofs.Common.{◌≡◌, ◌∙◌, refl, sym, ap, subst, ℕ, ℤ, suc, ◌*◌, ◌<◌, ◌≤◌, List, [], ◌++◌, Option, inl, inr, arith, append_assoc}
 use Rattle.std.specs.Bool.{IsTrue}
-use Rattle.cert_check.specs.Claims.{asked_of, bad_query, initial_query, is_some_assertion, queries_by, queries_of, step_query}
+use Rattle.cert_check.specs.Claims.{asked_of, bad_query, initial_query, has_claim, queries_by, queries_of, step_query}
 use Rattle.cert_check.specs.Limits.{AreClausesTooLarge, ClausesIn, IsFaultBehind}
 use Rattle.cert_check.specs.declared.fault.CertFault.{CertFault}
 use Rattle.cert_check.specs.declared.fault.CertFault.TheVariants.{SereTooLarge, AutomatonTooLarge, UnrollTooLarge, FormulaTooLarge, NoMemory}
@@ -47,7 +47,7 @@ use Rattle.reach.specs.Formulas.{clauses_of, variables_of}
 use Rattle.reach_frames.specs.declared.stop.ReachQuery as asked
 use Rattle.reach_frames.specs.declared.stop.ReachQuery.TheVariants as queries
 use Rattle.owed.specs.Sized.{IsSized, bulk_of}
-use Rattle.findings.specs.Assertions.{IsAssertionOf}
+use Rattle.findings.specs.Asked.{IsAskedOf}
 use Rattle.findings.specs.Entries.{IsPassedText}
 use Rattle.findings.proofs.Certified.{drops-live, less-work, no-fault}
 use Rattle.findings.proofs.JointSizes.{few-bits, small-circuit}
@@ -127,28 +127,28 @@ module _ (design : Design) (unit : List Directive) (d : Directive) (options : Op
   bad-large large = large
 
   -- the certificate is evidence
-  evidence : IsAssertionOf unit d → d.number ≤ 4294967295 → options.visits ≤ 16
+  evidence : IsAskedOf unit d → d.number ≤ 4294967295 → options.visits ≤ 16
       → IsInductiveEvidence (asked_of unit d.number) (queries_of design unit d.number) certificate
-  evidence assertion few visits =
+  evidence numbered few visits =
       let small : MOST_VARIABLES < bad_variables design (violation_of unit d) certificate.visits → ⊥ = λ many. proved.inductive.bad.fits (inl many) in
       let bits : joint_width design (violation_of unit d) certificate.visits ≤ MOST_VARIABLES =
       omega (arith, small, few-bits design (violation_of unit d) certificate.visits) in
       record {
-        is_asked = (proved.number, ap is_some_assertion assertion.is ∙ assertion.kind);
-        number = subst (MayBe Assertion) (sym proved.number) (record { least = assertion.some; most = few });
+        is_asked = (proved.number, ap has_claim numbered.is ∙ numbered.kind);
+        number = subst (MayBe Assertion) (sym proved.number) (record { least = numbered.some; most = few });
         visits = record { least = omega arith; most = omega (arith, proved.visits, visits) };
-        bits = subst (λ (f : Option Directive). (queries_by design unit f).width certificate.visits ≤ MOST_VARIABLES) (sym assertion.is) bits;
+        bits = subst (λ (f : Option Directive). (queries_by design unit f).width certificate.visits ≤ MOST_VARIABLES) (sym numbered.is) bits;
         within =
-            subst (λ (f : Option Directive). IsTrue (clauses_within ((queries_by design unit f).width certificate.visits) certificate.clauses)) (sym assertion.is)
+            subst (λ (f : Option Directive). IsTrue (clauses_within ((queries_by design unit f).width certificate.visits) certificate.clauses)) (sym numbered.is)
             proved.inductive.within;
         initial =
-            subst (λ (f : Option Directive). IsRefuted ((queries_by design unit f).initial certificate.visits certificate.clauses) certificate.initial) (sym assertion.is)
+            subst (λ (f : Option Directive). IsRefuted ((queries_by design unit f).initial certificate.visits certificate.clauses) certificate.initial) (sym numbered.is)
             (initial-refuted (refuted joined options.steps (queries.Initial certificate.clauses) certificate.initial proved.inductive.initial));
         step =
-            subst (λ (f : Option Directive). IsRefuted ((queries_by design unit f).step certificate.visits certificate.clauses) certificate.step) (sym assertion.is)
+            subst (λ (f : Option Directive). IsRefuted ((queries_by design unit f).step certificate.visits certificate.clauses) certificate.step) (sym numbered.is)
             (step-refuted (refuted joined options.steps (queries.Step certificate.clauses) certificate.step proved.inductive.step));
         bad =
-            subst (λ (f : Option Directive). IsRefuted ((queries_by design unit f).bad certificate.visits certificate.clauses) certificate.bad) (sym assertion.is)
+            subst (λ (f : Option Directive). IsRefuted ((queries_by design unit f).bad certificate.visits certificate.clauses) certificate.bad) (sym numbered.is)
             (bad-refuted (refuted joined options.steps (queries.Bad certificate.clauses) certificate.bad proved.inductive.bad));
       }
 
@@ -178,23 +178,23 @@ module _ (design : Design) (unit : List Directive) (d : Directive) (options : Op
   within-limits sized some visits behind one NoMemory cause = refl
 
 -- what is found of a task
-pub passed-reach : (task : Task) → IsProvable task → IsAssertionOf task.unit.now task.assertion.now → task.assertion.now.number ≤ 4294967295
-    → (finding : Finding) → IsFinding task.netlist.now task.unit.now task.assertion.now task.options finding
+pub passed-reach : (task : Task) → IsProvable task → IsAskedOf task.unit.now task.directive.now → task.directive.now.number ≤ 4294967295
+    → (finding : Finding) → IsFinding task.netlist.now task.unit.now task.directive.now task.options finding
     → (certificate : InductiveCert) → finding ≡ ProvedReach certificate
-    → IsPassedText task.netlist.now task.unit.now task.assertion.now.number (inductive_text certificate)
-passed-reach task provable assertion few finding is certificate same =
+    → IsPassedText task.netlist.now task.unit.now task.directive.now.number (inductive_text certificate)
+passed-reach task provable numbered few finding is certificate same =
     let design = task.netlist.now in
     let unit = task.unit.now in
-    let d = task.assertion.now in
+    let d = task.directive.now in
     let asks = asked_of unit d.number in
     let shows = queries_of design unit d.number in
     let text = inductive_text certificate in
     let says = inductive_header certificate in
     let proved : IsProvedReach design unit d task.options certificate = subst (IsFinding design unit d task.options) same is in
-    let is_evidence = evidence design unit d task.options certificate proved assertion few provable.visits in
+    let is_evidence = evidence design unit d task.options certificate proved numbered few provable.visits in
     record {
       passed = inductive_passes asks shows certificate is_evidence;
-      checked = no-fault design unit d task.options assertion.is text says (inductive_begins asks shows certificate is_evidence)
+      checked = no-fault design unit d task.options numbered.is text says (inductive_begins asks shows certificate is_evidence)
           (within-limits design unit d task.options certificate proved provable.sized provable.depth provable.visits (ClausesIn design unit d.number text says)
           (λ clauses has. one_clauses asks shows text says says clauses certificate.clauses has (has-clauses asks shows certificate is_evidence)));
     }

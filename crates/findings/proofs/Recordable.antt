@@ -15,9 +15,11 @@ use Rattle.prover.specs.declared.finding.Finding.TheVariants as findings
 use Rattle.prover.specs.declared.task.Task.{Task}
 use Rattle.psl_tree.specs.Plain.{plain}
 use Rattle.psl_tree.specs.Counts.{formula_size, obligations_of}
-use Rattle.psl_tree.specs.Trees.{Formula, formula_of}
+use Rattle.psl_tree.specs.Trees.{Formula, Not, And, formula_of}
 use Rattle.psl_tree.specs.declared.counts.TheConstants.{MOST_CONSTRUCTORS, MOST_OBLIGATIONS}
 use Rattle.psl_tree.specs.declared.directive.Directive.{Directive}
+use Rattle.psl_tree.specs.declared.directive.Kind.{Kind}
+use Rattle.psl_tree.specs.declared.directive.Kind.TheVariants.{Assert, Assume, Cover}
 use Rattle.vcd_reader.specs.Rules.{sample_limit}
 use Rattle.wave_judge.specs.Faults.{IsJudgeable}
 use Rattle.findings.proofs.Paths.{along-made}
@@ -26,24 +28,40 @@ use Rattle.findings.specs.Traceable.{AreTraceable, IsTraceable}
 
 -- a formula that is small enough under assumptions is so alone
 
-alone-small : (assumed : Option Formula) (formula : Formula) → (HasLargeSequence (plain (under assumed formula) None) → ⊥) → HasLargeSequence (plain formula None) → ⊥
-alone-small None formula small large = small large
-alone-small (Some assumed) formula small large = small (inr large)
+alone-small : (assumed : Option Formula) (kind : Kind) (formula : Formula) → (HasLargeSequence (plain (under assumed kind formula) None) → ⊥)
+    → HasLargeSequence (plain formula None) → ⊥
+alone-small None Assert formula small large = small large
+alone-small None Assume formula small large = small large
+alone-small None Cover formula small large = small large
+alone-small (Some assumed) Assert formula small large = small (inr large)
+alone-small (Some assumed) Assume formula small large = small (inr large)
+alone-small (Some assumed) Cover formula small large = small (inr large)
 
-alone-few : (assumed : Option Formula) (formula : Formula) → obligations_of (plain (under assumed formula) None) ≤ MOST_OBLIGATIONS
+under-few : (assumed formula : Formula) → obligations_of (plain (Not (And assumed (Not formula))) None) ≤ MOST_OBLIGATIONS
     → obligations_of (plain formula None) ≤ MOST_OBLIGATIONS
-alone-few None formula few = few
-alone-few (Some assumed) formula few =
+under-few assumed formula few =
     let both : obligations_of (plain assumed None) + (obligations_of (plain formula None) + 1) + 1 + 1 ≤ MOST_OBLIGATIONS = few in
     omega (arith, both)
 
-can-judge : (task : Task) → IsProvable task → IsJudgeable task.assertion.now
+alone-few : (assumed : Option Formula) (kind : Kind) (formula : Formula) → obligations_of (plain (under assumed kind formula) None) ≤ MOST_OBLIGATIONS
+    → obligations_of (plain formula None) ≤ MOST_OBLIGATIONS
+alone-few None Assert formula few = few
+alone-few None Assume formula few = few
+alone-few None Cover formula few = let one : obligations_of (plain formula None) + 1 ≤ MOST_OBLIGATIONS = few in omega (arith, one)
+alone-few (Some assumed) Assert formula few = under-few assumed formula few
+alone-few (Some assumed) Assume formula few = under-few assumed formula few
+alone-few (Some assumed) Cover formula few =
+    let both : obligations_of (plain assumed None) + obligations_of (plain formula None) + 1 + 1 ≤ MOST_OBLIGATIONS = few in
+    omega (arith, both)
+
+can-judge : (task : Task) → IsProvable task → IsJudgeable task.directive.now
 can-judge task provable =
     let assumed = conjunction (assumptions task.unit.now) in
-    let formula = formula_of task.assertion.now.formula in
+    let formula = formula_of task.directive.now.formula in
+    let kind = task.directive.now.kind in
     record {
-      sequences = alone-small assumed formula provable.sized.sequences;
-      obligations = alone-few assumed formula provable.sized.obligations;
+      sequences = alone-small assumed kind formula provable.sized.sequences;
+      obligations = alone-few assumed kind formula provable.sized.obligations;
     }
 
 -- the samples of a short run, its loop 16 times at most, are few
@@ -53,8 +71,8 @@ few-samples stem looped loops short few =
     omega (arith, short, most)
 
 can-record : (task : Task) (loops : ℕ) (run : Run) → IsProvable task → task.options.depth ≤ 1000
-    → IsTraceable task.netlist.now (task.assertion.now ∷ []) loops
-    → IsShortest task.netlist.now task.unit.now task.assertion.now task.options.depth run → CanRecord task loops run
+    → IsTraceable task.netlist.now (task.directive.now ∷ []) loops
+    → IsShortest task.netlist.now task.unit.now task.directive.now task.options.depth run → CanRecord task loops run
 can-record task loops run provable depth traceable shortest =
     let short : length run.stem + length run.loop_part ≤ 1000 = omega (arith, depth, shortest.within) in
     record {
@@ -64,21 +82,21 @@ can-record task loops run provable depth traceable shortest =
         signals = traceable.traces.signals;
         samples = few-samples (length run.stem) (length run.loop_part) loops short traceable.few;
       };
-      in_range = provable.assertion;
-      small = traceable.small 0 task.assertion.now (omega arith);
+      in_range = provable.directive;
+      small = traceable.small 0 task.directive.now (omega arith);
       judgeable = can-judge task provable;
     }
 
 run-recordable : (task : Task) (wanted : Option (List ℕ × ℕ)) (run : Run) → IsProvable task → task.options.depth ≤ 1000
-    → AreTraceable task.netlist.now (task.assertion.now ∷ []) wanted
-    → IsShortest task.netlist.now task.unit.now task.assertion.now task.options.depth run → IsRunRecordable task wanted run
+    → AreTraceable task.netlist.now (task.directive.now ∷ []) wanted
+    → IsShortest task.netlist.now task.unit.now task.directive.now task.options.depth run → IsRunRecordable task wanted run
 run-recordable task None run provable depth traceable shortest = tt
 run-recordable task (Some (prefix, loops)) run provable depth traceable shortest = can-record task loops run provable depth traceable shortest
 
 -- a path, which is short, is recorded without a loop
 can-record-path : (task : Task) (loops : ℕ) (path : List (List Bool)) → IsProvable task → task.options.depth ≤ 1000
-    → IsTraceable task.netlist.now (task.assertion.now ∷ []) loops
-    → IsHeldPath task.netlist.now task.unit.now task.assertion.now task.options.depth path → CanRecord task 0 (along path)
+    → IsTraceable task.netlist.now (task.directive.now ∷ []) loops
+    → IsHeldPath task.netlist.now task.unit.now task.directive.now task.options.depth path → CanRecord task 0 (along path)
 can-record-path task loops path provable depth traceable held = record {
   readable = record {
     is = along-made task.netlist.now path held.is;
@@ -86,21 +104,21 @@ can-record-path task loops path provable depth traceable held = record {
     signals = traceable.traces.signals;
     samples = omega (arith, depth, held.within);
   };
-  in_range = provable.assertion;
-  small = traceable.small 0 task.assertion.now (omega arith);
+  in_range = provable.directive;
+  small = traceable.small 0 task.directive.now (omega arith);
   judgeable = can-judge task provable;
 }
 
 path-recordable : (task : Task) (wanted : Option (List ℕ × ℕ)) (path : List (List Bool)) → IsProvable task → task.options.depth ≤ 1000
-    → AreTraceable task.netlist.now (task.assertion.now ∷ []) wanted
-    → IsHeldPath task.netlist.now task.unit.now task.assertion.now task.options.depth path
+    → AreTraceable task.netlist.now (task.directive.now ∷ []) wanted
+    → IsHeldPath task.netlist.now task.unit.now task.directive.now task.options.depth path
     → IsRunRecordable task (unlooped wanted) (along path)
 path-recordable task None path provable depth traceable held = tt
 path-recordable task (Some (prefix, loops)) path provable depth traceable held = can-record-path task loops path provable depth traceable held
 
 pub recordable : (task : Task) (wanted : Option (List ℕ × ℕ)) (finding : Finding) → IsProvable task → task.options.depth ≤ 1000
-    → AreTraceable task.netlist.now (task.assertion.now ∷ []) wanted
-    → IsFinding task.netlist.now task.unit.now task.assertion.now task.options finding → Recordable task wanted finding
+    → AreTraceable task.netlist.now (task.directive.now ∷ []) wanted
+    → IsFinding task.netlist.now task.unit.now task.directive.now task.options finding → Recordable task wanted finding
 recordable task wanted (findings.Violated run) provable depth traceable is = run-recordable task wanted run provable depth traceable is
 recordable task wanted (findings.Held path end) provable depth traceable is =
     (is.path_is.is.some, path-recordable task wanted path provable depth traceable is.path_is)

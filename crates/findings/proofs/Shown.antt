@@ -20,7 +20,7 @@ use Rattle.psl_tree.specs.Names.{first_name}
 use Rattle.psl_tree.specs.declared.directive.Directive.{Directive}
 use Rattle.psl_tree.specs.declared.name.Name.{Name}
 use Rattle.findings.proofs.Paths.{path-valuations}
-use Rattle.findings.specs.Assertions.{assertions}
+use Rattle.findings.specs.Asked.{asked}
 use Rattle.findings.specs.Columns.{AreColumns, HasColumns, ShowColumns, ShowsColumns}
 use Rattle.findings.specs.Entries.{AreEntries, AreFindings}
 use Rattle.findings.specs.declared.entry.FindingEntry.{FindingEntry}
@@ -55,17 +55,17 @@ module _ (design : Design) (unit : List Directive) (options : Options) (wanted :
         (λ place other lt. has-columns (get_or run.loop_part place other) (made.looped place other lt)),
       )
 
-  finding-shows : (assertion : Directive) (finding : Finding) → IsFinding design unit assertion options finding → ShowsColumns columns finding
-  finding-shows assertion (findings.Violated run) is = run-has run is.is.is
-  finding-shows assertion (findings.Held path end) is =
+  finding-shows : (directive : Directive) (finding : Finding) → IsFinding design unit directive options finding → ShowsColumns columns finding
+  finding-shows directive (findings.Violated run) is = run-has run is.is.is
+  finding-shows directive (findings.Held path end) is =
       λ place other lt. has-columns (get_or path place other) (path-valuations design path is.path_is.is place other lt)
-  finding-shows assertion (findings.Proved _) is = tt
-  finding-shows assertion (findings.ProvedReach _) is = tt
-  finding-shows assertion (findings.Depth _) is = tt
-  finding-shows assertion (findings.DepthReach _ _) is = tt
-  finding-shows assertion (findings.Steps _ _) is = tt
-  finding-shows assertion (findings.LogFull _ _) is = tt
-  finding-shows assertion (findings.Large _) is = tt
+  finding-shows directive (findings.Proved _) is = tt
+  finding-shows directive (findings.ProvedReach _) is = tt
+  finding-shows directive (findings.Depth _) is = tt
+  finding-shows directive (findings.DepthReach _ _) is = tt
+  finding-shows directive (findings.Steps _ _) is = tt
+  finding-shows directive (findings.LogFull _ _) is = tt
+  finding-shows directive (findings.Large _) is = tt
 
   entries-show : (ds : List Directive) (es : List FindingEntry) → AreEntries design unit options wanted ds es → ShowColumns columns es
   entries-show [] [] h = All-nil (λ e. ShowsColumns columns e.finding)
@@ -74,7 +74,7 @@ module _ (design : Design) (unit : List Directive) (options : Options) (wanted :
   entries-show (a ∷ ds) (e ∷ es) h =
       All-cons (λ e. ShowsColumns columns e.finding) e es (finding-shows a e.finding h.0.finding) (entries-show ds es h.1)
 
-pub all-shown : (design : Design) (unit : List Directive) (options : Options) (wanted : Option (List ℕ × ℕ)) (columns : List Name) (entries : List FindingEntry)
-    → IsSound design → AreColumns design columns → AreFindings design unit options wanted entries → ShowColumns columns entries
-all-shown design unit options wanted columns entries sound are h =
-    entries-show design unit options wanted columns (columns-within design columns sound are) (assertions unit) entries h
+pub all-shown : (design : Design) (unit : List Directive) (options : Options) (covers : Bool) (wanted : Option (List ℕ × ℕ)) (columns : List Name) (entries : List FindingEntry)
+    → IsSound design → AreColumns design columns → AreFindings design unit options covers wanted entries → ShowColumns columns entries
+all-shown design unit options covers wanted columns entries sound are h =
+    entries-show design unit options wanted columns (columns-within design columns sound are) (asked covers unit) entries h

@@ -1,5 +1,5 @@
--- What is found out of the assertions of a text.
-use Rattle.std.specs.Prelude.{◌≡◌, ℕ, List, [], ◌∷◌, Option}
+-- What is found out of the directives of a text that are asked.
+use Rattle.std.specs.Prelude.{◌≡◌, ℕ, Bool as Truth, List, [], ◌∷◌, Option}
 use Rattle.cert_check.specs.Claims.{asked_of, queries_of}
 use Rattle.cert_check.specs.Limits.{IsFault}
 use Rattle.cert_check.specs.declared.fault.CertFault.{CertFault}
@@ -15,11 +15,11 @@ use Rattle.prover.specs.Findings.{IsFinding}
 use Rattle.prover.specs.declared.finding.Finding.TheVariants.{Proved, ProvedReach}
 use Rattle.prover.specs.declared.options.Options.{Options}
 use Rattle.psl_tree.specs.declared.directive.Directive.{Directive}
-use Rattle.findings.specs.Assertions.{assertions}
+use Rattle.findings.specs.Asked.{asked}
 use Rattle.findings.specs.Recordings.{IsRecorded}
 use Rattle.findings.specs.declared.entry.FindingEntry.{FindingEntry}
 
--- A text is passed for the assertion of a number: no line of it is refused. Nor does it pass a limit: it is checked, unless
+-- A text is passed for the directive of a number: no line of it is refused. Nor does it pass a limit: it is checked, unless
 -- memory is refused.
 pub record IsPassedText (design : Design) (unit : List Directive) (number : ℕ) (text : List ℕ) : Type 0 where
   pub passed : IsAnswer (asked_of unit number) (queries_of design unit number) text Passed
@@ -29,26 +29,27 @@ pub record IsPassedText (design : Design) (unit : List Directive) (number : ℕ)
 abbrev pub IsPassedFor : Design → List Directive → ℕ → Certificate → Type 0
 IsPassedFor design unit number certificate = (version : Version) → IsPassedText design unit number (cert_text version certificate)
 
--- the finding of an assertion of the text, with its evidence; where it is proved, the certificate is passed, be it of a
+-- the finding of a directive of the text, with its evidence; where it is proved, the certificate is passed, be it of a
 -- window or of clauses
-pub record IsEntry (design : Design) (unit : List Directive) (options : Options) (wanted : Option (List ℕ × ℕ)) (assertion : Directive)
+pub record IsEntry (design : Design) (unit : List Directive) (options : Options) (wanted : Option (List ℕ × ℕ)) (directive : Directive)
     (entry : FindingEntry) : Type 0 where
-  pub number : entry.number ≡ assertion.number
-  pub label : entry.label ≡ assertion.label
-  pub finding : IsFinding design unit assertion options entry.finding
-  pub recorded : IsRecorded design assertion wanted entry.finding entry.recorded
+  pub kind : entry.kind ≡ directive.kind
+  pub number : entry.number ≡ directive.number
+  pub label : entry.label ≡ directive.label
+  pub finding : IsFinding design unit directive options entry.finding
+  pub recorded : IsRecorded design directive wanted entry.finding entry.recorded
   pub passed : (certificate : Certificate) → entry.finding ≡ Proved certificate
       → IsPassedFor design unit entry.number certificate
   pub passed_reach : (certificate : InductiveCert) → entry.finding ≡ ProvedReach certificate
       → IsPassedText design unit entry.number (inductive_text certificate)
 
--- one for each of some assertions, in order
+-- one for each of some directives, in order
 abbrev pub AreEntries : Design → List Directive → Options → Option (List ℕ × ℕ) → List Directive → List FindingEntry → Type 0
 AreEntries design unit options wanted [] [] = Unit {0}
-AreEntries design unit options wanted (assertion ∷ assertions) (entry ∷ entries) =
-    IsEntry design unit options wanted assertion entry × AreEntries design unit options wanted assertions entries
+AreEntries design unit options wanted (directive ∷ directives) (entry ∷ entries) =
+    IsEntry design unit options wanted directive entry × AreEntries design unit options wanted directives entries
 AreEntries design unit options wanted _ _ = ⊥
 
--- one for each assertion of the text
-abbrev pub AreFindings : Design → List Directive → Options → Option (List ℕ × ℕ) → List FindingEntry → Type 0
-AreFindings design unit options wanted entries = AreEntries design unit options wanted (assertions unit) entries
+-- one for each directive of the text that is asked
+abbrev pub AreFindings : Design → List Directive → Options → Truth → Option (List ℕ × ℕ) → List FindingEntry → Type 0
+AreFindings design unit options covers wanted entries = AreEntries design unit options wanted (asked covers unit) entries

@@ -1,4 +1,4 @@
-pub mod Assertions
+pub mod Asked
 pub mod Columns
 pub mod Entries
 pub mod Recordings

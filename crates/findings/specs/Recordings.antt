@@ -1,4 +1,4 @@
--- The recordings of runs that violate assertions.
+-- The recordings of runs that violate assertions or meet covers.
 use Rattle.std.specs.Prelude.{◌≡◌, ◌<◌, ◌≤◌, ℕ, Bool, List, [], ◌∷◌, ◌++◌, length, Option, None, Some, codes, decimal, option_map}
 use Rattle.findings.specs.declared.recording.Recorded.{Recorded}
 use Rattle.findings.specs.declared.recording.Recorded.TheVariants.{Judged, TooLong}
@@ -28,19 +28,19 @@ wanted_of recordings = option_map (λ (wanted : Recordings). (wanted.prefix.now,
 abbrev pub recording_name : List ℕ → ℕ → List ℕ
 recording_name prefix number = prefix ++ codes "." ++ decimal number ++ codes ".vcd"
 
--- what is recorded of a run: its trace, how many samples that has and what it says of the assertion; or that the trace has
+-- what is recorded of a run: its trace, how many samples that has and what it says of the directive; or that the trace has
 -- more bytes than a file may have
 abbrev pub IsRecordedRun : Design → Directive → List ℕ × ℕ → Run → Recorded → Type 0
-IsRecordedRun design assertion (prefix, loops) run (Judged name samples verdict text) =
-    (name ≡ recording_name prefix assertion.number)
-    × IsJudgedUpTo file_limit design run loops assertion (Some (record { text = text; samples = samples; verdict = verdict }))
-IsRecordedRun design assertion (prefix, loops) run TooLong = file_limit < length (trace_text design run loops)
+IsRecordedRun design directive (prefix, loops) run (Judged name samples verdict text) =
+    (name ≡ recording_name prefix directive.number)
+    × IsJudgedUpTo file_limit design run loops directive (Some (record { text = text; samples = samples; verdict = verdict }))
+IsRecordedRun design directive (prefix, loops) run TooLong = file_limit < length (trace_text design run loops)
 
 -- what is recorded of a run, where recordings are wanted
 abbrev pub IsRunRecorded : Design → Directive → Option (List ℕ × ℕ) → Run → Option Recorded → Type 0
-IsRunRecorded design assertion None run recorded = recorded ≡ None
-IsRunRecorded design assertion (Some wanted) run None = ⊥
-IsRunRecorded design assertion (Some wanted) run (Some recorded) = IsRecordedRun design assertion wanted run recorded
+IsRunRecorded design directive None run recorded = recorded ≡ None
+IsRunRecorded design directive (Some wanted) run None = ⊥
+IsRunRecorded design directive (Some wanted) run (Some recorded) = IsRecordedRun design directive wanted run recorded
 
 -- A path as the stem of a run, and its last valuation as the loop. A trace in which that loop is written no time has
 -- exactly the valuations of the path, and the verdict on it is that on their letters, which each run that begins with the
@@ -55,23 +55,23 @@ unlooped wanted = option_map (λ (names : List ℕ × ℕ). (names.0, 0)) wanted
 -- what is recorded of a finding: something just where it is a run and recordings are wanted; of a run that holds its inputs
 -- just the valuations of the finding, however often a loop is to be written
 abbrev pub IsRecorded : Design → Directive → Option (List ℕ × ℕ) → Finding → Option Recorded → Type 0
-IsRecorded design assertion wanted (findings.Violated run) recorded = IsRunRecorded design assertion wanted run recorded
-IsRecorded design assertion wanted (findings.Held path end) recorded =
-    IsRunRecorded design assertion (unlooped wanted) (along path) recorded
-IsRecorded design assertion wanted (findings.Proved certificate) recorded = recorded ≡ None
-IsRecorded design assertion wanted (findings.ProvedReach certificate) recorded = recorded ≡ None
-IsRecorded design assertion wanted (findings.Depth paths) recorded = recorded ≡ None
-IsRecorded design assertion wanted (findings.DepthReach paths ends) recorded = recorded ≡ None
-IsRecorded design assertion wanted (findings.Steps query log) recorded = recorded ≡ None
-IsRecorded design assertion wanted (findings.LogFull query log) recorded = recorded ≡ None
-IsRecorded design assertion wanted (findings.Large query) recorded = recorded ≡ None
+IsRecorded design directive wanted (findings.Violated run) recorded = IsRunRecorded design directive wanted run recorded
+IsRecorded design directive wanted (findings.Held path end) recorded =
+    IsRunRecorded design directive (unlooped wanted) (along path) recorded
+IsRecorded design directive wanted (findings.Proved certificate) recorded = recorded ≡ None
+IsRecorded design directive wanted (findings.ProvedReach certificate) recorded = recorded ≡ None
+IsRecorded design directive wanted (findings.Depth paths) recorded = recorded ≡ None
+IsRecorded design directive wanted (findings.DepthReach paths ends) recorded = recorded ≡ None
+IsRecorded design directive wanted (findings.Steps query log) recorded = recorded ≡ None
+IsRecorded design directive wanted (findings.LogFull query log) recorded = recorded ≡ None
+IsRecorded design directive wanted (findings.Large query) recorded = recorded ≡ None
 
--- a run of a finding, where it is to be recorded, and the assertion: the trace can be read, and the assertion be judged
+-- a run of a finding, where it is to be recorded, and the directive: the trace can be read, and the directive be judged
 pub record CanRecord (task : Task) (loops : ℕ) (run : Run) : Type 0 where
   pub readable : IsReadable task.netlist.now run loops
-  pub in_range : AtomsOfFormula (AtomInRange task.netlist.now.names) (formula_of task.assertion.now.formula)
-  pub small : formula_size (formula_of task.assertion.now.formula) ≤ MOST_CONSTRUCTORS
-  pub judgeable : IsJudgeable task.assertion.now
+  pub in_range : AtomsOfFormula (AtomInRange task.netlist.now.names) (formula_of task.directive.now.formula)
+  pub small : formula_size (formula_of task.directive.now.formula) ≤ MOST_CONSTRUCTORS
+  pub judgeable : IsJudgeable task.directive.now
 
 -- the same, where recordings are wanted
 abbrev pub IsRunRecordable : Task → Option (List ℕ × ℕ) → Run → Type 0

@@ -1,11 +1,13 @@
 use crate::recording::Recorded;
 use prover::Finding;
 use psl_base::{Items, Text};
+use psl_tree::Kind;
 
-/// What is found out of an assertion.
+/// What is found out of a directive: an assertion or a cover.
 #[derive(Debug, Drop)]
 pub struct FindingEntry {
-    /// The number of the assertion in its text, counted from 1.
+    pub kind: Kind,
+    /// Its number in the text, counted from 1.
     pub number: u32,
     /// Its label, where it has one.
     pub label: Option<Text>,
@@ -14,5 +16,5 @@ pub struct FindingEntry {
     pub recorded: Option<Recorded>,
 }
 
-/// A finding for each assertion of a text, in order.
+/// A finding for each directive of a text that is asked, in order.
 pub type Findings = Items<FindingEntry>;

@@ -21,19 +21,19 @@ ghost use Rattle.prover_held.specs.Held.{IsHeldRun};
 ghost use Rattle.psl_tree.specs.Trace.{first, trace_of};
 ghost use Rattle.psl_tree.specs.declared.directive.Directive.{Directive};
 
-/// A law of the definitions: where an assertion is proved and `check_cert` is asked about the text of its certificate, for
+/// A law of the definitions: where a directive is proved and `check_cert` is asked about the text of its certificate, for
 /// the same text, number and netlist, it answers that it is passed, unless memory is refused. A certificate of a window has
 /// a text in either version, and one of clauses has one text. What is said of its result is what `check_cert` says of it.
 pub fn passed_law()
-    ensures passed { (design : Design) (unit : List Directive) (options : Options) (wanted : Option (List ℕ × ℕ)) (assertion : Directive)
+    ensures passed { (design : Design) (unit : List Directive) (options : Options) (wanted : Option (List ℕ × ℕ)) (directive : Directive)
         (entry : FindingEntry) (certificate : Certificate) (version : Version) (result : Result CertAnswer CertFault)
-        → IsEntry design unit options wanted assertion entry → entry.finding ≡ Proved certificate
+        → IsEntry design unit options wanted directive entry → entry.finding ≡ Proved certificate
         → IfOk result (IsAnswer (asked_of unit entry.number) (queries_of design unit entry.number) (cert_text version certificate))
         → IfErr result (IsFault design unit entry.number (cert_text version certificate))
         → (result ≡ Ok CertAnswer.Passed) ⊎ (result ≡ Err CertFault.NoMemory) }
-    ensures passed_reach { (design : Design) (unit : List Directive) (options : Options) (wanted : Option (List ℕ × ℕ)) (assertion : Directive)
+    ensures passed_reach { (design : Design) (unit : List Directive) (options : Options) (wanted : Option (List ℕ × ℕ)) (directive : Directive)
         (entry : FindingEntry) (certificate : InductiveCert) (result : Result CertAnswer CertFault)
-        → IsEntry design unit options wanted assertion entry → entry.finding ≡ ProvedReach certificate
+        → IsEntry design unit options wanted directive entry → entry.finding ≡ ProvedReach certificate
         → IfOk result (IsAnswer (asked_of unit entry.number) (queries_of design unit entry.number) (inductive_text certificate))
         → IfErr result (IsFault design unit entry.number (inductive_text certificate))
         → (result ≡ Ok CertAnswer.Passed) ⊎ (result ≡ Err CertFault.NoMemory) }

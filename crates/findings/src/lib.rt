@@ -1,5 +1,5 @@
-//! What is found out of the assertions of a text on a netlist: the first of them that is too large, and else a finding
-//! for each.
+//! What is found out of the assertions of a text on a netlist, and of its covers where these are to be asked: the first
+//! of them that is too large, and else a finding for each.
 #![tactic(auto)]
 
 mod entry;

@@ -1,5 +1,5 @@
 ghost use Rattle.std.specs.Prelude.{◌≡◌, ◌≤◌, ◌∷◌, [], All, IfOk};
-ghost use Rattle.findings.specs.Assertions.{AreNumbered, IsAssertionOf};
+ghost use Rattle.findings.specs.Asked.{AreNumbered, IsAskedOf};
 ghost use Rattle.findings.specs.Entries.{AreFindings, IsEntry};
 ghost use Rattle.findings.specs.Recordings.{wanted_of};
 ghost use Rattle.findings.specs.Sizes.{AreWithin};
@@ -12,37 +12,39 @@ ghost use Rattle.psl_tree.specs.Trees.{formula_of};
 use crate::entry::{FindingEntry, Findings};
 use crate::recording::{Recordings, recorded_of};
 use netlist::Netlist;
-use owed::is_assertion;
+use owed::is_asked;
 use prover::{Options, Task, prove};
 use psl_base::{NoMemory, Text};
 use psl_tree::{Directive, Unit};
 use std::alloc::Global;
 
-/// What is found out of each assertion of a text on a netlist. They are within the limits, and all that the text names
-/// are signals of the netlist. The certificate of one that is proved is passed by the checker, and a run that violates one is
-/// recorded where recordings are wanted.
+/// What is found out of each directive of a text on a netlist that is asked: of its assertions, and of its covers where
+/// `covers` says so. They are within the limits, and all that the text names are signals of the netlist. The certificate of
+/// one that is proved is passed by the checker, and a run that violates one is recorded where recordings are wanted. What
+/// is owed of a cover is that it is not met, so a run that violates it meets the cover.
 pub fn prove_all(
     alloc: Global,
     unit: &Unit,
     netlist: &Netlist,
     options: Options,
+    covers: bool,
     recordings: Option<Recordings<'_>>,
 ) -> Result<Findings, NoMemory>
-    requires within { AreWithin netlist.now options.depth unit.now }
+    requires within { AreWithin netlist.now options.depth covers unit.now }
     requires in_range { All (λ directive. AtomsOfFormula (AtomInRange netlist.now.names) (formula_of directive.formula)) unit.now }
     requires numbered { AreNumbered unit.now }
     requires depth { 1 ≤ options.depth }
     requires most { options.depth ≤ 1000 }
     requires visits { options.visits ≤ 16 }
     requires traceable { AreTraceable netlist.now unit.now (wanted_of recordings) }
-    ensures { IfOk result (AreFindings netlist.now unit.now options (wanted_of recordings.entry)) }
+    ensures { IfOk result (AreFindings netlist.now unit.now options covers (wanted_of recordings.entry)) }
 {
     let mut findings = Findings::new(alloc);
     for directive in unit.as_slice() {
-        if is_assertion(directive.kind) {
+        if is_asked(covers, directive.kind) {
             let task = Task {
                 unit,
-                assertion: directive,
+                directive,
                 netlist,
                 options,
             };
@@ -58,16 +60,17 @@ fn entry_of(
     recordings: Option<Recordings<'_>>,
 ) -> Result<FindingEntry, NoMemory>
     requires provable { IsProvable task }
-    requires assertion { IsAssertionOf task.unit.now task.assertion.now }
+    requires asked { IsAskedOf task.unit.now task.directive.now }
     requires depth { task.options.depth ≤ 1000 }
-    requires traceable { AreTraceable task.netlist.now (task.assertion.now ∷ []) (wanted_of recordings) }
-    ensures { IfOk result (IsEntry task.entry.netlist.now task.entry.unit.now task.entry.options (wanted_of recordings.entry) task.entry.assertion.now) }
+    requires traceable { AreTraceable task.netlist.now (task.directive.now ∷ []) (wanted_of recordings) }
+    ensures { IfOk result (IsEntry task.entry.netlist.now task.entry.unit.now task.entry.options (wanted_of recordings.entry) task.entry.directive.now) }
 {
     let finding = prove(alloc, task)?;
     let recorded = recorded_of(alloc, task, recordings, &finding)?;
     Ok(FindingEntry {
-        number: number_of(task.assertion),
-        label: copy_of(alloc, &task.assertion.label)?,
+        kind: task.directive.kind,
+        number: number_of(task.directive),
+        label: copy_of(alloc, &task.directive.label)?,
         finding,
         recorded,
     })

@@ -8,19 +8,19 @@ use std::alloc::Global;
 use trace_judge::{JudgedTrace, Traced, judge_trace};
 use wave_judge::Verdict;
 
-/// Which recordings are wanted of runs that violate assertions.
+/// Which recordings are wanted of runs that violate assertions or meet covers.
 #[derive(Clone, Copy)]
 pub struct Recordings<'a> {
-    /// The recording for assertion N has the name `PREFIX.N.vcd`.
+    /// The recording for directive N has the name `PREFIX.N.vcd`.
     pub prefix: &'a str,
     /// How often the loop of a run is written.
     pub loops: u32,
 }
 
-/// The recording of a run that violates an assertion, or of its first valuations where it holds its inputs behind them.
+/// The recording of a run that violates an assertion or meets a cover, or of its first valuations where it holds its inputs behind them.
 #[derive(Debug, Drop)]
 pub enum Recorded {
-    /// The name of its file; how many samples it has; what it says of the assertion alone, without what the text assumes;
+    /// The name of its file; how many samples it has; what it says of the directive alone, without what the text assumes;
     /// and its text.
     Judged {
         name: Text,
@@ -41,7 +41,7 @@ pub(crate) fn recorded_of(
     finding: &Finding,
 ) -> Result<Option<Recorded>, NoMemory>
     requires { Recordable task (wanted_of recordings) finding.now }
-    ensures { IfOk result (IsRecorded task.entry.netlist.now task.entry.assertion.now (wanted_of recordings.entry) finding.now) }
+    ensures { IfOk result (IsRecorded task.entry.netlist.now task.entry.directive.now (wanted_of recordings.entry) finding.now) }
 {
     let Some(recordings) = recordings else {
         return Ok(None);
@@ -76,21 +76,21 @@ fn recording_of(
     run: &Run,
 ) -> Result<Recorded, NoMemory>
     requires { CanRecord task recordings.loops run.now }
-    ensures { IfOk result (IsRecordedRun task.entry.netlist.now task.entry.assertion.now (recordings.entry.prefix.now, recordings.entry.loops) run.now) }
+    ensures { IfOk result (IsRecordedRun task.entry.netlist.now task.entry.directive.now (recordings.entry.prefix.now, recordings.entry.loops) run.now) }
 {
     let traced = Traced {
         netlist: task.netlist,
         run,
         loops: recordings.loops,
     };
-    match judge_trace(alloc, traced, task.assertion, FILE_LIMIT as u64)? {
+    match judge_trace(alloc, traced, task.directive, FILE_LIMIT as u64)? {
         Some(judged) => {
             let JudgedTrace {
                 text,
                 samples,
                 verdict,
             } = judged;
-            let name = recording_name(alloc, recordings.prefix, task.assertion.number)?;
+            let name = recording_name(alloc, recordings.prefix, task.directive.number)?;
             Ok(Recorded::Judged {
                 name,
                 samples,

@@ -1,26 +1,27 @@
 ghost use Rattle.std.specs.Prelude.{◌-◌, ◌^◌, ◌<◌, List, OnOk, IfErr};
-ghost use Rattle.findings.specs.Sizes.{AreWithin, IsSizeFault, IsWithin, MayRefuse};
-ghost use Rattle.owed.specs.Owed.{plain_assumed};
+ghost use Rattle.findings.specs.Sizes.{AreWithin, IsSizeFault, MayRefuse};
+ghost use Rattle.owed.specs.Owed.{plain_assumed, plain_owed};
+ghost use Rattle.owed.specs.Sized.{IsSized};
 ghost use Rattle.owed.specs.Sizes.{AreSizesOf};
 ghost use Rattle.psl_tree.specs.declared.directive.Directive.{Directive};
 
 use netlist::Netlist;
-use owed::{LimitFault, Size, assumed_size, check_sizes, is_assertion};
+use owed::{LimitFault, Size, assumed_size, check_sizes, is_asked};
 use psl_base::{NoMemory, Place};
 use psl_tree::{Directive, Unit};
 use std::alloc::Global;
 use thiserror::Error;
 
-/// Why the assertions of a text are not proved of a netlist.
+/// Why the directives of a text that are asked are not proved of a netlist.
 #[derive(Clone, Copy, Debug, PartialEq, Eq, Drop, Error)]
 pub enum SizeFault {
-    /// A sequence of what is owed of the assertion at this place counts more than 1,024 states.
+    /// A sequence of what is owed of the directive at this place counts more than 1,024 states.
     #[error("{0:?}: a sequence counts more than 1024 states")]
     SereTooLarge(Place),
-    /// What is owed of the assertion at this place counts more than 2,048 obligations.
+    /// What is owed of the directive at this place counts more than 2,048 obligations.
     #[error("{0:?}: the formula counts more than 2048 obligations")]
     AutomatonTooLarge(Place),
-    /// The netlist and what is owed of some assertion are too large for so many positions.
+    /// The netlist and what is owed of some directive are too large for so many positions.
     #[error("too large to be unrolled")]
     UnrollTooLarge,
     /// The allocator refused memory.
@@ -39,25 +40,33 @@ impl From<NoMemory> for SizeFault {
     }
 }
 
-/// Whether all assertions of a text are within the limits of a search up to a depth.
+/// Whether all directives of a text that are asked, its covers among them or not, are within the limits of a search up to a
+/// depth.
 ///
 /// # Errors
 ///
 /// Exactly the first limit that the first of them passes; and `NoMemory` if memory is refused.
-pub fn check_all(alloc: Global, unit: &Unit, netlist: &Netlist, depth: u32) -> Result<(), SizeFault>
+pub fn check_all(
+    alloc: Global,
+    unit: &Unit,
+    netlist: &Netlist,
+    depth: u32,
+    covers: bool,
+) -> Result<(), SizeFault>
     requires { depth < 2 ^ 32 - 1 }
-    ensures within { OnOk result (AreWithin netlist.now depth unit.now) }
-    ensures fault { IfErr result (IsSizeFault netlist.now depth unit.now) }
+    ensures within { OnOk result (AreWithin netlist.now depth covers unit.now) }
+    ensures fault { IfErr result (IsSizeFault netlist.now depth covers unit.now) }
 {
     let assumed = assumed_size(alloc, unit)?;
     for directive in unit.as_slice() {
-        check_one(alloc, directive, assumed, netlist, depth)?;
+        if is_asked(covers, directive.kind) {
+            check_one(alloc, directive, assumed, netlist, depth)?;
+        }
     }
     Ok(())
 }
 
-// Whether a directive, if it is an assertion of a text, is within the limits, where `assumed_size` has told how large
-// what the text assumes is.
+// Whether a directive of a text is within the limits, where `assumed_size` has told how large what the text assumes is.
 fn check_one(
     alloc: Global,
     directive: &Directive,
@@ -67,13 +76,10 @@ fn check_one(
 ) -> Result<(), SizeFault>
     requires { depth < 2 ^ 32 - 1 }
     ensures within { OnOk result ((unit : List Directive) → AreSizesOf assumed (plain_assumed unit)
-        → IsWithin netlist.now depth unit directive.now) }
+        → IsSized netlist.now depth (plain_owed unit directive.now)) }
     ensures fault { IfErr result (λ fault. (unit : List Directive) → AreSizesOf assumed (plain_assumed unit)
         → MayRefuse netlist.now depth unit directive.now fault) }
 {
-    if !is_assertion(directive.kind) {
-        return Ok(());
-    }
     match check_sizes(alloc, directive, assumed, netlist, depth) {
         Ok(()) => Ok(()),
         Err(LimitFault::SereTooLarge) => Err(SizeFault::SereTooLarge(directive.place)),

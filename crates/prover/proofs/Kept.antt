@@ -69,9 +69,9 @@ kept-open design automaton depth visits window false path keeps = (
 
 -- what keeps a window open for a number of visits shows an open path
 kept-has : (task : Task) (visits window : ℕ) (member : OpenPath) → IsKeptFor task visits window member
-    → HasOpenPath task.netlist.now task.unit.now task.assertion.now visits window
+    → HasOpenPath task.netlist.now task.unit.now task.directive.now visits window
 kept-has task visits window member is =
-    kept-open task.netlist.now (violation_of task.unit.now task.assertion.now) task.options.depth visits window
+    kept-open task.netlist.now (violation_of task.unit.now task.directive.now) task.options.depth visits window
     member.initial member.path is.keeps
 
 -- a place within a list has a member
@@ -80,13 +80,13 @@ some-member [] place within = absurd (omega (arith, within))
 some-member (x ∷ xs) place within = (get_or (x ∷ xs) place x, slice_get-get_or (x ∷ xs) place x within)
 
 pub kept-stays : (task : Task) (count window : ℕ) (paths : List OpenPath) → AreKeptFor task count window paths
-    → StaysOpen task.netlist.now task.unit.now task.assertion.now count window
+    → StaysOpen task.netlist.now task.unit.now task.directive.now count window
 kept-stays task count window paths are visits below =
     let at = some-member paths visits (omega (arith, are.many, below)) in
     kept-has task visits window at.0 (are.each visits at.0 at.1)
 
 pub done-stays : (task : Task) (count window : ℕ) (paths : List OpenPath) → count ≤ suc task.options.visits → AreKeptTo task count window paths
-    → StaysOpen task.netlist.now task.unit.now task.assertion.now count window
+    → StaysOpen task.netlist.now task.unit.now task.directive.now count window
 done-stays task count window paths few are visits below =
     let at = some-member paths visits (omega (arith, are.many, below, few)) in
     kept-has task visits window at.0 (are.done visits at.0 below at.1)
@@ -99,11 +99,11 @@ open-keeps design automaton depth visits window false path within is = (window, 
 
 pub path-kept : (task : Task) (visits window : ℕ) (member : OpenPath) → window ≤ task.options.depth
     → (member.visits ≡ visits)
-    × IsOpen task.netlist.now (violation_of task.unit.now task.assertion.now) visits window member.initial member.path
+    × IsOpen task.netlist.now (violation_of task.unit.now task.directive.now) visits window member.initial member.path
     → IsKeptFor task visits window member
 path-kept task visits window member within is = record {
   visits_are = is.0;
-  keeps = open-keeps task.netlist.now (violation_of task.unit.now task.assertion.now) task.options.depth visits window
+  keeps = open-keeps task.netlist.now (violation_of task.unit.now task.directive.now) task.options.depth visits window
       member.initial member.path within is.1;
 }
 
@@ -112,7 +112,7 @@ pub ahead-kept : (task : Task) (visits window ahead : ℕ) (member : OpenPath) �
     → IsAhead task visits ahead member → IsKeptFor task visits window member
 ahead-kept task visits window ahead member longer within is = record {
   visits_are = is.visits_are;
-  keeps = subst (λ (kind : Truth). KeepsOpen task.netlist.now (violation_of task.unit.now task.assertion.now) task.options.depth
+  keeps = subst (λ (kind : Truth). KeepsOpen task.netlist.now (violation_of task.unit.now task.directive.now) task.options.depth
       visits window kind member.path) (sym is.other) (ahead, longer, within, is.is);
 }
 
@@ -133,7 +133,7 @@ pub next-kept : (task : Task) (visits window : ℕ) (member : OpenPath) → keep
     → IsKeptFor task visits (window - 1) member → IsKeptFor task visits window member
 next-kept task visits window member test is = record {
   visits_are = is.visits_are;
-  keeps = one-larger task.netlist.now (violation_of task.unit.now task.assertion.now) task.options.depth visits window
+  keeps = one-larger task.netlist.now (violation_of task.unit.now task.directive.now) task.options.depth visits window
       member.initial member.path test is.keeps;
 }
 
@@ -146,13 +146,13 @@ at-depth design automaton depth visits false path keeps =
 
 kept-paths : (task : Task) (window : ℕ) (paths : List OpenPath) → window ≡ task.options.depth
     → AreKeptFor task (suc task.options.visits) window paths
-    → AreOpenPaths task.netlist.now task.unit.now task.assertion.now (suc task.options.visits) task.options.depth paths
+    → AreOpenPaths task.netlist.now task.unit.now task.directive.now (suc task.options.visits) task.options.depth paths
 kept-paths task window paths last are = record {
   many = are.many;
   each = λ visits member at. (
     (are.each visits member at).visits_are,
-    at-depth task.netlist.now (violation_of task.unit.now task.assertion.now) task.options.depth visits member.initial member.path
-        (subst (λ (n : ℕ). KeepsOpen task.netlist.now (violation_of task.unit.now task.assertion.now) task.options.depth visits n
+    at-depth task.netlist.now (violation_of task.unit.now task.directive.now) task.options.depth visits member.initial member.path
+        (subst (λ (n : ℕ). KeepsOpen task.netlist.now (violation_of task.unit.now task.directive.now) task.options.depth visits n
         member.initial member.path) last (are.each visits member at).keeps),
   );
 }
@@ -160,11 +160,11 @@ kept-paths task window paths last are = record {
 -- behind the last window nothing is decided
 pub undecided : (task : Task) (window : ℕ) (searched : Searched) (paths new : List OpenPath) → window ≡ task.options.depth
     → IsSearchedTo task window searched → AreKeptFor task (suc task.options.visits) window paths → new ≡ paths
-    → IsUndecided task.netlist.now task.unit.now task.assertion.now task.options new
+    → IsUndecided task.netlist.now task.unit.now task.directive.now task.options new
 undecided task window searched paths new last is are same = record {
-  none_within = none-fewer task.netlist.now task.unit.now task.assertion.now (suc searched.none_within) (suc task.options.depth)
+  none_within = none-fewer task.netlist.now task.unit.now task.directive.now (suc searched.none_within) (suc task.options.depth)
       (omega (arith, is.reaches, last)) is.none;
-  each_open = subst (λ (ps : List OpenPath). AreOpenPaths task.netlist.now task.unit.now task.assertion.now (suc task.options.visits)
+  each_open = subst (λ (ps : List OpenPath). AreOpenPaths task.netlist.now task.unit.now task.directive.now (suc task.options.visits)
       task.options.depth ps) (sym same) (kept-paths task window paths last are);
 }
 

@@ -1,4 +1,4 @@
--- Searches for inductive clauses, one for each number of visits: what they find proves the assertion, and where each has
+-- Searches for inductive clauses, one for each number of visits: what they find proves the directive, and where each has
 -- ended without any, it is left open.
 use Rattle.std.proofs.Common.{◌≡◌, refl, ◌∙◌, ap, sym, subst, ℕ, suc, ◌<◌, ◌≤◌, ℤ, Bool as Truth, true, false, if◌then◌else◌, List, [], ◌∷◌, ◌++◌, length, slice_get, Option, IfSome, inl, inr, arith, length-append}
 use Rattle.alternating_theory.specs.Obligations.{Automaton}
@@ -20,20 +20,20 @@ use Rattle.prover.specs.Views.{IsJointOf}
 use Rattle.prover.specs.declared.options.Options.{Options}
 use Rattle.prover.specs.declared.task.Task.{Task}
 
--- inductive clauses prove the assertion
+-- inductive clauses prove the directive
 pub proved-reach : (task : Task) (visits : ℕ) (clauses : List (List ℤ)) (initial step bad : List LogEntry)
     → task.options.reach ≡ true → visits ≤ task.options.visits → HaveEnded task visits
     → AreInductive (joint_for task visits) task.options.steps clauses initial step bad
-    → IsProvedReach task.netlist.now task.unit.now task.assertion.now task.options
-    (record { assertion = task.assertion.now.number; visits = visits; clauses = clauses; initial = initial; step = step; bad = bad })
+    → IsProvedReach task.netlist.now task.unit.now task.directive.now task.options
+    (record { assertion = task.directive.now.number; visits = visits; clauses = clauses; initial = initial; step = step; bad = bad })
 proved-reach task visits clauses initial step bad asked few fewer are = record {
   asked = asked;
   number = refl;
   visits = few;
   inductive = are;
   fewer = fewer;
-  satisfied = λ run is. (violating-runs task.netlist.now task.unit.now task.assertion.now run is.loops).satisfied
-      (inductive-none task.netlist.now (violation_of task.unit.now task.assertion.now) visits clauses are.inductive run is);
+  satisfied = λ run is. (violating-runs task.netlist.now task.unit.now task.directive.now run is.loops).satisfied
+      (inductive-none task.netlist.now (violation_of task.unit.now task.directive.now) visits clauses are.inductive run is);
 }
 
 -- what is not an answer of inductive clauses
@@ -58,7 +58,7 @@ within-searches options visits below = within-asked options.reach options.visits
 
 -- the joint states for so many visits, of an automaton that is that of the violations
 pub joint-is : (task : Task) (visits : ℕ) (automaton : Automaton) (joint : Joined)
-    → automaton ≡ violation_of task.unit.now task.assertion.now
+    → automaton ≡ violation_of task.unit.now task.directive.now
     → joint ≡ record { design = task.netlist.now; automaton = automaton; visits = visits } → IsJointOf task visits joint
 joint-is task visits automaton joint of is =
     is ∙ ap (λ (a : Automaton). record { design = task.netlist.now; automaton = a; visits = visits }) of

@@ -32,13 +32,13 @@ use Rattle.prover.specs.declared.task.Task.{Task}
 
 -- where there is no formula of a query, the search ends as a finding, or for want of memory
 stop-at : (task : Task) (query : Query) (fault : CnfFault)
-    → (fault ≡ faults.TooLarge → IsFinding task.netlist.now task.unit.now task.assertion.now task.options (Large query))
+    → (fault ≡ faults.TooLarge → IsFinding task.netlist.now task.unit.now task.directive.now task.options (Large query))
     → IsStopOf task (stop_of query fault)
 stop-at task query faults.TooLarge finds = finds refl
 stop-at task query faults.NoMemory finds = tt
 
 pub stops : (task : Task) (query : Query) (fault : CnfFault) (stop : Stop) → stop ≡ stop_of query fault
-    → (fault ≡ faults.TooLarge → IsFinding task.netlist.now task.unit.now task.assertion.now task.options (Large query))
+    → (fault ≡ faults.TooLarge → IsFinding task.netlist.now task.unit.now task.directive.now task.options (Large query))
     → IsStopOf task stop
 stops task query fault stop is finds = subst (IsStopOf task) (sym is) (stop-at task query fault finds)
 
@@ -55,23 +55,23 @@ kind-variables design unit d visits window false = refl
 
 joint-clauses : (task : Task) (view : View) (joint : Joined) → IsJointOf task view.visits joint
     → query joint.design joint.automaton joint.visits view.window view.initial
-    ≡ clauses_of task.netlist.now task.unit.now task.assertion.now (view_query view)
+    ≡ clauses_of task.netlist.now task.unit.now task.directive.now (view_query view)
 joint-clauses task view joint is =
     ap (λ (j : Joined). query j.design j.automaton j.visits view.window view.initial) is
-    ∙ kind-clauses task.netlist.now task.unit.now task.assertion.now view.visits view.window view.initial
+    ∙ kind-clauses task.netlist.now task.unit.now task.directive.now view.visits view.window view.initial
 
 joint-variables : (task : Task) (view : View) (joint : Joined) → IsJointOf task view.visits joint
     → query_variables joint.design joint.automaton joint.visits view.window view.initial
-    ≡ variables_of task.netlist.now task.unit.now task.assertion.now (view_query view)
+    ≡ variables_of task.netlist.now task.unit.now task.directive.now (view_query view)
 joint-variables task view joint is =
     ap (λ (j : Joined). query_variables j.design j.automaton j.visits view.window view.initial) is
-    ∙ kind-variables task.netlist.now task.unit.now task.assertion.now view.visits view.window view.initial
+    ∙ kind-variables task.netlist.now task.unit.now task.directive.now view.visits view.window view.initial
 
 -- so the formula of the kind is that of the query
 pub view-formula : (task : Task) (view : View) (joint : Joined) (formula : Cnf) → IsJointOf task view.visits joint
     → formula.variables ≡ query_variables joint.design joint.automaton joint.visits view.window view.initial
     → formula.clauses ≡ query joint.design joint.automaton joint.visits view.window view.initial
-    → IsFormulaOf task.netlist.now task.unit.now task.assertion.now (view_query view) formula
+    → IsFormulaOf task.netlist.now task.unit.now task.directive.now (view_query view) formula
 view-formula task view joint formula is variables clauses = record {
   variables = variables ∙ joint-variables task view joint is;
   clauses = clauses ∙ joint-clauses task view joint is;
@@ -80,10 +80,10 @@ view-formula task view joint formula is variables clauses = record {
 pub view-large : (task : Task) (view : View) (joint : Joined) → IsJointOf task view.visits joint
     → IsTooLarge (query_variables joint.design joint.automaton joint.visits view.window view.initial)
     (query joint.design joint.automaton joint.visits view.window view.initial)
-    → IsTooLarge (variables_of task.netlist.now task.unit.now task.assertion.now (view_query view))
-    (clauses_of task.netlist.now task.unit.now task.assertion.now (view_query view))
+    → IsTooLarge (variables_of task.netlist.now task.unit.now task.directive.now (view_query view))
+    (clauses_of task.netlist.now task.unit.now task.directive.now (view_query view))
 view-large task view joint is large =
-    subst (λ (cs : List (List ℤ)). IsTooLarge (variables_of task.netlist.now task.unit.now task.assertion.now (view_query view)) cs)
+    subst (λ (cs : List (List ℤ)). IsTooLarge (variables_of task.netlist.now task.unit.now task.directive.now (view_query view)) cs)
     (joint-clauses task view joint is)
     (subst (λ (n : ℕ). IsTooLarge n (query joint.design joint.automaton joint.visits view.window view.initial)) (joint-variables task view joint is) large)
 
@@ -102,19 +102,19 @@ view-seen task view joint path is =
 
 -- where the formula is refuted, no path of the kind is open
 pub view-closed : (task : Task) (view : View) (joint : Joined) (formula : Cnf) (log : List LogEntry) → IsJointOf task view.visits joint
-    → IsFormulaOf task.netlist.now task.unit.now task.assertion.now (view_query view) formula
+    → IsFormulaOf task.netlist.now task.unit.now task.directive.now (view_query view) formula
     → (HasModel formula.variables formula.clauses ↔ SomeOpen joint.design joint.automaton joint.visits view.window view.initial)
     → clause_words formula.clauses ≤ MOST_WORDS → IsRefutation formula task.options.steps log
-    → IsRefuted task.netlist.now task.unit.now task.assertion.now task.options.steps (view_query view) log
+    → IsRefuted task.netlist.now task.unit.now task.directive.now task.options.steps (view_query view) log
     × ((path : JointPath) → IsSeen task view path → ⊥)
 view-closed task view joint formula log is f models small r = (
-  refuted task.netlist.now task.unit.now task.assertion.now task.options.steps (view_query view) formula log f small r,
-  none-open task.netlist.now (violation_of task.unit.now task.assertion.now) view.visits view.window view.initial formula log
+  refuted task.netlist.now task.unit.now task.directive.now task.options.steps (view_query view) formula log f small r,
+  none-open task.netlist.now (violation_of task.unit.now task.directive.now) view.visits view.window view.initial formula log
       (subst (λ (j : Joined). HasModel formula.variables formula.clauses ↔ SomeOpen j.design j.automaton j.visits view.window view.initial) is models)
       r.refutes,
 )
 
 -- the joint states over the automaton of the violations
-pub joint-of : (task : Task) (automaton : Automaton) (visits : ℕ) (joint : Joined) → automaton ≡ violation_of task.unit.now task.assertion.now
+pub joint-of : (task : Task) (automaton : Automaton) (visits : ℕ) (joint : Joined) → automaton ≡ violation_of task.unit.now task.directive.now
     → joint ≡ record { design = task.netlist.now; automaton = automaton; visits = visits } → IsJointOf task visits joint
 joint-of task automaton visits joint is made = subst (λ (a : Automaton). joint ≡ record { design = task.netlist.now; automaton = a; visits = visits }) is made

@@ -11,8 +11,8 @@ use Rattle.prover.specs.declared.task.Task.{Task}
 
 -- what is owed, and the automaton of its violations
 pub record IsClaimOf (task : Task) (claim : Claim) : Type 0 where
-  pub owed : formula_of claim.owed ≡ plain_owed task.unit.now task.assertion.now
-  pub violation : claim.violation ≡ violation_of task.unit.now task.assertion.now
+  pub owed : formula_of claim.owed ≡ plain_owed task.unit.now task.directive.now
+  pub violation : claim.violation ≡ violation_of task.unit.now task.directive.now
   pub tests : TestsSignals task.netlist.now claim.violation
 
 -- a task that can be proved, with what is owed

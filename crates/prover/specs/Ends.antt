@@ -9,11 +9,11 @@ use Rattle.reach.specs.declared.answer.Reached.{Reached}
 use Rattle.reach.specs.declared.answer.Reached.TheVariants.{Inductive, Path, Open, Spent, LogFull, Large}
 use Rattle.prover.specs.declared.options.Options.{Options}
 
--- the joint states of a netlist and the automaton of what violates an assertion, for so many visits
+-- the joint states of a netlist and the automaton of what violates a directive, for so many visits
 abbrev pub joint_of : Design → List Directive → Directive → ℕ → Joined
-joint_of design unit assertion visits = record {
+joint_of design unit directive visits = record {
   design = design;
-  automaton = violation_of unit assertion;
+  automaton = violation_of unit directive;
   visits = visits;
 }
 
@@ -27,14 +27,14 @@ is_inductive (LogFull query log) = false
 is_inductive (Large query) = false
 
 -- the search for so many visits, with as many frames as the depth, ends without inductive clauses
-pub record IsEnd (design : Design) (unit : List Directive) (assertion : Directive) (options : Options)
+pub record IsEnd (design : Design) (unit : List Directive) (directive : Directive) (options : Options)
     (visits : ℕ) (end : Reached) : Type 0 where
-  pub is : IsReached (joint_of design unit assertion visits) options.depth options.steps end
+  pub is : IsReached (joint_of design unit directive visits) options.depth options.steps end
   pub without : is_inductive end ≡ false
 
 -- such an end for each of so many numbers of visits, in order from 0 on
-pub record AreEnds (design : Design) (unit : List Directive) (assertion : Directive) (options : Options)
+pub record AreEnds (design : Design) (unit : List Directive) (directive : Directive) (options : Options)
     (count : ℕ) (ends : List Reached) : Type 0 where
   pub many : length ends ≡ count
   pub each : (visits : ℕ) (end : Reached) → slice_get ends visits ≡ Some end
-      → IsEnd design unit assertion options visits end
+      → IsEnd design unit directive options visits end

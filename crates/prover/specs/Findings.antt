@@ -24,76 +24,76 @@ use Rattle.prover.specs.declared.finding.SearchEnd.TheVariants as ends
 use Rattle.prover.specs.declared.options.Options.{Options}
 
 -- a shortest run that violates what is owed, within the depth
-pub record IsShortest (design : Design) (unit : List Directive) (assertion : Directive) (depth : ℕ)
+pub record IsShortest (design : Design) (unit : List Directive) (directive : Directive) (depth : ℕ)
     (run : Run) : Type 0 where
-  pub is : Violates design unit assertion run
+  pub is : Violates design unit directive run
   pub within : run_size run ≤ depth
-  pub none_below : NoneBelow design unit assertion (run_size run)
+  pub none_below : NoneBelow design unit directive (run_size run)
 
 -- no run within the depth violates what is owed, and for each number of visits a path is open at the window of that
 -- depth
-pub record IsUndecided (design : Design) (unit : List Directive) (assertion : Directive)
+pub record IsUndecided (design : Design) (unit : List Directive) (directive : Directive)
     (options : Options) (paths : List OpenPath) : Type 0 where
-  pub none_within : NoneBelow design unit assertion (suc options.depth)
-  pub each_open : AreOpenPaths design unit assertion (suc options.visits) options.depth paths
+  pub none_within : NoneBelow design unit directive (suc options.depth)
+  pub each_open : AreOpenPaths design unit directive (suc options.visits) options.depth paths
 
 -- the same, and for each number of visits the search for inductive clauses ends without any
-pub record IsUndecidedReach (design : Design) (unit : List Directive) (assertion : Directive)
+pub record IsUndecidedReach (design : Design) (unit : List Directive) (directive : Directive)
     (options : Options) (paths : List OpenPath) (ends : List Reached) : Type 0 where
   pub asked : options.reach ≡ true
-  pub undecided : IsUndecided design unit assertion options paths
-  pub each_end : AreEnds design unit assertion options (suc options.visits) ends
+  pub undecided : IsUndecided design unit directive options paths
+  pub each_end : AreEnds design unit directive options (suc options.visits) ends
 
 -- A path from an initial valuation, within the depth, behind which the inputs are held: each run that begins with it and
 -- then holds them violates what is owed, and there is one.
-pub record IsHeldPath (design : Design) (unit : List Directive) (assertion : Directive) (depth : ℕ)
+pub record IsHeldPath (design : Design) (unit : List Directive) (directive : Directive) (depth : ℕ)
     (path : List (List Truth)) : Type 0 where
   pub is : IsPath design true path
   pub within : length path ≤ depth
   pub some : (run : Run) × IsHeldRun design path run
-  pub violates : (run : Run) → IsHeldRun design path run → Violates design unit assertion run
+  pub violates : (run : Run) → IsHeldRun design path run → Violates design unit directive run
 
 -- How the search for a run whose loop closes ends that finds none: no run within the depth violates what is owed, or at
 -- some size, below which none does, the solver tells nothing.
 abbrev pub IsSearchEnd : Design → List Directive → Directive → Options → SearchEnd → Type 0
-IsSearchEnd design unit assertion options ends.Whole = NoneBelow design unit assertion (suc options.depth)
-IsSearchEnd design unit assertion options (ends.Steps size log) =
-    IsTried design unit assertion options size
-    × (formula : Cnf) × IsFormulaOf design unit assertion (Search size) formula × IsSpent formula options.steps log
-IsSearchEnd design unit assertion options (ends.LogFull size log) =
-    IsTried design unit assertion options size
-    × (formula : Cnf) × IsFormulaOf design unit assertion (Search size) formula × IsFull formula options.steps log
-IsSearchEnd design unit assertion options (ends.Large size) =
-    IsTried design unit assertion options size
-    × IsTooLarge (variables_of design unit assertion (Search size)) (clauses_of design unit assertion (Search size))
+IsSearchEnd design unit directive options ends.Whole = NoneBelow design unit directive (suc options.depth)
+IsSearchEnd design unit directive options (ends.Steps size log) =
+    IsTried design unit directive options size
+    × (formula : Cnf) × IsFormulaOf design unit directive (Search size) formula × IsSpent formula options.steps log
+IsSearchEnd design unit directive options (ends.LogFull size log) =
+    IsTried design unit directive options size
+    × (formula : Cnf) × IsFormulaOf design unit directive (Search size) formula × IsFull formula options.steps log
+IsSearchEnd design unit directive options (ends.Large size) =
+    IsTried design unit directive options size
+    × IsTooLarge (variables_of design unit directive (Search size)) (clauses_of design unit directive (Search size))
 
 -- a path behind which holding the inputs violates what is owed, and how the search for a run whose loop closes ends
-pub record IsHeld (design : Design) (unit : List Directive) (assertion : Directive) (options : Options)
+pub record IsHeld (design : Design) (unit : List Directive) (directive : Directive) (options : Options)
     (path : List (List Truth)) (end : SearchEnd) : Type 0 where
-  pub path_is : IsHeldPath design unit assertion options.depth path
-  pub search : IsSearchEnd design unit assertion options end
+  pub path_is : IsHeldPath design unit directive options.depth path
+  pub search : IsSearchEnd design unit directive options end
 
 -- a finding with its evidence
 abbrev pub IsFinding : Design → List Directive → Directive → Options → Finding → Type 0
-IsFinding design unit assertion options (findings.Proved certificate) =
-    IsProved design unit assertion options certificate
-IsFinding design unit assertion options (findings.ProvedReach certificate) =
-    IsProvedReach design unit assertion options certificate
-IsFinding design unit assertion options (findings.Violated run) = IsShortest design unit assertion options.depth run
-IsFinding design unit assertion options (findings.Held path end) = IsHeld design unit assertion options path end
-IsFinding design unit assertion options (findings.Depth paths) =
-    (options.reach ≡ false) × IsUndecided design unit assertion options paths
-IsFinding design unit assertion options (findings.DepthReach paths ends) =
-    IsUndecidedReach design unit assertion options paths ends
-IsFinding design unit assertion options (findings.Steps query log) =
-    ComesUp design unit assertion options query
-    × (formula : Cnf) × IsFormulaOf design unit assertion query formula × IsSpent formula options.steps log
-IsFinding design unit assertion options (findings.LogFull query log) =
-    ComesUp design unit assertion options query
-    × (formula : Cnf) × IsFormulaOf design unit assertion query formula × IsFull formula options.steps log
-IsFinding design unit assertion options (findings.Large query) =
-    ComesUp design unit assertion options query
-    × IsTooLarge (variables_of design unit assertion query) (clauses_of design unit assertion query)
+IsFinding design unit directive options (findings.Proved certificate) =
+    IsProved design unit directive options certificate
+IsFinding design unit directive options (findings.ProvedReach certificate) =
+    IsProvedReach design unit directive options certificate
+IsFinding design unit directive options (findings.Violated run) = IsShortest design unit directive options.depth run
+IsFinding design unit directive options (findings.Held path end) = IsHeld design unit directive options path end
+IsFinding design unit directive options (findings.Depth paths) =
+    (options.reach ≡ false) × IsUndecided design unit directive options paths
+IsFinding design unit directive options (findings.DepthReach paths ends) =
+    IsUndecidedReach design unit directive options paths ends
+IsFinding design unit directive options (findings.Steps query log) =
+    ComesUp design unit directive options query
+    × (formula : Cnf) × IsFormulaOf design unit directive query formula × IsSpent formula options.steps log
+IsFinding design unit directive options (findings.LogFull query log) =
+    ComesUp design unit directive options query
+    × (formula : Cnf) × IsFormulaOf design unit directive query formula × IsFull formula options.steps log
+IsFinding design unit directive options (findings.Large query) =
+    ComesUp design unit directive options query
+    × IsTooLarge (variables_of design unit directive query) (clauses_of design unit directive query)
 
 -- which findings say that each run satisfies what is owed, which that some run does not, and which say neither
 abbrev pub is_proved : Finding → Truth

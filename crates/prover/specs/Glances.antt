@@ -33,8 +33,8 @@ IsUntold task size steps (untolds.Steps log) =
 IsUntold task size steps (untolds.LogFull log) =
     (formula : Cnf) × IsFormulaFor task (Search size) formula × IsFull formula steps log
 IsUntold task size steps untolds.Large =
-    IsTooLarge (variables_of task.netlist.now task.unit.now task.assertion.now (Search size))
-    (clauses_of task.netlist.now task.unit.now task.assertion.now (Search size))
+    IsTooLarge (variables_of task.netlist.now task.unit.now task.directive.now (Search size))
+    (clauses_of task.netlist.now task.unit.now task.directive.now (Search size))
 
 -- what a look at a size with so many steps tells
 abbrev pub IsGlance : Task → ℕ → ℕ → Glance → Type 0

@@ -18,7 +18,7 @@ KeepsOpen design automaton depth visits window false path =
 -- a path for a number of visits that keeps the window open
 pub record IsKeptFor (task : Task) (visits window : ℕ) (member : OpenPath) : Type 0 where
   pub visits_are : member.visits ≡ visits
-  pub keeps : KeepsOpen task.netlist.now (violation_of task.unit.now task.assertion.now) task.options.depth visits window
+  pub keeps : KeepsOpen task.netlist.now (violation_of task.unit.now task.directive.now) task.options.depth visits window
       member.initial member.path
 
 -- one for each of so many numbers of visits, in order from 0 on
@@ -36,7 +36,7 @@ pub record AreKeptTo (task : Task) (count window : ℕ) (paths : List OpenPath) 
 pub record IsAhead (task : Task) (visits window : ℕ) (member : OpenPath) : Type 0 where
   pub visits_are : member.visits ≡ visits
   pub other : member.initial ≡ false
-  pub is : IsOpenOther task.netlist.now (violation_of task.unit.now task.assertion.now) visits window member.path
+  pub is : IsOpenOther task.netlist.now (violation_of task.unit.now task.directive.now) visits window member.path
 
 -- whether a path that keeps the window before open keeps this one open
 abbrev pub keeps_at : ℕ → OpenPath → Truth

@@ -1,4 +1,4 @@
--- What proves an assertion.
+-- What proves a directive.
 use Rattle.std.specs.Prelude.{◌≡◌, ◌+◌, ◌<◌, ◌≤◌, ℕ, true, List, None}
 use Rattle.cdcl.specs.Evidence.{IsTidy}
 use Rattle.cert_theory.specs.declared.certificate.Certificate.{Certificate}
@@ -23,38 +23,38 @@ use Rattle.prover.specs.declared.finding.Query.TheVariants.{Base, Induction}
 use Rattle.prover.specs.declared.options.Options.{Options}
 
 -- a log of the solver refutes the formula of a query, which is not too large
-pub record IsRefuted (design : Design) (unit : List Directive) (assertion : Directive) (steps : ℕ)
+pub record IsRefuted (design : Design) (unit : List Directive) (directive : Directive) (steps : ℕ)
     (query : Query) (log : List LogEntry) : Type 0 where
-  pub fits : IsTooLarge (variables_of design unit assertion query) (clauses_of design unit assertion query) → ⊥
-  pub refutes : Refutes (variables_of design unit assertion query) (clauses_of design unit assertion query) log
-  pub words : clause_words (clauses_of design unit assertion query) + log_words log ≤ MOST_LOG_WORDS
+  pub fits : IsTooLarge (variables_of design unit directive query) (clauses_of design unit directive query) → ⊥
+  pub refutes : Refutes (variables_of design unit directive query) (clauses_of design unit directive query) log
+  pub words : clause_words (clauses_of design unit directive query) + log_words log ≤ MOST_LOG_WORDS
   pub few : lemmas log ≤ steps
-  pub tidy : IsTidy (clauses_of design unit assertion query) log
+  pub tidy : IsTidy (clauses_of design unit directive query) log
 
 -- The certificate refutes the base and the induction for its visits at its window, which are within the options, and
--- each run of the netlist satisfies what is owed of the assertion.
-pub record IsProved (design : Design) (unit : List Directive) (assertion : Directive) (options : Options)
+-- each run of the netlist satisfies what is owed of the directive.
+pub record IsProved (design : Design) (unit : List Directive) (directive : Directive) (options : Options)
     (certificate : Certificate) : Type 0 where
-  pub number : certificate.assertion ≡ assertion.number
+  pub number : certificate.assertion ≡ directive.number
   pub visits : certificate.visits ≤ options.visits
   pub some : 1 ≤ certificate.window
   pub within : certificate.window ≤ options.depth
-  pub base : IsRefuted design unit assertion options.steps (Base certificate.visits certificate.window) certificate.base
-  pub induction : IsRefuted design unit assertion options.steps
+  pub base : IsRefuted design unit directive options.steps (Base certificate.visits certificate.window) certificate.base
+  pub induction : IsRefuted design unit directive options.steps
       (Induction certificate.visits certificate.window) certificate.induction
-  pub satisfied : (run : Run) → IsRun design run → Sat (trace_of (word design run)) (owed unit assertion) None
+  pub satisfied : (run : Run) → IsRun design run → Sat (trace_of (word design run)) (owed unit directive) None
 
 -- The clauses of the certificate are about the state bits and inductive, for its visits, which are within the options: its
 -- logs refute that some initial state misses one, that some step leads out of them, and that some bad state meets them.
 -- For fewer visits the search for such clauses ends without any. Each run of the netlist satisfies what is owed of the
--- assertion.
-pub record IsProvedReach (design : Design) (unit : List Directive) (assertion : Directive) (options : Options)
+-- directive.
+pub record IsProvedReach (design : Design) (unit : List Directive) (directive : Directive) (options : Options)
     (certificate : InductiveCert) : Type 0 where
   pub asked : options.reach ≡ true
-  pub number : certificate.assertion ≡ assertion.number
+  pub number : certificate.assertion ≡ directive.number
   pub visits : certificate.visits ≤ options.visits
-  pub inductive : AreInductive (joint_of design unit assertion certificate.visits) options.steps certificate.clauses
+  pub inductive : AreInductive (joint_of design unit directive certificate.visits) options.steps certificate.clauses
       certificate.initial certificate.step certificate.bad
   pub fewer : (visits : ℕ) → visits < certificate.visits
-      → (end : Reached) × IsEnd design unit assertion options visits end
-  pub satisfied : (run : Run) → IsRun design run → Sat (trace_of (word design run)) (owed unit assertion) None
+      → (end : Reached) × IsEnd design unit directive options visits end
+  pub satisfied : (run : Run) → IsRun design run → Sat (trace_of (word design run)) (owed unit directive) None

@@ -14,13 +14,13 @@ abbrev pub searches_of : Options → ℕ
 searches_of options = if options.reach then suc options.visits else 0
 
 abbrev pub joint_for : Task → ℕ → Joined
-joint_for task visits = joint_of task.netlist.now task.unit.now task.assertion.now visits
+joint_for task visits = joint_of task.netlist.now task.unit.now task.directive.now visits
 
 abbrev pub IsEndFor : Task → ℕ → Reached → Type 0
-IsEndFor task visits end = IsEnd task.netlist.now task.unit.now task.assertion.now task.options visits end
+IsEndFor task visits end = IsEnd task.netlist.now task.unit.now task.directive.now task.options visits end
 
 abbrev pub AreEndsFor : Task → ℕ → List Reached → Type 0
-AreEndsFor task count ends = AreEnds task.netlist.now task.unit.now task.assertion.now task.options count ends
+AreEndsFor task count ends = AreEnds task.netlist.now task.unit.now task.directive.now task.options count ends
 
 -- there is an end for each of so many numbers of visits
 abbrev pub HaveEnded : Task → ℕ → Type 0

@@ -10,10 +10,10 @@ use Rattle.prover.specs.declared.task.Task.{Task}
 -- what is owed is within the limits, all that the text names are signals of the netlist, and the options are in their
 -- ranges, that of the depth where inductive clauses are sought, too
 pub record IsProvable (task : Task) : Type 0 where
-  pub sized : IsSized task.netlist.now task.options.depth (plain_owed task.unit.now task.assertion.now)
+  pub sized : IsSized task.netlist.now task.options.depth (plain_owed task.unit.now task.directive.now)
   pub unit : All (λ directive. AtomsOfFormula (AtomInRange task.netlist.now.names) (formula_of directive.formula))
       task.unit.now
-  pub assertion : AtomsOfFormula (AtomInRange task.netlist.now.names) (formula_of task.assertion.now.formula)
+  pub directive : AtomsOfFormula (AtomInRange task.netlist.now.names) (formula_of task.directive.now.formula)
   pub depth : 1 ≤ task.options.depth
   pub visits : task.options.visits ≤ 16
   pub few : task.options.reach ≡ true → task.options.depth ≤ 1000

@@ -25,24 +25,24 @@ view_query view = kind_query view.visits view.window view.initial
 abbrev pub IsJointOf : Task → ℕ → Joined → Type 0
 IsJointOf task visits joint = joint ≡ record {
   design = task.netlist.now;
-  automaton = violation_of task.unit.now task.assertion.now;
+  automaton = violation_of task.unit.now task.directive.now;
   visits = visits;
 }
 
 -- a path of the kind is open at the window
 abbrev pub IsSeen : Task → View → JointPath → Type 0
 IsSeen task view path =
-    IsOpen task.netlist.now (violation_of task.unit.now task.assertion.now) view.visits view.window view.initial path
+    IsOpen task.netlist.now (violation_of task.unit.now task.directive.now) view.visits view.window view.initial path
 
 -- a path that is open at a window for a number of visits
 abbrev pub IsPathAt : Task → ℕ → ℕ → OpenPath → Type 0
 IsPathAt task visits window member =
     (member.visits ≡ visits)
-    × IsOpen task.netlist.now (violation_of task.unit.now task.assertion.now) visits window member.initial member.path
+    × IsOpen task.netlist.now (violation_of task.unit.now task.directive.now) visits window member.initial member.path
 
 -- a path that is open, or a log by which there is none
 abbrev pub IsKindOf : Task → View → Kind → Type 0
 IsKindOf task view (Open path) = IsPathAt task view.visits view.window path
 IsKindOf task view (Closed log) =
-    IsRefuted task.netlist.now task.unit.now task.assertion.now task.options.steps (view_query view) log
+    IsRefuted task.netlist.now task.unit.now task.directive.now task.options.steps (view_query view) log
     × ((path : JointPath) → IsSeen task view path → ⊥)

@@ -1,4 +1,4 @@
--- Runs that violate what is owed of an assertion.
+-- Runs that violate what is owed of a directive.
 use Rattle.std.specs.Prelude.{◌≤◌, ℕ, List, None}
 use Rattle.netlist.specs.Design.{Design}
 use Rattle.netlist.specs.Runs.{IsRun, word}
@@ -10,10 +10,10 @@ use Rattle.owed.specs.Owed.{owed}
 use Rattle.bounded_theory.specs.Found.{run_size}
 
 -- a run of the netlist whose word does not satisfy what is owed
-pub record Violates (design : Design) (unit : List Directive) (assertion : Directive) (run : Run) : Type 0 where
+pub record Violates (design : Design) (unit : List Directive) (directive : Directive) (run : Run) : Type 0 where
   pub is : IsRun design run
-  pub violates : Sat (trace_of (word design run)) (owed unit assertion) None → ⊥
+  pub violates : Sat (trace_of (word design run)) (owed unit directive) None → ⊥
 
 -- each run that violates it has at least so many valuations
 abbrev pub NoneBelow : Design → List Directive → Directive → ℕ → Type 0
-NoneBelow design unit assertion size = (run : Run) → Violates design unit assertion run → size ≤ run_size run
+NoneBelow design unit directive size = (run : Run) → Violates design unit directive run → size ≤ run_size run

@@ -21,7 +21,7 @@ pub(crate) fn claim_of(alloc: Global, task: Task) -> Result<Claim, NoMemory>
     ensures { IfOk result (IsClaimOf task.entry) }
 {
     Ok(Claim {
-        owed: owed(alloc, task.unit, task.assertion)?,
-        violation: violation(alloc, task.unit, task.assertion)?,
+        owed: owed(alloc, task.unit, task.directive)?,
+        violation: violation(alloc, task.unit, task.directive)?,
     })
 }

@@ -68,7 +68,7 @@ impl View {
 }
 
 impl Prover<'_> {
-    /// An open path of the window for a number of visits. It stops where there is none: then the assertion is proved.
+    /// An open path of the window for a number of visits. It stops where there is none: then the directive is proved.
     pub fn close_at(
         self,
         alloc: Global,
@@ -101,7 +101,7 @@ impl Prover<'_> {
             Kind::Closed(log) => log,
         };
         Err(Stop::Found(Finding::Proved(Certificate {
-            assertion: self.task.assertion.number,
+            assertion: self.task.directive.number,
             visits,
             window,
             base,

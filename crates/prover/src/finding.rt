@@ -50,7 +50,7 @@ pub enum SearchEnd {
     Large(u32),
 }
 
-/// What is found out about an assertion.
+/// What is found out about a directive.
 #[derive(Debug, Drop)]
 pub enum Finding {
     /// Each run satisfies what is owed, and this is the evidence.

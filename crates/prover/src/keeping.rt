@@ -29,7 +29,7 @@ impl OpenPath {
 
 impl Prover<'_> {
     /// A path for each number of visits that keeps the first window open. It stops where there is none for one of them:
-    /// then the assertion is proved.
+    /// then the directive is proved.
     pub fn first_paths(self, alloc: Global) -> Result<OpenPaths, Stop>
         requires ready { IsReady self }
         requires looked_at { IsLookedAtFor self.task 0 1 }
@@ -45,7 +45,7 @@ impl Prover<'_> {
     }
 
     /// A path for each number of visits that keeps the window open, where these keep open the window before. It stops
-    /// where there is none for one of them: then the assertion is proved.
+    /// where there is none for one of them: then the directive is proved.
     pub fn keep(self, alloc: Global, window: u32, known: OpenPaths) -> Result<OpenPaths, Stop>
         requires ready { IsReady self }
         requires looked_at { IsLookedAtFor self.task 0 window }

@@ -1,4 +1,4 @@
-//! The prover: whether each run of a netlist satisfies what is owed of an assertion.
+//! The prover: whether each run of a netlist satisfies what is owed of a directive.
 #![tactic(auto)]
 
 mod answering;

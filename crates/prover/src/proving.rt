@@ -19,7 +19,7 @@ use std::alloc::Global;
 /// Seeks a proof that each run of the netlist satisfies what is owed, and a run that does not. For each number from 1
 /// to the depth it looks for a run of so many valuations that does not, and for longer ones ahead of it; then for a path of
 /// so many, such that the run which begins with it and then holds its inputs does not; then, for each number of visits, for
-/// a joint path that is open at that window. The first number of visits for which none is proves the assertion (Sheeran,
+/// a joint path that is open at that window. The first number of visits for which none is proves the directive (Sheeran,
 /// Singh and Stalmarck, Checking safety properties using induction and a SAT-solver). Where the options ask for it,
 /// inductive clauses are sought behind these; the first number of visits for which there are some proves it too (Bradley,
 /// SAT-based model checking without unrolling). Once a path is found behind which holding the inputs does not satisfy it,
@@ -30,7 +30,7 @@ use std::alloc::Global;
 /// `NoMemory` if memory is refused.
 pub fn prove(alloc: Global, task: Task) -> Result<Finding, NoMemory>
     requires { IsProvable task }
-    ensures { IfOk result (IsFinding task.entry.netlist.now task.entry.unit.now task.entry.assertion.now
+    ensures { IfOk result (IsFinding task.entry.netlist.now task.entry.unit.now task.entry.directive.now
         task.entry.options) }
 {
     let claim = claim_of(alloc, task)?;

@@ -78,7 +78,7 @@ impl<'a> Prover<'a> {
 
 impl Prover<'_> {
     /// Goes on with the searches, one after the other, until one spends the budget; with none, until each has ended. It
-    /// stops where one finds inductive clauses: then the assertion is proved.
+    /// stops where one finds inductive clauses: then the directive is proved.
     pub fn reach_on<'j, 'a>(
         self,
         alloc: Global,
@@ -153,7 +153,7 @@ impl Prover<'_> {
         match reached {
             Reached::Inductive(clauses, initial, step, bad) => {
                 Err(Stop::Found(Finding::ProvedReach(InductiveCert {
-                    assertion: self.task.assertion.number,
+                    assertion: self.task.directive.number,
                     visits,
                     clauses,
                     initial,

@@ -8,7 +8,7 @@ use psl_base::NoMemory;
 /// Why the search ends at a query.
 #[derive(Debug, Drop)]
 pub(crate) enum Stop {
-    /// Something is found out about the assertion.
+    /// Something is found out about the directive.
     Found(Finding),
     /// The allocator refused memory.
     NoMemory,

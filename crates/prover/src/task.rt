@@ -2,11 +2,11 @@ use crate::options::Options;
 use netlist::Netlist;
 use psl_tree::{Directive, Unit};
 
-/// What is to be proved: that each run of the netlist satisfies what is owed of the assertion of the text.
+/// What is to be proved: that each run of the netlist satisfies what is owed of a directive of the text: an assertion or a cover.
 #[derive(Clone, Copy)]
 pub struct Task<'a> {
     pub unit: &'a Unit,
-    pub assertion: &'a Directive,
+    pub directive: &'a Directive,
     pub netlist: &'a Netlist,
     pub options: Options,
 }

@@ -30,6 +30,20 @@ fn text(alloc: Global) -> Result<Unit, NoMemory> {
     Ok(unit)
 }
 
+// The cover itself is denied along with what is assumed, so it is not negated twice.
+#[test]
+fn a_cover_is_owed_unmet_under_assumptions(rt: HostRuntime) -> Result<(), Fail> {
+    let unit = text(rt.alloc())?;
+    let cover = directive(4, Kind::Cover, 2);
+    let assumed = assumed_size(rt.alloc(), &unit)?;
+    let size = owed_size(rt.alloc(), &cover, assumed)?;
+    assert_eq!(rt; size.obligations, 6);
+    assert_eq!(rt; size.constructors, 9);
+    let formula = owed(rt.alloc(), &unit, &cover)?;
+    assert_eq!(rt; measure(&formula), 9);
+    Ok(())
+}
+
 #[test]
 fn an_assertion_is_owed_under_assumptions(rt: HostRuntime) -> Result<(), Fail> {
     let unit = text(rt.alloc())?;

@@ -109,7 +109,7 @@ fn finding(
     }
     let task = Task {
         unit: &unit,
-        assertion,
+        directive: assertion,
         netlist,
         options: Options {
             depth,

@@ -13,12 +13,12 @@ prove_all-requires-clause-traceable c =
 pub returns-clause-found : goal.returns-clause-found
 returns-clause-found c = record {
   findings =
-      subst (λ (wanted : Option (List ℕ × ℕ)). AreFindings c.args.netlist.now c.args.directives.now (options_of c.args.request.limits) wanted c.in_ok-findings.findings)
+      subst (λ (wanted : Option (List ℕ × ℕ)). AreFindings c.args.netlist.now c.args.directives.now (options_of c.args.request.limits) c.args.request.limits.covers wanted c.in_ok-findings.findings)
       c.recordings_of-recordings.ensures c.in_ok-findings.ensures;
   columns = c.in_ok-columns.ensures;
 }
 
 pub returns-clause-shown : goal.returns-clause-shown
 returns-clause-shown c =
-    all-shown c.args.netlist.now c.args.directives.now (options_of c.args.request.limits) (wanted_of c.recordings_of-recordings.result) c.in_ok-columns.columns
+    all-shown c.args.netlist.now c.args.directives.now (options_of c.args.request.limits) c.args.request.limits.covers (wanted_of c.recordings_of-recordings.result) c.in_ok-columns.columns
     c.in_ok-findings.findings c.soundness_law.ensures.sound c.in_ok-columns.ensures c.in_ok-findings.ensures

@@ -1,4 +1,4 @@
-use Rattle.std.proofs.Common.{◌≤◌, arith}
+use Rattle.std.proofs.Common.{◌≤◌, arith, refl}
 use Rattle.cert_theory.specs.declared.certificate.Certificate.{Certificate}
 use Rattle.cert_theory.specs.declared.certificate.InductiveCert.{InductiveCert}
 use Rattle.findings.proofs.Certified.{passed-for}
@@ -13,14 +13,15 @@ recorded_of-requires c =
 
 pub returns : goal.returns
 returns c =
-    let few : c.args.task.assertion.now.number ≤ 4294967295 = omega (arith, c.number_of.ensures.is, c.number_of.ensures.few) in
+    let few : c.args.task.directive.now.number ≤ 4294967295 = omega (arith, c.number_of.ensures.is, c.number_of.ensures.few) in
     record {
+      kind = refl;
       number = c.number_of.ensures.is;
       label = c.in_ok-copy_of.ensures;
       finding = c.in_ok-finding.ensures;
       recorded = c.in_ok-recorded.ensures;
       passed = λ (certificate : Certificate) same. rw c.number_of.ensures.is
-          (passed-for c.args.task c.requires.provable c.requires.assertion c.requires.depth few c.in_ok-finding.finding c.in_ok-finding.ensures certificate same);
+          (passed-for c.args.task c.requires.provable c.requires.asked c.requires.depth few c.in_ok-finding.finding c.in_ok-finding.ensures certificate same);
       passed_reach = λ (certificate : InductiveCert) same. rw c.number_of.ensures.is
-          (passed-reach c.args.task c.requires.provable c.requires.assertion few c.in_ok-finding.finding c.in_ok-finding.ensures certificate same);
+          (passed-reach c.args.task c.requires.provable c.requires.asked few c.in_ok-finding.finding c.in_ok-finding.ensures certificate same);
     }

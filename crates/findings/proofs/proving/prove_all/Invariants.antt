@@ -1,9 +1,9 @@
 use Rattle.std.proofs.Common.{take}
 use Rattle.findings.proofs.proving.prove_all.Given as goal
-use Rattle.findings.specs.Assertions.{assertions}
+use Rattle.findings.specs.Asked.{asked}
 use Rattle.findings.specs.Entries.{AreEntries}
 use Rattle.findings.specs.Recordings.{wanted_of}
 
 abbrev pub invariant-loop-directive : goal.invariant-loop-directive
 invariant-loop-directive l =
-    AreEntries l.fn.netlist l.fn.unit l.fn.options (wanted_of l.fn.recordings) (assertions (take l.directive-index l.directive-items)) l.findings
+    AreEntries l.fn.netlist l.fn.unit l.fn.options (wanted_of l.fn.recordings) (asked l.fn.covers (take l.directive-index l.directive-items)) l.findings

@@ -4,5 +4,5 @@ pub returns : goal.returns
 returns c = record {
   owed = c.in_ok-owed.ensures.formula;
   violation = c.in_ok-violation.ensures.automaton;
-  tests = c.in_ok-violation.ensures.in_range c.args.task.netlist.now.names c.requires.unit c.requires.assertion;
+  tests = c.in_ok-violation.ensures.in_range c.args.task.netlist.now.names c.requires.unit c.requires.directive;
 }

@@ -11,5 +11,5 @@ returns-clause-stop c =
     subst (λ (k : Kind). IsKindOf c.args.self.task (record { visits = c.args.visits; window = c.args.window; initial = true }) k) c.in-Closed.is c.in_ok-path.ensures.kind in
     let induction : IsKindOf c.args.self.task (record { visits = c.args.visits; window = c.args.window; initial = false }) (Closed c.in-Closed-2.log) =
     subst (λ (k : Kind). IsKindOf c.args.self.task (record { visits = c.args.visits; window = c.args.window; initial = false }) k) c.in-Closed-2.is c.in_ok-path-2.ensures.kind in
-    proved c.args.self.task.netlist.now c.args.self.task.unit.now c.args.self.task.assertion.now c.args.self.task.options c.args.visits c.args.window
+    proved c.args.self.task.netlist.now c.args.self.task.unit.now c.args.self.task.directive.now c.args.self.task.options c.args.visits c.args.window
     c.in-Closed.log c.in-Closed-2.log c.requires.looked_at base.0 induction.0 base.1 induction.1

@@ -5,7 +5,7 @@ use Rattle.prover.proofs.context.Prover.first_paths.Goals as goal
 use Rattle.prover.proofs.context.Prover.first_paths.Goals.{else-loop-visits-test, then-loop-visits-test+in_ok-path+in_ok-push+else-visits-visits-end}
 
 pub keep_at-requires-clause-looked_at : goal.keep_at-requires-clause-looked_at
-keep_at-requires-clause-looked_at c = next-look c.args.self.task.netlist.now c.args.self.task.unit.now c.args.self.task.assertion.now c.args.self.task.options
+keep_at-requires-clause-looked_at c = next-look c.args.self.task.netlist.now c.args.self.task.unit.now c.args.self.task.directive.now c.args.self.task.options
     c.loop-visits.visits 1 c.requires.looked_at (omega arith)
     (kept-stays c.args.self.task c.loop-visits.visits 1 c.loop-visits.paths c.loop-visits.invariant)
 

@@ -3,7 +3,7 @@ use Rattle.prover.proofs.HeldPaths.{held-path}
 use Rattle.prover.proofs.context.Prover.held_path.Goals as goal
 
 pub returns : goal.returns
-returns c = held-path c.args.self.task.netlist.now c.args.self.task.unit.now c.args.self.task.assertion.now c.args.self.task.options.depth
+returns c = held-path c.args.self.task.netlist.now c.args.self.task.unit.now c.args.self.task.directive.now c.args.self.task.options.depth
     c.args.self.claim.now.violation c.in_ok-path.path c.requires.ready.claim.violation c.in_ok-path.ensures.path
     (omega (arith, c.if-len-self.false, c.len.ensures))
     (c.held_law.ensures.some c.args.self.task.netlist.now c.soundness_law.ensures.ordered.0 c.in_ok-path.path c.soundness_law.ensures.sound

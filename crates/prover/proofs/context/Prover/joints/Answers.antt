@@ -12,9 +12,9 @@ returns-in-Err-clause-stop c =
     (omega (arith, c.loop-visits.auto.visits-end, c.searches-visits-end.ensures))).1 in
     stops c.args.self.task (Base c.loop-visits.visits 1) c.in-Err.fault c.without.result c.without.ensures
     (λ large. (
-      next-look c.args.self.task.netlist.now c.args.self.task.unit.now c.args.self.task.assertion.now c.args.self.task.options
+      next-look c.args.self.task.netlist.now c.args.self.task.unit.now c.args.self.task.directive.now c.args.self.task.options
           c.loop-visits.visits 1 c.requires.looked_at few (λ visits below. c.requires.open visits (omega (arith, below, few))),
-      base-large c.args.self.task.netlist.now c.args.self.task.unit.now c.args.self.task.assertion.now
+      base-large c.args.self.task.netlist.now c.args.self.task.unit.now c.args.self.task.directive.now
           c.args.self.claim.now.violation c.loop-visits.visits 1 c.requires.ready.claim.violation (omega arith)
           (c.in-Err.ensures.large large),
     ))

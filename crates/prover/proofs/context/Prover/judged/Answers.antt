@@ -19,14 +19,14 @@ word_of-requires-clause-looped c = are-sized c.args.self.task.netlist.now c.args
     (run-made c.args.self.task.netlist.now c.args.run c.requires.violates.is).looped
 
 pub satisfies-requires-clause-plain : goal.satisfies-requires-clause-plain
-satisfies-requires-clause-plain c = owed-clockless (formula_of c.args.self.claim.now.owed) c.args.self.task.unit.now c.args.self.task.assertion.now c.requires.ready.claim.owed
+satisfies-requires-clause-plain c = owed-clockless (formula_of c.args.self.claim.now.owed) c.args.self.task.unit.now c.args.self.task.directive.now c.requires.ready.claim.owed
 
 pub satisfies-requires-clause-sequences : goal.satisfies-requires-clause-sequences
 satisfies-requires-clause-sequences c = small-sequences (formula_of c.args.self.claim.now.owed)
     (subst (λ (f : Formula). HasLargeSequence f → ⊥) (sym c.requires.ready.claim.owed) c.requires.ready.provable.sized.sequences)
 
 pub unreachable-requires : goal.unreachable-requires
-unreachable-requires c = plain-violates c.args.self.task.netlist.now c.args.self.task.unit.now c.args.self.task.assertion.now c.args.run
+unreachable-requires c = plain-violates c.args.self.task.netlist.now c.args.self.task.unit.now c.args.self.task.directive.now c.args.run
     (formula_of c.args.self.claim.now.owed) c.requires.ready.claim.owed c.requires.violates
     (subst (λ (w : Word). Sat (trace_of w) (formula_of c.args.self.claim.now.owed) None) c.in_ok-word.ensures
     (c.in_ok-satisfies.ensures.0 c.if-branch.true))

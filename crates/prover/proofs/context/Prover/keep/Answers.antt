@@ -10,7 +10,7 @@ pub loop-visits-init : goal.loop-visits-init
 loop-visits-init c = none-done c.args.self.task c.args.window c.args.known c.requires.known
 
 pub keep_at-requires-clause-looked_at : goal.keep_at-requires-clause-looked_at
-keep_at-requires-clause-looked_at c = next-look c.args.self.task.netlist.now c.args.self.task.unit.now c.args.self.task.assertion.now c.args.self.task.options
+keep_at-requires-clause-looked_at c = next-look c.args.self.task.netlist.now c.args.self.task.unit.now c.args.self.task.directive.now c.args.self.task.options
     c.loop-visits.visits c.args.window c.requires.looked_at (omega arith)
     (done-stays c.args.self.task c.loop-visits.visits c.args.window c.loop-visits.paths (omega arith) c.loop-visits.invariant)
 

@@ -7,7 +7,7 @@ pub returns-in-Err-clause-stop : goal.returns-in-Err-clause-stop
 returns-in-Err-clause-stop c = stops c.args.self.task (Base c.args.visits c.args.window) c.in-Err.fault c.without.result c.without.ensures
     (λ large. (
       c.requires.looked_at,
-      base-large c.args.self.task.netlist.now c.args.self.task.unit.now c.args.self.task.assertion.now
+      base-large c.args.self.task.netlist.now c.args.self.task.unit.now c.args.self.task.directive.now
           c.args.self.claim.now.violation c.args.visits c.args.window c.requires.ready.claim.violation c.requires.looked_at.some
           (c.in-Err.ensures.large large),
     ))

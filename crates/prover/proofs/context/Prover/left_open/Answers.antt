@@ -11,25 +11,25 @@ use Rattle.prover.specs.declared.reaching.Reaching.{Reaching}
 use Rattle.prover.specs.declared.searching.Searched.{Searched}
 
 pub search-requires-clause-sought : goal.search-requires-clause-sought
-search-requires-clause-sought c = sought c.args.self.task.netlist.now c.args.self.task.unit.now c.args.self.task.assertion.now c.args.self.task.options
+search-requires-clause-sought c = sought c.args.self.task.netlist.now c.args.self.task.unit.now c.args.self.task.directive.now c.args.self.task.options
     1 (omega arith) c.requires.provable.depth
-    (none-below-one c.args.self.task.netlist.now c.args.self.task.unit.now c.args.self.task.assertion.now)
+    (none-below-one c.args.self.task.netlist.now c.args.self.task.unit.now c.args.self.task.directive.now)
     (λ more. absurd (omega (arith, more)))
 
 pub first_paths-requires-clause-looked_at : goal.first_paths-requires-clause-looked_at
-first_paths-requires-clause-looked_at c = first-look c.args.self.task.netlist.now c.args.self.task.unit.now c.args.self.task.assertion.now c.args.self.task.options
-    1 (sought c.args.self.task.netlist.now c.args.self.task.unit.now c.args.self.task.assertion.now c.args.self.task.options
+first_paths-requires-clause-looked_at c = first-look c.args.self.task.netlist.now c.args.self.task.unit.now c.args.self.task.directive.now c.args.self.task.options
+    1 (sought c.args.self.task.netlist.now c.args.self.task.unit.now c.args.self.task.directive.now c.args.self.task.options
     1 (omega arith) c.requires.provable.depth
-    (none-below-one c.args.self.task.netlist.now c.args.self.task.unit.now c.args.self.task.assertion.now)
+    (none-below-one c.args.self.task.netlist.now c.args.self.task.unit.now c.args.self.task.directive.now)
     (λ more. absurd (omega (arith, more))))
-    (none-fewer c.args.self.task.netlist.now c.args.self.task.unit.now c.args.self.task.assertion.now
+    (none-fewer c.args.self.task.netlist.now c.args.self.task.unit.now c.args.self.task.directive.now
     (suc c.in_ok-searched.searched.none_within) 2 (omega (arith, c.in_ok-searched.ensures.searched.reaches))
     c.in_ok-searched.ensures.searched.none)
 
 pub search-requires-then-searched-window-clause-sought : goal.search-requires-then-searched-window-clause-sought
-search-requires-then-searched-window-clause-sought c = sought c.args.self.task.netlist.now c.args.self.task.unit.now c.args.self.task.assertion.now
+search-requires-then-searched-window-clause-sought c = sought c.args.self.task.netlist.now c.args.self.task.unit.now c.args.self.task.directive.now
     c.args.self.task.options c.loop-window.window (omega (arith, c.loop-window.invariant.some)) c.loop-window-test.true
-    (none-fewer c.args.self.task.netlist.now c.args.self.task.unit.now c.args.self.task.assertion.now
+    (none-fewer c.args.self.task.netlist.now c.args.self.task.unit.now c.args.self.task.directive.now
     (suc c.loop-window.searched.none_within) c.loop-window.window (omega (arith, c.loop-window.invariant.searched.reaches))
     c.loop-window.invariant.searched.none)
     (λ more. kept-stays c.args.self.task (suc c.args.self.task.options.visits) (c.loop-window.window - 1) c.loop-window.paths
@@ -53,16 +53,16 @@ keep-requires-clause-looked_at c =
       | else-searched-window w ↦ reaches-on c.args.self.task c.loop-window.window c.loop-window.searched c.if-searched-window.searched
           w.if-searched-window.false c.loop-window.invariant.searched w.searched-is
     ] in
-    first-look c.args.self.task.netlist.now c.args.self.task.unit.now c.args.self.task.assertion.now c.args.self.task.options
+    first-look c.args.self.task.netlist.now c.args.self.task.unit.now c.args.self.task.directive.now c.args.self.task.options
     c.loop-window.window
-    (sought c.args.self.task.netlist.now c.args.self.task.unit.now c.args.self.task.assertion.now
+    (sought c.args.self.task.netlist.now c.args.self.task.unit.now c.args.self.task.directive.now
     c.args.self.task.options c.loop-window.window (omega (arith, c.loop-window.invariant.some)) c.loop-window-test.true
-    (none-fewer c.args.self.task.netlist.now c.args.self.task.unit.now c.args.self.task.assertion.now
+    (none-fewer c.args.self.task.netlist.now c.args.self.task.unit.now c.args.self.task.directive.now
     (suc c.loop-window.searched.none_within) c.loop-window.window (omega (arith, c.loop-window.invariant.searched.reaches))
     c.loop-window.invariant.searched.none)
     (λ more. kept-stays c.args.self.task (suc c.args.self.task.options.visits) (c.loop-window.window - 1) c.loop-window.paths
     c.loop-window.invariant.paths))
-    (none-fewer c.args.self.task.netlist.now c.args.self.task.unit.now c.args.self.task.assertion.now
+    (none-fewer c.args.self.task.netlist.now c.args.self.task.unit.now c.args.self.task.directive.now
     (suc c.if-searched-window.searched.none_within) (suc c.loop-window.window) (omega (arith, to.reaches)) to.none)
 
 pub joints-requires-clause-open : goal.joints-requires-clause-open

@@ -5,7 +5,7 @@ use Rattle.prover.specs.Glances.{IsProgress, IsUntold}
 use Rattle.prover.specs.declared.searching.Progress.{Progress}
 
 pub go_on-requires-clause-tried : goal.go_on-requires-clause-tried
-go_on-requires-clause-tried c = sought-tried c.args.self.task.netlist.now c.args.self.task.unit.now c.args.self.task.assertion.now
+go_on-requires-clause-tried c = sought-tried c.args.self.task.netlist.now c.args.self.task.unit.now c.args.self.task.directive.now
     c.args.self.task.options c.args.size c.requires.sought
 
 pub returns-in-Nothing-clause-stop : goal.returns-in-Nothing-clause-stop

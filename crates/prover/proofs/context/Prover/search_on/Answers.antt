@@ -10,6 +10,6 @@ returns-in-Nothing-clause-end c =
     subst (λ (p : Progress). IsProgress c.args.self.task (c.loop-searched.searched.none_within + 1) p) c.in-Nothing.is
     c.in_ok-further.ensures.progress in
     untold-end c.args.self.task (c.loop-searched.searched.none_within + 1) c.in-Nothing.untold c.end.result c.end.ensures
-    (tried c.args.self.task.netlist.now c.args.self.task.unit.now c.args.self.task.assertion.now c.args.self.task.options
+    (tried c.args.self.task.netlist.now c.args.self.task.unit.now c.args.self.task.directive.now c.args.self.task.options
     (c.loop-searched.searched.none_within + 1) (omega arith) (omega (arith, c.loop-searched-test.true))
     (λ run v. omega (arith, c.loop-searched.invariant run v))) told
