@@ -7,8 +7,3 @@ pub mod Loading
 pub mod Modelling
 pub mod Refuting
 pub mod Reducing
-pub mod Meeting
-pub mod Standing
-pub mod Rests
-pub mod Cores
-pub mod Asking

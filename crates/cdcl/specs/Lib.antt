@@ -7,7 +7,3 @@ pub mod Solving
 pub mod Loading
 pub mod Stepping
 pub mod Reducing
-pub mod Questions
-pub mod Standing
-pub mod GrowingFields
-pub mod Cores

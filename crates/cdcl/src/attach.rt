@@ -11,7 +11,11 @@ use psl_base::NoMemory;
 
 /// Goes back to the level where a lemma asserts its first literal, adds the lemma, and makes that literal true. At a
 /// restart a lemma of several literals is added at the lowest level, where none of them is false, and asserts nothing.
-pub(crate) fn attach_lemma(
+///
+/// # Errors
+///
+/// `NoMemory` if memory is refused. The clauses that there are then stay.
+pub fn attach_lemma(
     propagator: &mut Propagator,
     decider: &mut Decider,
     lemma: &[u32],
@@ -51,7 +55,7 @@ fn level_below(propagator: &Propagator, literal: u32) -> usize
 }
 
 /// Takes back all above a level.
-pub(crate) fn go_back(propagator: &mut Propagator, decider: &mut Decider, level: usize)
+pub fn go_back(propagator: &mut Propagator, decider: &mut Decider, level: usize)
     requires { level < length propagator.old.path.limits }
     ensures { propagator.new ≡ record propagator.old {
       path = undone propagator.old.path level;

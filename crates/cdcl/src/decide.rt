@@ -11,7 +11,7 @@ use std::alloc::Global;
 
 /// Which variable is decided next, and with which value.
 #[derive(Drop)]
-pub(crate) struct Decider {
+pub struct Decider {
     order: Order,
     // By variable: the value that it had last.
     phases: Vec<bool>,
@@ -26,7 +26,7 @@ impl Decider {
     }
 
     /// A literal that is to be decided, of a variable that has no value.
-    pub(crate) fn next(&mut self, trail: &Trail, variables: u32) -> Option<u32>
+    pub fn next(&mut self, trail: &Trail, variables: u32) -> Option<u32>
         requires all { variables ≤ trail.now.variables }
         requires few { trail.now.variables ≤ MOST_VARIABLES }
         ensures some { IfSome result (IsFree trail.now) }
@@ -75,12 +75,12 @@ impl Decider {
     }
 
     /// Puts a variable among those that can be decided.
-    pub(crate) fn put(&mut self, variable: u32) {
+    pub fn put(&mut self, variable: u32) {
         self.order.put(variable);
     }
 
     /// Takes a literal for the one of its variable that is to be decided.
-    pub(crate) fn prefer(&mut self, literal: u32) {
+    pub fn prefer(&mut self, literal: u32) {
         let variable = (literal / 2) as usize;
         if variable < self.phases.len() {
             self.phases[variable] = literal % 2 == 0;

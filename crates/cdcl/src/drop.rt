@@ -6,7 +6,7 @@ ghost use Rattle.cdcl.specs.Reducing.{IsNoReason};
 use cdcl_trail::Trail;
 
 /// Whether a literal of the trail is true because of a clause, which is given with its number.
-pub(crate) fn is_reason(trail: &Trail, clause: &[u32], number: u32) -> bool
+pub fn is_reason(trail: &Trail, clause: &[u32], number: u32) -> bool
     ensures { OnFalse result (All (IsNoReason trail.now number) clause.now) }
 {
     for literal in clause {

@@ -17,8 +17,9 @@ const NEXT_DROP: usize = 300;
 
 /// The choices of a solver: what to decide, when to restart, which lemmas to drop.
 #[derive(Drop)]
-pub(crate) struct Heuristics {
-    pub(crate) decider: Decider,
+pub struct Heuristics {
+    /// What to decide.
+    pub decider: Decider,
     restarts: Restarts,
     usage: Usage,
     spread: Spread,
@@ -27,7 +28,12 @@ pub(crate) struct Heuristics {
 }
 
 impl Heuristics {
-    pub(crate) fn new(alloc: Global, variables: u32) -> Result<Heuristics, NoMemory> {
+    /// The choices of a search over so many variables.
+    ///
+    /// # Errors
+    ///
+    /// `NoMemory` if memory is refused.
+    pub fn new(alloc: Global, variables: u32) -> Result<Heuristics, NoMemory> {
         Ok(Heuristics {
             decider: Decider::new(alloc, variables)?,
             restarts: Restarts::new(),
@@ -52,7 +58,11 @@ impl Heuristics {
     }
 
     /// Counts a lemma of a growing formula, where so many clauses and lemmas are numbered before it.
-    pub(crate) fn count_at(
+    ///
+    /// # Errors
+    ///
+    /// `NoMemory` if memory is refused.
+    pub fn count_at(
         &mut self,
         trail: &Trail,
         reached: &[u32],
@@ -66,7 +76,11 @@ impl Heuristics {
 
     /// The less useful half of the lemmas of a growing formula that might be dropped, where there are so many lemmas.
     /// None while it is too early.
-    pub(crate) fn least_useful(
+    ///
+    /// # Errors
+    ///
+    /// `NoMemory` if memory is refused.
+    pub fn least_useful(
         &mut self,
         alloc: Global,
         propagator: &Propagator,

@@ -29,7 +29,11 @@ fn begin_of(limits: &[u32], level: usize, end: usize) -> usize
 
 /// Learns from a conflict. Where there is a level but the lowest, that is a lemma that asserts a literal; at the lowest
 /// it is the empty lemma.
-pub(crate) fn analyze(
+///
+/// # Errors
+///
+/// `NoMemory` if memory is refused.
+pub fn analyze(
     propagator: &Propagator,
     analyzer: &mut Analyzer,
     conflict: u32,

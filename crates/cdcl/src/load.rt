@@ -34,11 +34,11 @@ pub(crate) fn load(
 }
 
 /// Reads the literals of a clause as numbers.
-pub(crate) fn read_literals(
-    numbers: &mut Vec<u32>,
-    clause: &[i32],
-    variables: u32,
-) -> Result<(), NoMemory>
+///
+/// # Errors
+///
+/// `NoMemory` if memory is refused.
+pub fn read_literals(numbers: &mut Vec<u32>, clause: &[i32], variables: u32) -> Result<(), NoMemory>
     requires within { IsTrue (clause_within variables clause.now) }
     requires few { variables ≤ MOST_VARIABLES }
     ensures is { OnOk result (map signed_of numbers.new.items ≡ clause.now) }
@@ -68,7 +68,7 @@ fn add_clause(propagator: &mut Propagator, clause: &[u32]) -> Result<bool, NoMem
 }
 
 /// A literal of a clause that differs from this one.
-pub(crate) fn other_literal(clause: &[u32], literal: u32) -> Option<u32>
+pub fn other_literal(clause: &[u32], literal: u32) -> Option<u32>
     ensures some { IfSome result (λ other. Contains clause.now other × (literal ≢ other)) }
     ensures none { IfNone result (All (λ other. other ≡ literal) clause.now) }
 {

@@ -16,7 +16,7 @@ use crate::attach::attach_lemma;
 use crate::drop::is_reason;
 use crate::heuristics::Heuristics;
 use crate::learn::{analyze, log_lemma};
-use crate::values::values;
+use crate::valuation::values;
 use cdcl_conflict::{Analyzer, Lemma};
 use cdcl_propagation::Propagator;
 use clauses::{Cnf, Entry, Log};

@@ -14,10 +14,11 @@ struct Use {
 
 /// A lemma that may be dropped. The least useful comes first.
 #[derive(Clone, Copy, PartialEq, Eq, PartialOrd, Ord, Drop)]
-pub(crate) struct Candidate {
+pub struct Candidate {
     last: u32,
     levels: u32,
-    pub(crate) number: u32,
+    /// Its number among the clauses.
+    pub number: u32,
 }
 
 /// The use of each lemma.

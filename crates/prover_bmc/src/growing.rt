@@ -3,7 +3,7 @@ ghost use Rattle.std.specs.Prelude.{◌≤◌, IsTrue};
 ghost use Rattle.clauses.specs.Literals.{clause_within};
 ghost use Rattle.clauses.specs.declared.flat.TheConstants.{MOST_VARIABLES};
 
-use cdcl::Growing;
+use cdcl_incremental::Growing;
 use clauses::{Clauses, Cnf, CnfFault, MOST_VARIABLES};
 use psl_base::NoMemory;
 use std::alloc::Global;

@@ -10,7 +10,7 @@ use crate::plan::Plan;
 use crate::prefixes::Told;
 use crate::solver::NodeSolver;
 use crate::step::{Step, add_end, add_step};
-use cdcl::Asked;
+use cdcl_incremental::Asked;
 use clauses::{Clauses, CnfFault};
 use gates_builder::Builder;
 use gates_covers::covers_of;

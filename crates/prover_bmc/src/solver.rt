@@ -4,7 +4,7 @@ ghost use Rattle.clauses.specs.declared.flat.TheConstants.{MOST_VARIABLES};
 
 use crate::growing::{add, add_all, are_within, empty, open_all};
 use crate::nodes::add_node;
-use cdcl::{Asked, Growing};
+use cdcl_incremental::{Asked, Growing};
 use clauses::{Clauses, CnfFault};
 use gates_builder::Builder;
 use std::alloc::Global;

@@ -5,7 +5,7 @@ use Rattle.std.specs.List.{list_all}
 use Rattle.std.proofs.lemmas.Bool.{and_from, and_parts}
 use Rattle.std.proofs.lemmas.List.Elements.{All-append, All-cons, All-nil}
 use Rattle.std.proofs.lemmas.List.Folds.{list_all-append}
-use Rattle.cdcl.specs.Questions.{AreTrue}
+use Rattle.cdcl_incremental.specs.Questions.{AreTrue}
 use Rattle.gates_theory.proofs.Within.{moved_within}
 use Rattle.gates_theory.specs.Unrolled.{moved, units}
 use Rattle.clauses.specs.Literals.{clause_within, is_within}

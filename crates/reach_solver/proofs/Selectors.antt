@@ -9,7 +9,7 @@ use Rattle.std.proofs.lemmas.List.Elements.{All-append, All-cons, All-contains, 
 use Rattle.std.proofs.lemmas.Bool.{and_from, and_parts}
 use Rattle.std.proofs.lemmas.List.Folds.{list_all-append}
 use Rattle.std.proofs.lemmas.Option.{get_or_from_slice_get, slice_get_within, slice_get-get_or}
-use Rattle.cdcl.specs.Questions.{AreTrue}
+use Rattle.cdcl_incremental.specs.Questions.{AreTrue}
 use Rattle.clauses.specs.Literals.{clause_within, clauses_within, is_within}
 use Rattle.clauses.specs.Models.{Assignment, is_true, meets, IsModel}
 use Rattle.gates_theory.proofs.Agreement.{same-literal}

@@ -2,7 +2,7 @@
 -- holds.
 use Rattle.std.specs.Prelude.{◌≡◌, ℕ, suc, ◌+◌, ℤ, pos, negsuc, List, [], ◌∷◌, ◌++◌, slice_get, Some, IsTrue}
 use Rattle.std.specs.List.{All, Contains}
-use Rattle.cdcl.specs.Questions.{AreTrue}
+use Rattle.cdcl_incremental.specs.Questions.{AreTrue}
 use Rattle.clauses.specs.Literals.{clauses_within}
 use Rattle.clauses.specs.Models.{Assignment, IsModel}
 use Rattle.reach_solver.specs.declared.solver.Told.{Told}

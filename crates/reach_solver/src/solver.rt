@@ -7,7 +7,7 @@ ghost use Rattle.reach_solver.specs.Texts.{text_of as text_is};
 
 use crate::fingerprint::fingerprint;
 use crate::text::{append, text_of};
-use cdcl::{Asked, Growing};
+use cdcl_incremental::{Asked, Growing};
 use clauses::{Clauses, Cnf, CnfFault, MOST_VARIABLES};
 use psl_base::{Bits, Items, NoMemory};
 use std::alloc::Global;

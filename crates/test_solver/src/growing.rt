@@ -2,7 +2,7 @@
 ghost use Rattle.std.specs.Prelude.{◌≡◌, IfOk};
 
 use crate::solving::{is_in, is_within};
-use cdcl::{Asked, Growing};
+use cdcl_incremental::{Asked, Growing};
 use clauses::Cnf;
 use std::alloc::Global;
 use std::test::Fail;

@@ -1,6 +1,6 @@
 use Rattle.std.proofs.Common.{sym, subst, ◌∙◌, ℤ, List, [], ◌∷◌, ◌++◌, arith}
 use Rattle.std.specs.Prelude.{IsTrue}
-use Rattle.cdcl.specs.Questions.{AreTrue}
+use Rattle.cdcl_incremental.specs.Questions.{AreTrue}
 use Rattle.clauses.specs.Literals.{clause_within}
 use Rattle.clauses.specs.Models.{IsModel}
 use Rattle.clauses.specs.declared.flat.TheConstants.{MOST_VARIABLES}

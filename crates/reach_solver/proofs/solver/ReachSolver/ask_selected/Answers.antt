@@ -1,7 +1,7 @@
 use Rattle.std.proofs.Common.{sym, ◌∙◌, subst, ℤ, List, [], ◌∷◌, ◌++◌, Option}
 use Rattle.std.specs.Prelude.{IsTrue, IfSome}
 use Rattle.std.specs.List.{All, Contains}
-use Rattle.cdcl.specs.Questions.{IsAsked, IsCore}
+use Rattle.cdcl_incremental.specs.Questions.{IsAsked, IsCore}
 use Rattle.clauses.specs.Literals.{clause_within}
 use Rattle.reach_solver.specs.Fields.{selecting_of}
 use Rattle.reach_solver.specs.Solvers.{AreSelected, IsOver, Selecting}

@@ -1,7 +1,7 @@
 use Rattle.std.proofs.Common.{◌≡◌, ◌<◌, refl, sym, ap, ◌∙◌, subst, ℕ, ◌+◌, ℤ, negsuc, List, [], ◌∷◌, ◌++◌, length, drop, take, arith}
 use Rattle.std.specs.Prelude.{IsTrue}
 use Rattle.std.proofs.lemmas.List.{length-append, take-append-le}
-use Rattle.cdcl.specs.Questions.{Formula}
+use Rattle.cdcl_incremental.specs.Questions.{Formula}
 use Rattle.clauses.specs.Literals.{clause_within, clauses_within}
 use Rattle.clauses.specs.declared.flat.TheConstants.{MOST_VARIABLES}
 use Rattle.gates_theory.proofs.Within.{wider}

@@ -1,5 +1,0 @@
-use Rattle.cdcl.specs.Cores.{Implies}
-use Rattle.cdcl.proofs.final_core.explain_all.Given as goal
-
-abbrev pub invariant-loop-place : goal.invariant-loop-place
-invariant-loop-place l = Implies l.propagator l.initial.flags l.flags

@@ -1,6 +1,0 @@
-use Rattle.std.proofs.Common.{ℕ, ◌<◌}
-use Rattle.cdcl.specs.Cores.{IsFlag}
-use Rattle.cdcl.proofs.final_core.is_clear.Given as goal
-
-abbrev pub invariant-loop-flag : goal.invariant-loop-flag
-invariant-loop-flag l = (at : ℕ) → at < l.flag-index → IsFlag l.flags at → ⊥

@@ -1,5 +1,0 @@
-use Rattle.cdcl.specs.Standing.{KeepsAll}
-use Rattle.cdcl.proofs.incremental.Incremental.prefer_others.Given as goal
-
-abbrev pub invariant-loop-literal : goal.invariant-loop-literal
-invariant-loop-literal l = KeepsAll l.fn.self l.self

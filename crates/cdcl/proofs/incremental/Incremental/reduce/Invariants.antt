@@ -1,9 +1,0 @@
-use Rattle.std.proofs.Common.{◌≡◌}
-use Rattle.cdcl.specs.Standing.{Continues}
-use Rattle.cdcl.proofs.incremental.Incremental.reduce.Given as goal
-
-abbrev pub invariant-loop-candidate : goal.invariant-loop-candidate
-invariant-loop-candidate l = record {
-  continues : Continues l.fn.self l.self;
-  is_refuted : l.self.is_refuted ≡ l.fn.self.is_refuted;
-}

@@ -1,0 +1,5 @@
+pub mod Questions
+pub mod Levels
+pub mod Standing
+pub mod GrowingFields
+pub mod Cores
