@@ -10,8 +10,8 @@ use Rattle.alternating_theory.specs.Obligations.{Automaton, obligation_at}
 use Rattle.alternating_theory.specs.Positive.{And, Const, Holds, Or, Owed, OwesWithin, Positive, met}
 use Rattle.alternating_theory.proofs.Reached.{met-owed, owed-within}
 use Rattle.bounded_theory.specs.Numbers.{is_kept, serves}
-use Rattle.bounded_theory.specs.Searches.{number_width}
-use Rattle.bounded_theory.proofs.Closes.{atoms-of}
+use Rattle.bounded_theory.specs.Digits.{number_width}
+use Rattle.bounded_theory.proofs.Atoms.{atoms-of}
 use Rattle.clauses.specs.Literals.{clause_within, clauses_within, is_within, variable_of}
 use Rattle.clauses.specs.Models.{Assignment, is_true, meets}
 use Rattle.gates_letters.specs.Combinations.{combination_by}

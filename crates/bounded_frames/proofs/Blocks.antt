@@ -8,7 +8,7 @@ use Rattle.std.proofs.lemmas.List.FromFn.{length-map-range_with_len}
 use Rattle.std.proofs.lemmas.List.Sums.{sum_by-cons}
 use Rattle.std.proofs.lemmas.Nat.{mul-add-lt}
 use Rattle.alternating_theory.specs.Obligations.{Automaton, Obligation, obligation_at}
-use Rattle.bounded_theory.specs.Searches.{number_width}
+use Rattle.bounded_theory.specs.Digits.{number_width}
 use Rattle.clauses.specs.Literals.{clause_within, is_within}
 use Rattle.clauses.specs.Models.{Assignment}
 use Rattle.gates_nodes.specs.declared.cover.Cover.{Cover}

@@ -19,6 +19,7 @@ use Rattle.netlist.specs.Sound as netlists
 use Rattle.netlist.specs.Valuations.{bit}
 use Rattle.netlist.specs.declared.table.Table.{Table}
 use Rattle.run_terms.specs.Formulas.{HasModel}
+use Rattle.run_terms.specs.Sizes.{formula_bulk as search_bulk}
 use Rattle.bounded_theory.specs.Found.{SomeFound}
 use Rattle.bounded_frames.specs.Adding.{frame_in, fronts_in}
 use Rattle.bounded_frames.specs.Framing.{IsPlaced}
@@ -29,6 +30,7 @@ use Rattle.bounded_frames.specs.declared.places.Places.{Places}
 use Rattle.bounded_frames.proofs.Cones.{Premises, split}
 use Rattle.bounded_frames.proofs.Frames.{start-few}
 use Rattle.bounded_frames.proofs.Models.{models-runs}
+use Rattle.bounded_frames.proofs.Sizes.{variables-most, words-most}
 use Rattle.bounded_frames.proofs.Totals.{words-few}
 use Rattle.bounded_frames.proofs.Wholes.{behind, closings-same, filter-same, frame-is, places-behind, places-same}
 use Rattle.bounded_frames.proofs.Within.{asked-within}
@@ -101,12 +103,27 @@ module _ (d : Design) (a : Automaton) (on : Premises d a) (n : ℕ) (other : Aut
       subst (λ (m : Making). IsTrue (clauses_within (variables_of m.given m.nodes) clauses)) (sym made)
       (subst (λ cs. IsTrue (clauses_within (search_variables d a n) cs)) (sym told) (asked-within d a on n))
 
+  pub final-clauses : (all : List (List ℤ)) → all ≡ formula builder.covers builder.given builder.nodes clauses → all ≡ search_clauses d a n
+  final-clauses all f = f ∙ ap (λ (m : Making). formula m.covers m.given m.nodes clauses) made ∙ ap (formula (covers_of d.tables) 0 (asked_of d a n).nodes) told
+
+  pub final-variables : (variables : ℕ) → variables ≡ variables_of builder.given builder.nodes → variables ≡ search_variables d a n
+  final-variables variables e = e ∙ ap (λ (m : Making). variables_of m.given m.nodes) made
+
   pub final-models : (variables : ℕ) (all : List (List ℤ)) → variables ≡ variables_of builder.given builder.nodes → all ≡ formula builder.covers builder.given builder.nodes clauses
       → HasModel variables all ↔ SomeFound d a n
   final-models variables all e f =
-      let count : variables ≡ search_variables d a n = e ∙ ap (λ (m : Making). variables_of m.given m.nodes) made in
-      let same : all ≡ search_clauses d a n = f ∙ ap (λ (m : Making). formula m.covers m.given m.nodes clauses) made ∙ ap (formula (covers_of d.tables) 0 (asked_of d a n).nodes) told in
+      let count = final-variables variables e in
+      let same = final-clauses all f in
       subst (λ k. HasModel k all ↔ SomeFound d a n) (sym count) (subst (λ cs. HasModel (search_variables d a n) cs ↔ SomeFound d a n) (sym same) (models-runs d a on n))
+
+  -- there are few of both
+  pub final-words : (all : List (List ℤ)) → all ≡ formula builder.covers builder.given builder.nodes clauses → length a.obligations ≤ 2048
+      → clause_words all ≤ 1000 * suc n * suc n * search_bulk d a
+  final-words all f small = let same = ap clause_words (final-clauses all f) in omega (arith, same, words-most d a on.sound small n)
+
+  pub final-few : (variables : ℕ) → variables ≡ variables_of builder.given builder.nodes → length a.obligations ≤ 2048
+      → variables ≤ 1000 * suc n * suc n * search_bulk d a
+  final-few variables e small = omega (arith, final-variables variables e, variables-most d a on.sound small n)
 
 -- what stands behind the frames
 pub placed-from : (d : Design) (a : Automaton) (n : ℕ) (places : Places) (making : Making) (frames : List (List ℤ)) (cone : List Bool) → places.automaton.now ≡ a → places.last ≡ n

@@ -4,16 +4,22 @@ mod Asking
 pub mod Blocks
 mod Clauses
 mod Cones
+mod Costs
+mod Covering
 mod Exceeding
 pub mod Filling
 mod FirstPlaces
+mod Framed
+pub mod Frames
 mod FramesBuilt
 mod Freeing
-pub mod Frames
 mod Gathered
 pub mod Growing
 mod Models
+mod Ordered
+mod Owing
 mod Reading
+mod Sizes
 mod Standing
 mod Telling
 mod Totals

@@ -12,9 +12,9 @@ use Rattle.alternating_theory.specs.Positive.{met}
 use Rattle.alternating_theory.proofs.Reached.{met-owed, owed-within}
 use Rattle.bounded_theory.specs.Found.{IsFound}
 use Rattle.bounded_theory.specs.Numbers.{IsSearched, place_after, serves}
-use Rattle.bounded_theory.specs.Searches.{number_width}
-use Rattle.bounded_theory.proofs.Closes.{atoms-of}
-use Rattle.bounded_theory.proofs.Joins.{first-passes}
+use Rattle.bounded_theory.specs.Digits.{number_width}
+use Rattle.bounded_theory.proofs.Atoms.{atoms-of}
+use Rattle.bounded_theory.proofs.Passing.{first-passes}
 use Rattle.bounded_theory.proofs.Ranks.{after-last, after-other, numbers-accepted}
 use Rattle.bounded_theory.proofs.Readings.{run-is, run_with, sizes, valuation-at}
 use Rattle.clauses.specs.Literals.{variable_of}

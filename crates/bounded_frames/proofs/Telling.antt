@@ -11,11 +11,11 @@ use Rattle.alternating_theory.specs.Positive.{met}
 use Rattle.alternating_theory.proofs.Reached.{met-owed, owed-within}
 use Rattle.bounded_theory.specs.Found.{IsFound}
 use Rattle.bounded_theory.specs.Numbers.{AreSmall, IsSearched, is_kept, place_after, serves}
-use Rattle.bounded_theory.specs.Searches.{number_width}
-use Rattle.bounded_theory.proofs.Closes.{atoms-of}
-use Rattle.bounded_theory.proofs.Digits.{width-holds}
-use Rattle.bounded_theory.proofs.Makes.{bits-list, loop-again, walk-size}
+use Rattle.bounded_theory.specs.Digits.{number_width}
+use Rattle.bounded_theory.proofs.Atoms.{atoms-of}
+use Rattle.bounded_theory.proofs.Digits.{bits-list, width-holds}
 use Rattle.bounded_theory.proofs.Ranks.{after-last, after-other}
+use Rattle.bounded_theory.proofs.Readings.{loop-again, walk-size}
 use Rattle.clauses.specs.Models.{Assignment, IsModel, is_true}
 use Rattle.gates_covers.specs.Greedy.{covers_of}
 use Rattle.gates_frames.specs.Frames.{Cone, literal_at}

@@ -6,7 +6,7 @@
 use Rattle.std.specs.Prelude.{ℕ, suc, ◌+◌, ◌*◌, ℤ, pos, cond, List, ◌++◌, map, take, length, sum_by}
 use Rattle.std.specs.List.{flat_map, range_with_len}
 use Rattle.alternating_theory.specs.Obligations.{Automaton, Obligation, obligation_at}
-use Rattle.bounded_theory.specs.Searches.{number_width}
+use Rattle.bounded_theory.specs.Digits.{number_width}
 use Rattle.gates_nodes.specs.declared.node.Node.{Node}
 use Rattle.gates_nodes.specs.declared.node.Node.TheVariants.{Free}
 use Rattle.gates_theory.specs.Distinct.{following}

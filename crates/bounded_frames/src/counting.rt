@@ -2,7 +2,7 @@
 ghost use Rattle.std.specs.Prelude.{◌≡◌, ◌≤◌, ◌<◌, ◌^◌, map, take, length, IfOk};
 ghost use Rattle.std.specs.List.{range_with_len};
 ghost use Rattle.alternating_theory.specs.Obligations.{obligation_at};
-ghost use Rattle.bounded_theory.specs.Searches as spec;
+ghost use Rattle.bounded_theory.specs.Digits as spec;
 ghost use Rattle.bounded_frames.specs.Places.{bits_of, digits_of as some_digits};
 ghost use Rattle.clauses.specs.declared.flat.TheConstants.{MOST_VARIABLES};
 

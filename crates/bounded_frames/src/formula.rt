@@ -1,5 +1,5 @@
 // The formula of a search.
-ghost use Rattle.std.specs.Prelude.{◌≡◌, ◌↔◌, ◌++◌, ◌<◌, suc, filter, length, All, IfErr, IfOk, OnOk};
+ghost use Rattle.std.specs.Prelude.{◌≡◌, ◌↔◌, ◌*◌, ◌++◌, ◌<◌, ◌≤◌, suc, filter, length, All, IfErr, IfOk, OnOk};
 ghost use Rattle.clauses.specs.declared.flat.CnfFault.{CnfFault};
 ghost use Rattle.clauses.specs.declared.flat.TheConstants.{MOST_VARIABLES, MOST_WORDS};
 ghost use Rattle.clauses.specs.Literals.{clause_words};
@@ -8,8 +8,10 @@ ghost use Rattle.gates_nodes.specs.Nodes.{variables_of};
 ghost use Rattle.gates_theory.specs.Sizes.{IsTooLarge};
 ghost use Rattle.netlist.specs.Design.{free_of};
 ghost use Rattle.netlist.specs.Valuations.{bit};
+ghost use Rattle.psl_tree.specs.declared.counts.TheConstants.{MOST_OBLIGATIONS};
 ghost use Rattle.run_terms.specs.Automata.{TestsSignals};
 ghost use Rattle.run_terms.specs.Formulas.{HasModel};
+ghost use Rattle.run_terms.specs.Sizes.{formula_bulk as search_bulk};
 ghost use Rattle.bounded_theory.specs.Found.{SomeFound};
 ghost use Rattle.bounded_frames.specs.Adding.{fronts_in};
 ghost use Rattle.bounded_frames.specs.Framing.{IsPlaced};
@@ -152,6 +154,10 @@ pub fn search_formula(
     ensures models { IfOk result (λ cnf. HasModel cnf.variables cnf.clauses ↔ SomeFound netlist.now violation.now n) }
     ensures fits { IfOk result (λ cnf. IsTooLarge (search_variables netlist.now violation.now n)
         (search_clauses netlist.now violation.now n) → ⊥) }
+    ensures words { IfOk result (λ cnf. length violation.now.obligations ≤ MOST_OBLIGATIONS
+        → clause_words cnf.clauses ≤ 1000 * suc n * suc n * search_bulk netlist.now violation.now) }
+    ensures few { IfOk result (λ cnf. length violation.now.obligations ≤ MOST_OBLIGATIONS
+        → cnf.variables ≤ 1000 * suc n * suc n * search_bulk netlist.now violation.now) }
     ensures large { IfErr result (λ fault. fault ≡ CnfFault.TooLarge
         → IsTooLarge (search_variables netlist.now violation.now n) (search_clauses netlist.now violation.now n)) }
 {

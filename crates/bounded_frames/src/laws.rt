@@ -1,8 +1,8 @@
 // What follows from the definitions alone.
-ghost use Rattle.std.specs.Prelude.{◌≡◌, ◌↔◌, ℕ, ℤ, Bool as Truth, true, false, [], ◌∷◌, List, IsTrue};
+ghost use Rattle.std.specs.Prelude.{◌≡◌, ◌↔◌, ◌*◌, ◌≤◌, ℕ, suc, ℤ, Bool as Truth, true, false, [], ◌∷◌, List, length, IsTrue};
 ghost use Rattle.alternating_theory.specs.Obligations.{Automaton};
 ghost use Rattle.bounded_theory.specs.Found.{IsFound, SomeFound};
-ghost use Rattle.clauses.specs.Literals.{clauses_within};
+ghost use Rattle.clauses.specs.Literals.{clause_words, clauses_within};
 ghost use Rattle.clauses.specs.Models.{Assignment, IsModel};
 ghost use Rattle.gates_frames.specs.Examples.{toggle};
 ghost use Rattle.gates_letters.specs.Extending.{Extends};
@@ -10,8 +10,10 @@ ghost use Rattle.netlist.specs.Design.{Design};
 ghost use Rattle.netlist.specs.Sound as netlists;
 ghost use Rattle.netlist.specs.Sound.{IsOrder};
 ghost use Rattle.netlist.specs.Valuations.{IsFilled};
+ghost use Rattle.psl_tree.specs.declared.counts.TheConstants.{MOST_OBLIGATIONS};
 ghost use Rattle.run_terms.specs.Automata.{IsSound, TestsSignals};
 ghost use Rattle.run_terms.specs.Formulas.{HasModel};
+ghost use Rattle.run_terms.specs.Sizes.{formula_bulk as search_bulk};
 ghost use Rattle.bounded_frames.specs.Examples.{some_rise};
 ghost use Rattle.bounded_frames.specs.Found.{filled, run_of};
 ghost use Rattle.bounded_frames.specs.Obligations.{with_obligation, with_place, Asked};
@@ -35,6 +37,17 @@ pub fn search_law()
         (search_clauses design automaton valuations)) }
 {}
 
+/// A law: of words and of variables there are at most 1,000 times the square of the places of the word times what the
+/// netlist and the automaton have together.
+pub fn search_size_law()
+    ensures words { (design : Design) (automaton : Automaton) (valuations : ℕ) → netlists.IsSound design
+        → length automaton.obligations ≤ MOST_OBLIGATIONS → clause_words (search_clauses design automaton valuations)
+        ≤ 1000 * suc valuations * suc valuations * search_bulk design automaton }
+    ensures variables { (design : Design) (automaton : Automaton) (valuations : ℕ) → netlists.IsSound design
+        → length automaton.obligations ≤ MOST_OBLIGATIONS → search_variables design automaton valuations
+        ≤ 1000 * suc valuations * suc valuations * search_bulk design automaton }
+{}
+
 /// A law: the valuations of the run that is read are those with the values that are read, since there is only one for
 /// each choice of values of the signals that no table drives.
 pub fn filled_law()
@@ -53,10 +66,11 @@ pub fn growing_law()
 {}
 
 /// A law of a worked example: in each frame of the latch all literals are constant, so the search for two valuations
-/// has a true variable, eight bits of places, two of the loop, and ten conjunctions. The run goes to and fro for
-/// ever.
+/// has a true variable, eight bits of places, two of the loop, and ten conjunctions. Six of these are asked for, of ten
+/// words each. The run goes to and fro for ever.
 pub fn example_law()
     ensures variables { search_variables toggle some_rise 2 ≡ 21 }
+    ensures words { clause_words (search_clauses toggle some_rise 2) ≡ 124 }
     ensures run { run_of toggle some_rise 2 (λ variable. true)
         ≡ record { stem = []; loop_part = (false ∷ true ∷ []) ∷ (true ∷ false ∷ []) ∷ [] } }
 {}

@@ -22,5 +22,5 @@ mod serving;
 mod tested;
 
 pub use formula::search_formula;
-pub use laws::{example_law, filled_law, growing_law, search_law};
+pub use laws::{example_law, filled_law, growing_law, search_law, search_size_law};
 pub use runs::read_run;

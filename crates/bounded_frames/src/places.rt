@@ -2,7 +2,7 @@
 ghost use Rattle.std.specs.Prelude.{◌≡◌, ◌+◌, ◌*◌, ◌<◌, ◌≤◌, suc, false, length, map, IsTrue};
 ghost use Rattle.std.specs.List.{range_with_len};
 ghost use Rattle.alternating_theory.specs.Obligations.{obligation_at};
-ghost use Rattle.bounded_theory.specs.Searches.{number_width};
+ghost use Rattle.bounded_theory.specs.Digits.{number_width};
 ghost use Rattle.clauses.specs.declared.flat.TheConstants.{MOST_VARIABLES};
 ghost use Rattle.clauses.specs.Literals.{is_literal};
 ghost use Rattle.bounded_frames.specs.Places as spec;

@@ -1,9 +1,11 @@
 -- Binary digits.
-use Rattle.std.proofs.Common.{◌≡◌, ℕ, zero, suc, ◌*◌, ◌/◌, ◌^◌, ◌<◌, ◌≤◌, inl, inr, Bool, true, false, refl, sym, ap, ◌∙◌, arith, pow-suc}
+use Rattle.std.proofs.Common.{◌≡◌, ℕ, zero, suc, ◌+◌, ◌*◌, ◌/◌, ◌^◌, ◌<◌, ◌≤◌, inl, inr, Bool, true, false, List, [], ◌∷◌, map, length, get_or, refl, sym, ap, ◌∙◌, arith, pow-suc}
 use Rattle.std.specs.Prelude.{◌==◌, if◌then◌else◌}
 use Rattle.std.proofs.lemmas.Bool.{cases_lt, eq-eqb, ne_eqb, false≢true}
+use Rattle.clauses.specs.Models.{Assignment, is_true}
+use Rattle.gates_theory.specs.Distinct.{following}
 use Rattle.alternating_theory.proofs.Reached.{same-number}
-use Rattle.bounded_theory.specs.Searches.{digits_within, number_width}
+use Rattle.bounded_theory.specs.Digits.{digits_within, number_width}
 
 -- a number is below the power of two of as many digits as it has
 half_below : (most x : ℕ) → x ≤ suc most → 0 < x → x / 2 ≤ most
@@ -57,9 +59,6 @@ digits-same (suc few) (suc more) x low high = by (x == 0) refl (λ some. digits-
     by true e rest = refl
     by false e rest = ap suc (rest (some_of e))
 
-pub width-zero : number_width 0 ≡ 0
-width-zero = refl
-
 pub width-next : (x : ℕ) → 0 < x → number_width x ≡ suc (number_width (x / 2))
 width-next zero some = absurd (omega arith)
 width-next (suc x) some =
@@ -67,3 +66,14 @@ width-next (suc x) some =
 
 pub width-most : (x : ℕ) → x < 2 ^ 32 → number_width x ≤ 32
 width-most x low = digits-few 32 x x low
+
+-- the values of bits that are those of a list
+pub bits-list : (v : Assignment) (count low : ℕ) (bits : List Bool) → length bits ≡ count → ((k : ℕ) → k < count → v (suc (low + k)) ≡ get_or bits k false)
+    → map (is_true v) (following low count) ≡ bits
+bits-list v zero low [] size each = refl
+bits-list v zero low (bit ∷ bits) size each = absurd (omega arith)
+bits-list v (suc count) low [] size each = absurd (omega arith)
+bits-list v (suc count) low (bit ∷ bits) size each =
+    let first : v (suc low) ≡ bit = ap (λ n. v (suc n)) (omega arith) ∙ each 0 (omega arith) in
+    let rest = bits-list v count (suc low) bits (omega arith) (λ k below. ap (λ n. v (suc n)) (omega arith) ∙ each (suc k) (omega arith)) in
+    rw (first, rest)

@@ -1,11 +1,5 @@
-pub mod Closes
-pub mod Debts
+pub mod Atoms
 pub mod Digits
-pub mod Finds
-pub mod Joins
-pub mod Makes
-pub mod Models
-pub mod Ranges
+pub mod Passing
 pub mod Ranks
 pub mod Readings
-pub mod Sizes

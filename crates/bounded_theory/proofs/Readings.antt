@@ -8,6 +8,7 @@ use Rattle.netlist.specs.Design.{Design}
 use Rattle.netlist.specs.Runs.{IsRun, valuation_at, walk_of}
 use Rattle.netlist.specs.Valuations.{IsInitial, IsStep}
 use Rattle.netlist.specs.declared.run.Run.{Run}
+use Rattle.bounded_theory.specs.Found.{run_size}
 
 -- the run of valuations in order, whose loop begins at a place
 abbrev pub run_with : (ℕ → List Bool) → ℕ → ℕ → Run
@@ -84,3 +85,22 @@ module _ (valuation : ℕ → List Bool) (first n : ℕ) (below : first < n) whe
 
   pub sizes : (length (run_with valuation first n).stem ≡ first) × (length (run_with valuation first n).loop_part ≡ n - first)
   sizes = (stem-length, loop-length)
+
+-- the first valuation of the loop comes again at the end
+pub loop-again : (run : Run) → 0 < length run.loop_part → valuation_at run (length run.stem) ≡ valuation_at run (run_size run)
+loop-again run some =
+    get_or_append_left (run.stem ++ run.loop_part) (take 1 run.loop_part) [] (length run.stem) (omega (arith, length-append run.stem run.loop_part))
+    ∙ ap (λ j. get_or (run.stem ++ run.loop_part) j []) (omega arith) ∙ get_or-append-add run.stem run.loop_part 0 []
+    ∙ sym (ap (λ j. get_or ((run.stem ++ run.loop_part) ++ take 1 run.loop_part) j []) (omega (arith, length-append run.stem run.loop_part))
+    ∙ get_or-append-add (run.stem ++ run.loop_part) (take 1 run.loop_part) 0 [] ∙ first_of run.loop_part some)
+  where
+    first_of : (xs : List (List Bool)) → 0 < length xs → get_or (take 1 xs) 0 [] ≡ get_or xs 0 []
+    first_of [] some = absurd (omega arith)
+    first_of (x ∷ xs) some = refl
+
+pub walk-size : (run : Run) → 0 < length run.loop_part → length (walk_of run) ≡ suc (run_size run)
+walk-size run some = omega (arith, length-append (run.stem ++ run.loop_part) (take 1 run.loop_part), length-append run.stem run.loop_part, one run.loop_part some)
+  where
+    one : (xs : List (List Bool)) → 0 < length xs → length (take 1 xs) ≡ 1
+    one [] some = absurd (omega arith)
+    one (x ∷ xs) some = refl

@@ -1,3 +1,3 @@
+pub mod Digits
 pub mod Found
 pub mod Numbers
-pub mod Searches

@@ -1,7 +1,7 @@
-//! The search for a run of a netlist whose word an automaton accepts, as clauses. It holds definitions and lemmas; its
-//! functions state laws.
+//! What a search for a run of a netlist whose word an automaton accepts looks for, and numbers along the places of a
+//! word that say that it is accepted. It holds definitions and lemmas; its one function states a law.
 #![tactic(auto)]
 
 mod laws;
 
-pub use laws::{numbers_law, search_law, search_size_law};
+pub use laws::numbers_law;

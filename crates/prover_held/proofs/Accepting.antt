@@ -15,7 +15,7 @@ use Rattle.psl_tree.specs.declared.letter.Letter.{Letter}
 use Rattle.run_terms.specs.Automata.{IsSound, TestsSignals}
 use Rattle.run_terms.specs.Letters.{before_at}
 use Rattle.bounded_theory.specs.Numbers.{serves, IsSearched}
-use Rattle.bounded_theory.proofs.Closes.{atoms-of}
+use Rattle.bounded_theory.proofs.Atoms.{atoms-of}
 use Rattle.bounded_theory.proofs.Ranks.{numbers-accepted}
 use Rattle.gates_frames.specs.Paths.{valuation_of}
 use Rattle.prover_held.specs.Held.{IsHeldRun}

@@ -1,13 +1,13 @@
 // Searches for a run.
 ghost use Rattle.std.specs.Prelude.{◌≡◌};
 ghost use Rattle.run_terms.specs.Automata.{TestsSignals};
-ghost use Rattle.bounded_theory.specs.Searches.{search_clauses, search_variables};
+ghost use Rattle.bounded_frames.specs.Searches.{search_clauses, search_variables};
 
 use crate::models::model;
 use crate::netlists::{KEPT, TOGGLE, netlist};
 use crate::violations::{Test, Violation, automaton};
 use alternating::Alternating;
-use bounded::{read_run, search_formula};
+use bounded_frames::{read_run, search_formula};
 use clauses::Cnf;
 use netlist::{Netlist, Run, Valuations};
 use psl_base::{NoMemory, add_bytes};
@@ -26,110 +26,112 @@ struct Row<'a> {
     run: &'a str,
 }
 
-// The working. With s signals, m obligations and numbers of w digits, up to m, there are D = m + m * w bits beside
-// the valuations, and W = 1 + 2 * s + D bits in all. The terms take T gates, and H of them are held. A position has g
-// = 2 * W + 2 + T gates, and of n valuations there are (n + 1) * g variables.
+// The working. A place has b bits: of each obligation one, and w more for the digits of its number if it is not
+// accepting. With n valuations there are n + 2 places, and 1 + F + (n + 2) * b + n + A variables: the true one, F
+// free nodes of frames, the bits of places, one for each place where the loop may begin, and A conjunctions.
 //
-// T: a table 3, as its one row asks one literal; each signal 3 for the valuation before the next position, and each
-// latch 3; an obligation 1 and what its delta takes: 1 for each And, Or and constant, 2 for a fall, and 1 + 4 * w for
-// what is owed next, but 0 if one of both is accepting. H: one for each of these, and one that there is a valuation
-// before.
+// Words: 2 of the true variable, 10 for each conjunction that is asked for, 2 for the start and n + 1 that the loop
+// begins somewhere, 8 * n for each latch and 8 * n * b of what closes the loop, and 3 for each of m obligations at
+// each of the first n + 1 places. They stand in this order, what closes the loop as one number.
 //
-// Words: (n + 1) * 10 * T of gates, n * (2 * H + 6 * W) of steps and 2 * H at the last position; 2 for each of the
-// first literals, which are that nothing is before, the latches' first values and the start; n * (2 + 8 * (s + D))
-// where the loop begins; and n + 3 that it begins somewhere and ends. They stand in this order.
+// TOGGLE has a latch, and all its literals are constant: q is 0, 1, 0, and so on. KEPT has a latch too, which is one
+// free node for all frames; it never falls, since it is one literal. The delta of `eventually! b` is: b, or true and
+// the same owed next. Of `always b`: b, and false or the same owed next. Beside these obligations there is the start,
+// a copy of the outer one that nothing owes. So m is 2 with one operator, and 3 with two; w is 2.
 //
-// TOGGLE has s = 2, a table and a latch: 3 + 6 + 3 gates of 5 terms. KEPT has s = 1 and a free latch: 3 + 3 of 3
-// terms. The delta of `eventually! b` is: b, or true and the same owed next. Of `always b`: b, and false or the same
-// owed next. Beside these obligations there is the start, a copy of the outer one that nothing owes. So m is 2 with
-// one operator, and 3 with two; w is 2.
+// What is owed next is one literal if one of both obligations is accepting. Else their numbers are compared. That
+// takes 7 conjunctions, of which 6 are asked for: nothing is exceeded before the lowest digit, so one conjunction of
+// this digit is left, of two that are made. At the last place numbers have to fall, which takes 8, all asked for.
+// They are made, but not asked for, where `eventually! b` has a true b. A constant in a conjunction or disjunction
+// takes none.
 const ROWS: [Row<'static>; 9] = [
-    // No run has one valuation. D 6, W 11; each obligation takes 1 + 1 + 2 + 1 + 1 + 9 = 15, so T 12 + 30, H 7, g 66.
-    // Words: 840 + 80 + 14, 6, 66, 4.
+    // No run has one valuation. b 6, A 2 * (7 + 8). Words: 2 + 280 + 4 + 56 + 12.
     Row {
         netlist: TOGGLE,
         violation: Violation::Eventually(Test::Falls(0)),
         size: 1,
-        variables: 132,
-        words: 1010,
+        variables: 50,
+        words: 354,
         run: "none",
     },
-    // An edge at the loop's start: q falls just where the loop begins again. Words: 1260 + 160 + 14, 6, 132, 5.
+    // An edge at the loop's start: q falls just where the loop begins again, at the last place. A 2 * (7 + 7 + 8).
+    // Words: 2 + 240 + 5 + 112 + 18.
     Row {
         netlist: TOGGLE,
         violation: Violation::Eventually(Test::Falls(0)),
         size: 2,
-        variables: 198,
-        words: 1577,
+        variables: 71,
+        words: 377,
         run: "| 01 10",
     },
-    // A loop of one valuation has no edge. W 9, T 6 + 30, H 5, g 56. Words: 720 + 64 + 10, 4, 58, 4.
+    // A loop of one valuation has no edge. F 1, A 2 * (7 + 8). Words: 2 + 280 + 4 + 56 + 12.
     Row {
         netlist: KEPT,
         violation: Violation::Eventually(Test::Falls(0)),
         size: 1,
-        variables: 112,
-        words: 860,
+        variables: 51,
+        words: 354,
         run: "none",
     },
-    // A loop of one valuation: each obligation takes 1 + 1 + 0 + 1 + 1 + 0 = 4, so T 6 + 8, H 5, g 34. Words: 280 +
-    // 64 + 10, 4, 58, 4.
+    // A loop of one valuation: both obligations are accepting, b 2, and ask the same conjunction, one for each of the
+    // two places. Words: 2 + 20 + 4 + 24 + 12.
     Row {
         netlist: KEPT,
         violation: Violation::Always(Test::High(0)),
         size: 1,
-        variables: 68,
-        words: 420,
+        variables: 11,
+        words: 62,
         run: "| 1",
     },
-    // What is owed is met at the loop's first place. Each obligation takes 13, so T 12 + 26, H 7, g 62. Words: 1520 +
-    // 240 + 14, 6, 198, 6.
+    // What is owed is met at the loop's first place. b 6, A 2 * (7 + 7 + 7 + 8); q is 1 at the places 1 and 3. Words:
+    // 2 + 240 + 6 + 168 + 24.
     Row {
         netlist: TOGGLE,
         violation: Violation::Eventually(Test::High(0)),
         size: 3,
-        variables: 248,
-        words: 1984,
+        variables: 92,
+        words: 440,
         run: " 01| 10 01",
     },
-    // What is owed is never met, and no number falls for ever. Each obligation takes 14, so T 12 + 28, H 7, g 64.
-    // Words: 1200 + 160 + 14, 6, 132, 5.
+    // What is owed is never met, and no number falls for ever. A 2 * (7 + 7 + 8). Words: 2 + 400 + 5 + 112 + 18.
     Row {
         netlist: TOGGLE,
         violation: Violation::Eventually(Test::Both(0, 1)),
         size: 2,
-        variables: 192,
-        words: 1517,
+        variables: 71,
+        words: 537,
         run: "none",
     },
     // What is owed at the last place is met only at the next one, where the loop has begun again, so its number
-    // falls. D 9, W 14; the inner obligation takes 13, the outer one and its copy 1 + 1 + 3 + 1 + 1 = 7, as they are
-    // accepting; T 12 + 27, H 8, g 69. Words: 1170 + 200 + 16, 6, 180, 5.
+    // falls. The outer obligation and its copy are accepting, so b 5. The inner one takes 7 + 7 + 8, asked for at the
+    // places 0 and 2; the others ask one conjunction together where q is 0, at the same places. Words: 2 + 160 + 5 +
+    // 96 + 27.
     Row {
         netlist: TOGGLE,
         violation: Violation::AlwaysEventually(Test::High(0)),
         size: 2,
-        variables: 207,
-        words: 1577,
+        variables: 47,
+        words: 290,
         run: "| 01 10",
     },
-    // What is owed at each place is never met: T 12 + 14 + 8 + 8, g 72. Words: 1260 + 200 + 16, 6, 180, 5.
+    // What is owed at each place is never met: A 7 + 7 + 8 and 3. Words: 2 + 230 + 5 + 96 + 27.
     Row {
         netlist: TOGGLE,
         violation: Violation::AlwaysEventually(Test::Both(0, 1)),
         size: 2,
-        variables: 216,
-        words: 1667,
+        variables: 48,
+        words: 360,
         run: "none",
     },
-    // At last q would have to stay 1. The inner obligation takes 1 + 3 = 4, as it is accepting, the outer one and its
-    // copy 1 + 1 + 3 + 1 + 1 + 9 = 16; T 12 + 36, H 8, g 78. Words: 1440 + 200 + 16, 6, 180, 5.
+    // At last q would have to stay 1. The inner obligation alone is accepting, so b 7, and takes no conjunction. The
+    // outer one and its copy take 7 + 7 + 8 each, and one more at the place 1, where q is 1. Words: 2 + 420 + 5 + 128
+    // + 27.
     Row {
         netlist: TOGGLE,
         violation: Violation::EventuallyAlways(Test::High(0)),
         size: 2,
-        variables: 234,
-        words: 1847,
+        variables: 77,
+        words: 582,
         run: "none",
     },
 ];

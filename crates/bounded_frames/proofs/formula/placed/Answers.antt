@@ -1,7 +1,7 @@
 use Rattle.std.proofs.Common.{◌≡◌, ◌∙◌, suc, ◌+◌, ◌*◌, ◌≤◌, ◌++◌, map, take, length, sym, ap, subst, arith, length-append}
 use Rattle.std.specs.List.{range_with_len}
 use Rattle.std.proofs.lemmas.Result.{err_from_is_err_and}
-use Rattle.bounded_theory.specs.Searches.{number_width}
+use Rattle.bounded_theory.specs.Digits.{number_width}
 use Rattle.clauses.specs.declared.flat.TheConstants.{MOST_VARIABLES}
 use Rattle.gates_builder.specs.Adding.{Making}
 use Rattle.gates_nodes.specs.Nodes.{variables_of}

@@ -7,7 +7,7 @@ use Rattle.bounded_frames.specs.Places.{place_nodes}
 use Rattle.bounded_frames.specs.Searches.{asked_of}
 use Rattle.bounded_frames.proofs.Additions.{kept-by}
 use Rattle.bounded_frames.proofs.Cones.{Premises}
-use Rattle.bounded_frames.proofs.Gathered.{final-models, final-within, placed-from}
+use Rattle.bounded_frames.proofs.Gathered.{final-few, final-models, final-within, final-words, placed-from}
 use Rattle.bounded_frames.proofs.Standing.{frames-still}
 use Rattle.bounded_frames.proofs.Totals.{placed-few}
 use Rattle.bounded_frames.proofs.formula.search_formula.Goals as goal
@@ -67,3 +67,29 @@ returns-clause-models c =
     let makes = c.in_ok-clauses.ensures.builder ∙ ap (λ (m : Making). with_nodes m (asked_of d places.automaton.now places.last).nodes) made in
     final-models d a on n places.automaton.now places.last c.in_ok-places.ensures.automaton c.in_ok-places.ensures.last c.asked_clauses.new.builder c.in_ok-clauses.clauses makes c.in_ok-clauses.ensures.clauses
     c.in_ok-cnf.cnf.variables c.in_ok-cnf.cnf.clauses c.in_ok-cnf.ensures.variables c.in_ok-cnf.ensures.clauses
+
+pub returns-clause-words : goal.returns-clause-words
+returns-clause-words c =
+    let d = c.args.netlist.now in
+    let a = c.args.violation.now in
+    let n = c.args.n in
+    let on : Premises d a = record { sound = c.soundness_law.ensures.sound; good = c.automaton_law.ensures; tests = c.requires.tests; some = c.soundness_law.ensures.ordered.0; ordered = c.soundness_law.ensures.ordered.1 } in
+    let begun = c.in_ok-builder.ensures.framed.builder in
+    let made = c.in_ok-places.ensures.builder ∙ ap (λ (m : Making). with_nodes m (m.nodes ++ place_nodes a n)) begun in
+    let places = c.in_ok-places.places in
+    let makes = c.in_ok-clauses.ensures.builder ∙ ap (λ (m : Making). with_nodes m (asked_of d places.automaton.now places.last).nodes) made in
+    final-words d a on n places.automaton.now places.last c.in_ok-places.ensures.automaton c.in_ok-places.ensures.last c.asked_clauses.new.builder c.in_ok-clauses.clauses makes c.in_ok-clauses.ensures.clauses
+    c.in_ok-cnf.cnf.clauses c.in_ok-cnf.ensures.clauses
+
+pub returns-clause-few : goal.returns-clause-few
+returns-clause-few c =
+    let d = c.args.netlist.now in
+    let a = c.args.violation.now in
+    let n = c.args.n in
+    let on : Premises d a = record { sound = c.soundness_law.ensures.sound; good = c.automaton_law.ensures; tests = c.requires.tests; some = c.soundness_law.ensures.ordered.0; ordered = c.soundness_law.ensures.ordered.1 } in
+    let begun = c.in_ok-builder.ensures.framed.builder in
+    let made = c.in_ok-places.ensures.builder ∙ ap (λ (m : Making). with_nodes m (m.nodes ++ place_nodes a n)) begun in
+    let places = c.in_ok-places.places in
+    let makes = c.in_ok-clauses.ensures.builder ∙ ap (λ (m : Making). with_nodes m (asked_of d places.automaton.now places.last).nodes) made in
+    final-few d a on n places.automaton.now places.last c.in_ok-places.ensures.automaton c.in_ok-places.ensures.last c.asked_clauses.new.builder c.in_ok-clauses.clauses makes c.in_ok-clauses.ensures.clauses
+    c.in_ok-cnf.cnf.variables c.in_ok-cnf.ensures.variables

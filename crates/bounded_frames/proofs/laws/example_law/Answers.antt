@@ -6,4 +6,4 @@ use Rattle.bounded_frames.proofs.laws.example_law.Goals as goal
 
 pub returns : goal.returns
 unfolding asked_of search_frame opposite all_rows rows_asking fits_one points
-returns c = record { variables = refl; run = refl }
+returns c = record { variables = refl; words = refl; run = refl }

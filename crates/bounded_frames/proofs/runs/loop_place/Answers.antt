@@ -1,6 +1,6 @@
 use Rattle.std.proofs.Common.{◌≡◌, ◌∙◌, suc, ◌+◌, ◌*◌, false, get_or, ap, arith}
 use Rattle.bounded_theory.specs.Found.{first_passing}
-use Rattle.bounded_theory.specs.Searches.{number_width}
+use Rattle.bounded_theory.specs.Digits.{number_width}
 use Rattle.clauses.specs.Models.{is_true}
 use Rattle.run_terms.specs.Formulas.{values_of}
 use Rattle.bounded_frames.specs.Places.{begins_at, bits_of, place_bits}

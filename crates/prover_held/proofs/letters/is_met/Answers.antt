@@ -1,7 +1,7 @@
 use Rattle.std.proofs.Common.{subst, sym}
 use Rattle.alternating_theory.specs.Atoms.{AtomsOfPositive}
 use Rattle.psl_tree.specs.Names.{AtomInRange}
-use Rattle.bounded_theory.proofs.Closes.{atoms-of}
+use Rattle.bounded_theory.proofs.Atoms.{atoms-of}
 use Rattle.prover_held.proofs.letters.is_met.Goals as goal
 
 pub meets-requires-clause-atoms : goal.meets-requires-clause-atoms
