@@ -25,7 +25,7 @@ pub record AreMarked (inputs : List ℕ) (signals count : ℕ) (marks : List Boo
   pub each : (k : ℕ) → k < count → IsTrue (bit marks (get_or inputs k 0))
   pub only : (signal : ℕ) → IsTrue (bit marks signal) → (k : ℕ) × (k < count) × (get_or inputs k 0 ≡ signal)
 
-bit-none : (signals signal : ℕ) → bit (replicate signals false) signal ≡ false
+pub bit-none : (signals signal : ℕ) → bit (replicate signals false) signal ≡ false
 bit-none zero signal = refl
 bit-none (suc signals) zero = refl
 bit-none (suc signals) (suc signal) = bit-none signals signal

@@ -1,5 +1,5 @@
 -- Atoms and Booleans at the places of a path.
-use Rattle.std.proofs.Common.{subst, ◌≡◌, ℕ, zero, suc, ◌-◌, ◌<◌, Bool, true, not, ◌&&◌, List, length, refl, sym, ap, ◌∙◌, arith}
+use Rattle.std.proofs.Common.{subst, ◌≡◌, ℕ, zero, suc, ◌-◌, ◌<◌, Bool, not, ◌&&◌, List, [], length, refl, sym, ap, ◌∙◌, arith}
 use Rattle.std.specs.Prelude.{nat_lt}
 use Rattle.std.proofs.lemmas.Bool.{lt-ltb}
 use Rattle.netlist.specs.Design.{Design}
@@ -15,10 +15,9 @@ use Rattle.psl_tree.specs.declared.atom.Edge.TheVariants.{Value, Rise, Fall}
 use Rattle.run_terms.specs.Letters.{bits_after, sample_after}
 use Rattle.run_terms.proofs.Asked.{among-passed}
 use Rattle.run_terms.proofs.BooleanValues.{signal-below}
-use Rattle.gates_frames.specs.Paths.{valuation_of, IsPath}
-use Rattle.prover_held.specs.Judged.{atom_in}
+use Rattle.gates_frames.specs.Paths.{valuation_of}
+use Rattle.prover_held.specs.Judged.{atom_in, HaveSignals}
 use Rattle.prover_held.specs.Lasting.{before_in, letter_in}
-use Rattle.prover_held.proofs.Paths.{path-valid}
 
 module _ (path : List (List Bool)) where
   abbrev at : ℕ → ℕ → Bool
@@ -47,10 +46,10 @@ module _ (path : List (List Bool)) where
       ∙ ap (λ p. at p signal && not (at (suc place) signal)) (back place))
 
 -- an atom in range is of a signal that each valuation has
-pub atom-within : (d : Design) (path : List (List Bool)) (atom : Atom) → IsSound d → IsPath d true path → AtomInRange d.names atom
+pub atom-within : (d : Design) (path : List (List Bool)) (atom : Atom) → IsSound d → HaveSignals d path → AtomInRange d.names atom
     → (place : ℕ) → place < length path → atom.signal < length (valuation_of path place)
 atom-within d path atom sound is named place low =
-    subst (λ n. atom.signal < n) (sym (path-valid d path is place low).size) (signal-below d.signals d.names atom sound.names named)
+    subst (λ n. atom.signal < n) (sym (is place [] low)) (signal-below d.signals d.names atom sound.names named)
 
 pub test-in : (d : Design) (path : List (List Bool)) (place : ℕ) (atom : Atom) → AtomInRange d.names atom
     → holds (letter_in d path place) (trees.Test atom) ≡ atom_in path place atom

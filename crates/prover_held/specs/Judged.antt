@@ -1,6 +1,6 @@
 -- What the judge computes on its way: which atoms hold at a place of a path, which obligations last behind it, and what
 -- is met at its places.
-use Rattle.std.specs.Prelude.{◌≡◌, ◌↔◌, ℕ, zero, suc, ◌+◌, ◌-◌, ◌<◌, Bool as Truth, true, false, ◌&&◌, if◌then◌else◌, List, [], ◌∷◌, length, Contains, IsTrue}
+use Rattle.std.specs.Prelude.{◌≡◌, ◌↔◌, ℕ, zero, suc, ◌+◌, ◌-◌, ◌<◌, Bool as Truth, true, false, ◌&&◌, if◌then◌else◌, List, [], ◌∷◌, length, All, Contains, IsTrue}
 use Rattle.alternating_theory.specs.Obligations.{Automaton, obligation_at}
 use Rattle.alternating_theory.specs.Positive.{met, Positive}
 use Rattle.alternating_theory.specs.Positive as positives
@@ -16,6 +16,10 @@ use Rattle.psl_tree.specs.declared.atom.Edge.TheVariants.{Value, Rise, Fall}
 use Rattle.psl_tree.specs.declared.letter.Letter.{Letter}
 use Rattle.run_terms.specs.Letters.{bits_after, sample_after}
 use Rattle.prover_held.specs.Lasting.{before_in, letter_in, Last, TestsInputs}
+
+-- each valuation has a value for each signal
+abbrev pub HaveSignals : Design → List (List Truth) → Type 0
+HaveSignals design path = All (λ valuation. length valuation ≡ design.signals) path
 
 -- whether an atom holds at a place of a path
 abbrev pub atom_in : List (List Truth) → ℕ → Atom → Truth

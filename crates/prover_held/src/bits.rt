@@ -5,7 +5,11 @@ use psl_base::{Bits, NoMemory};
 use std::alloc::Global;
 
 /// So many bits that are 0.
-pub(crate) fn no_bits(alloc: Global, count: u32) -> Result<Bits, NoMemory>
+///
+/// # Errors
+///
+/// `NoMemory` if memory is refused.
+pub fn no_bits(alloc: Global, count: u32) -> Result<Bits, NoMemory>
     ensures { IfOk result (λ bits. bits ≡ replicate count false) }
 {
     let mut bits = Bits::new(alloc);

@@ -15,7 +15,7 @@ use psl_base::{Bits, NoMemory};
 use std::alloc::Global;
 
 /// A law of automata: the start is one of the obligations, and so is all that the obligations owe.
-pub(crate) fn automaton_law(automaton: &Alternating)
+pub fn automaton_law(automaton: &Alternating)
     ensures { IsSound automaton.now }
 {
     let _start = automaton.start();

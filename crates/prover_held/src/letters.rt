@@ -1,17 +1,17 @@
 // What a combination asks of the letter at a place of a path.
-ghost use Rattle.std.specs.Prelude.{◌≡◌, ◌<◌, ◌≤◌, ℕ, true, length};
+ghost use Rattle.std.specs.Prelude.{◌≡◌, ◌<◌, ◌≤◌, ℕ, length};
 ghost use Rattle.alternating.specs.Views.{positive_of};
 ghost use Rattle.alternating_theory.specs.Atoms.{AtomsOfPositive};
 ghost use Rattle.alternating_theory.specs.Obligations.{obligation_at};
 ghost use Rattle.alternating_theory.specs.Positive.{met, OwesWithin};
-ghost use Rattle.gates_frames.specs.Paths.{valuation_of, IsPath};
+ghost use Rattle.gates_frames.specs.Paths.{valuation_of};
 ghost use Rattle.netlist.specs.Valuations.{bit};
 ghost use Rattle.psl_tree.specs.Atoms.{AtomsOfBoolean};
 ghost use Rattle.psl_tree.specs.Holds.{holds};
 ghost use Rattle.psl_tree.specs.Names.{AtomInRange};
 ghost use Rattle.psl_tree.specs.Trees.{boolean_of};
 ghost use Rattle.run_terms.specs.Automata.{TestsSignals};
-ghost use Rattle.prover_held.specs.Judged.{atom_in};
+ghost use Rattle.prover_held.specs.Judged.{atom_in, HaveSignals};
 ghost use Rattle.prover_held.specs.Lasting.{letter_in};
 
 use alternating::{Alternating, Positive};
@@ -46,9 +46,9 @@ fn is_held(path: &Valuations, place: usize, atom: Atom) -> bool
     }
 }
 
-// Whether a Boolean holds on the letter at a place.
-fn holds(netlist: &Netlist, path: &Valuations, place: usize, test: &Bool) -> bool
-    requires path { IsPath netlist.now true path.now }
+/// Whether a Boolean holds on the letter at a place of a path. Places are counted from 0.
+pub fn holds(netlist: &Netlist, path: &Valuations, place: usize, test: &Bool) -> bool
+    requires path { HaveSignals netlist.now path.now }
     requires place { place < length path.now }
     requires atoms { AtomsOfBoolean (AtomInRange netlist.now.names) (boolean_of test.now) }
     ensures { result ≡ holds (letter_in netlist.now path.now place) (boolean_of test.now) }
@@ -77,7 +77,7 @@ fn meets(
     positive: &Positive,
     next: &[bool],
 ) -> bool
-    requires path { IsPath netlist.now true path.now }
+    requires path { HaveSignals netlist.now path.now }
     requires place { place < length path.now }
     requires atoms { AtomsOfPositive (AtomInRange netlist.now.names) (positive_of positive.now) }
     requires owed { OwesWithin 0 (length next.now) (positive_of positive.now) }
@@ -98,7 +98,7 @@ fn meets(
 
 /// Whether the letter at a place of a path meets the delta of an obligation with these values of the obligations at
 /// the next place. Places and obligations are counted from 0.
-pub(crate) fn is_met(
+pub fn is_met(
     netlist: &Netlist,
     automaton: &Alternating,
     path: &Valuations,
@@ -107,7 +107,7 @@ pub(crate) fn is_met(
     next: &[bool],
 ) -> bool
     requires tests { TestsSignals netlist.now automaton.now }
-    requires path { IsPath netlist.now true path.now }
+    requires path { HaveSignals netlist.now path.now }
     requires place { place < length path.now }
     requires number { number < length automaton.now.obligations }
     requires long { length next.now ≡ length automaton.now.obligations }

@@ -11,6 +11,9 @@ mod laws;
 mod letters;
 mod walking;
 
+pub use bits::no_bits;
 pub use judge::is_met_when_held;
+pub use lasting::automaton_law;
 pub use laws::held_law;
-pub use walking::{Choices, walk};
+pub use letters::{holds, is_met};
+pub use walking::{Choices, filled, follow, walk};

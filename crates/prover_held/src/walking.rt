@@ -1,5 +1,5 @@
 // The path that choices of values give.
-ghost use Rattle.std.specs.Prelude.{◌≡◌, ◌-◌, ◌<◌, ◌++◌, ℕ, true, false, length, map, slice_index_or, All, IfOk};
+ghost use Rattle.std.specs.Prelude.{◌≡◌, ◌<◌, ◌++◌, ℕ, true, false, [], length, map, slice_index_or, All, IfOk};
 ghost use Rattle.gates_frames.specs.Paths.{valuation_of, IsPath};
 ghost use Rattle.netlist.specs.Design.{free_of};
 ghost use Rattle.netlist.specs.Valuations.{bit, values, IsFilled, IsInitial, IsStep, IsValuation};
@@ -36,6 +36,29 @@ pub fn walk(alloc: Global, netlist: &Netlist, choices: &Choices) -> Result<Valua
 {
     let inputs = &choices.inputs;
     let first = first_valuation(alloc, netlist, choices.latches.as_slice(), inputs.at(0))?;
+    follow(alloc, netlist, first, inputs)
+}
+
+/// The path that goes on from a valuation, which has the first ones of some inputs, with the others.
+///
+/// # Errors
+///
+/// `NoMemory` if memory is refused.
+pub fn follow(
+    alloc: Global,
+    netlist: &Netlist,
+    first: Bits,
+    inputs: &Items<Bits>,
+) -> Result<Valuations, NoMemory>
+    requires some { 0 < length inputs.now }
+    requires inputs { All (λ values. length values ≡ length netlist.now.inputs) inputs.now }
+    requires valuation { IsValuation netlist.now first }
+    requires begins { values first netlist.now.inputs ≡ slice_index_or inputs.now 0 [] }
+    ensures path { IfOk result (IsPath netlist.now false) }
+    ensures size { IfOk result (λ path. length path ≡ length inputs.now) }
+    ensures inputs { IfOk result (λ path. HasInputs netlist.now path inputs.now) }
+    ensures first { IfOk result (λ path. valuation_of path 0 ≡ first) }
+{
     let mut path = Valuations::new(alloc);
     path.push(first)?;
     for place in 1..inputs.len() {
@@ -117,8 +140,12 @@ fn moved_values(alloc: Global, latches: &[Latch], earlier: &[bool]) -> Result<Bi
     Ok(values)
 }
 
-// The valuation with these values of the inputs and of the latches.
-fn filled(
+/// The valuation with these values of the inputs and of the latches, each in the netlist's order.
+///
+/// # Errors
+///
+/// `NoMemory` if memory is refused.
+pub fn filled(
     alloc: Global,
     netlist: &Netlist,
     inputs: &Bits,

@@ -1,31 +1,23 @@
-use Rattle.std.proofs.Common.{◌<◌, length, arith}
-use Rattle.std.proofs.lemmas.Option.{get_or_from_slice_get}
-use Rattle.prover_held.proofs.Paths.{earlier-valid, path-firsts, path-inputs, path-next}
+use Rattle.std.proofs.Common.{◌≡◌, sym, subst, false, true, Bool, List, Result, Ok, Err}
+use Rattle.std.specs.Prelude.{IfOk}
+use Rattle.std.proofs.lemmas.Result.{IfOk-weaker}
+use Rattle.gates_frames.specs.Paths.{valuation_of, IsPath}
+use Rattle.psl_base.specs.declared.items.NoMemory.{NoMemory}
+use Rattle.prover_held.specs.Choices.{HasFirsts}
+use Rattle.prover_held.proofs.Paths.{path-initial}
 use Rattle.prover_held.proofs.walking.walk.Goals as goal
 
-pub next_valuation-requires-clause-earlier : goal.next_valuation-requires-clause-earlier
-next_valuation-requires-clause-earlier c =
-    earlier-valid c.args.netlist.now c.loop-place.path c.loop-place.place c.at-in-loop-place.result.now c.loop-place.invariant.path c.loop-place.invariant.size c.at-in-loop-place.ensures
+pub returns-clause-path : goal.returns-clause-path
+returns-clause-path c = by c.follow.result c.follow.ensures.path c.follow.ensures.first
+  where
+    by : (r : Result (List (List Bool)) NoMemory) → IfOk r (IsPath c.args.netlist.now false) → IfOk r (λ path. valuation_of path 0 ≡ c.in_ok-first.first)
+        → IfOk r (IsPath c.args.netlist.now true)
+    by (Ok path) is same = path-initial c.args.netlist.now c.in_ok-first.first path is same c.in_ok-first.ensures.initial
+    by (Err _) is same = tt
 
-pub next_valuation-requires-clause-inputs : goal.next_valuation-requires-clause-inputs
-next_valuation-requires-clause-inputs c =
-    let within : c.loop-place.place < length c.args.choices.now.inputs = omega (arith, c.loop-place-test.true, c.len-place-end.ensures) in
-    rw (get_or_from_slice_get c.args.choices.now.inputs c.loop-place.place c.at-in-loop-place-2.result.now c.at-in-loop-place-2.result.now c.at-in-loop-place-2.ensures) at
-    (c.requires.inputs c.loop-place.place c.at-in-loop-place-2.result.now within)
-
-pub loop-place-preserved : goal.loop-place-preserved
-loop-place-preserved c =
-    let d = c.args.netlist.now in
-    let kept = c.loop-place.invariant in
-    let longer = c.push-in-loop-place.new.self in
-    let more = path-next d c.loop-place.path c.loop-place.place c.at-in-loop-place.result.now kept.path kept.size
-    c.at-in-loop-place.ensures c.in_ok-next.next c.in_ok-next.ensures.step longer c.in_ok-push-2.ensures.ok in
-    record {
-      path = more.0;
-      size = more.1;
-      inputs = path-inputs d c.loop-place.path c.loop-place.place c.at-in-loop-place.result.now kept.path kept.size c.at-in-loop-place.ensures
-          c.args.choices.now.inputs c.in_ok-next.next c.at-in-loop-place-2.result.now longer c.in_ok-push-2.ensures.ok kept.inputs c.in_ok-next.ensures.inputs
-          c.at-in-loop-place-2.ensures;
-      latches = path-firsts d c.loop-place.path c.loop-place.place c.at-in-loop-place.result.now kept.path kept.size c.at-in-loop-place.ensures
-          d.latches c.args.choices.now.latches c.in_ok-next.next longer c.in_ok-push-2.ensures.ok kept.latches;
-    }
+pub returns-clause-latches : goal.returns-clause-latches
+returns-clause-latches c =
+    IfOk-weaker c.follow.result (λ path. valuation_of path 0 ≡ c.in_ok-first.first) (λ path. HasFirsts c.args.netlist.now.latches (valuation_of path 0) c.args.choices.now.latches)
+    (λ path same. subst (λ (v : List Bool). HasFirsts c.args.netlist.now.latches v c.args.choices.now.latches) (sym same)
+    (subst (λ (chosen : List Bool). HasFirsts c.args.netlist.now.latches c.in_ok-first.first chosen) c.as_slice.ensures c.in_ok-first.ensures.latches))
+    c.follow.ensures.first

@@ -1,0 +1,5 @@
+use Rattle.prover_held.proofs.Paths.{path-signals}
+use Rattle.prover_held.proofs.lasting.is_unmet.Goals as goal
+
+pub is_met-requires-clause-path : goal.is_met-requires-clause-path
+is_met-requires-clause-path c = path-signals c.args.netlist.now c.args.path.now c.requires.path
