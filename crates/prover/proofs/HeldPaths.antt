@@ -13,9 +13,11 @@ use Rattle.psl_tree.specs.declared.directive.Directive.{Directive}
 use Rattle.prover.specs.Findings.{IsHeldPath}
 use Rattle.prover.specs.Glances.{IsUntold, end_of, finding_of}
 use Rattle.prover.specs.Queries.{IsSought, IsTried}
-use Rattle.prover.specs.Stops.{IsFindingFor, IsSearchEndFor, IsSoughtFor, IsTriedFor}
+use Rattle.prover.specs.Stops.{ComesUpFor, IsFindingFor, IsSearchEndFor, IsTriedFor}
 use Rattle.prover.specs.Violating.{NoneBelow}
 use Rattle.prover.specs.declared.finding.Finding.{Finding}
+use Rattle.prover.specs.declared.finding.Query.{Query}
+use Rattle.prover.specs.declared.finding.Query.TheVariants.{Search}
 use Rattle.prover.specs.declared.finding.SearchEnd.{SearchEnd}
 use Rattle.prover.specs.declared.glance.Untold.{Untold}
 use Rattle.prover.specs.declared.glance.Untold.TheVariants as untolds
@@ -51,23 +53,24 @@ pub tried : (design : Design) (unit : List Directive) (d : Directive) (options :
     → 1 ≤ size → size ≤ options.depth → NoneBelow design unit d size → IsTried design unit d options size
 tried design unit d options size some within none = record { some = some; within = within; none_below = none }
 
--- where nothing is told of a size, that is what is found, or how a search ends
-untold-at : (task : Task) (size : ℕ) (untold : Untold) → IsSoughtFor task size → IsUntold task size task.options.steps untold
-    → IsFindingFor task (finding_of size untold)
-untold-at task size (untolds.Steps log) sought told = (sought, told.0, told.1, told.2)
-untold-at task size (untolds.LogFull log) sought told = (sought, told.0, told.1, told.2)
-untold-at task size untolds.Large sought told = (sought, told)
+-- where nothing is told of a query that comes up, that is what is found
+untold-at : (task : Task) (query : Query) (untold : Untold) → ComesUpFor task query → IsUntold task query task.options.steps untold
+    → IsFindingFor task (finding_of query untold)
+untold-at task query (untolds.Steps log) comes told = (comes, told.0, told.1, told.2)
+untold-at task query (untolds.LogFull log) comes told = (comes, told.0, told.1, told.2)
+untold-at task query untolds.Large comes told = (comes, told)
 
-pub untold-finding : (task : Task) (size : ℕ) (untold : Untold) (finding : Finding) → finding ≡ finding_of size untold
-    → IsSoughtFor task size → IsUntold task size task.options.steps untold → IsFindingFor task finding
-untold-finding task size untold finding same sought told = subst (IsFindingFor task) (sym same) (untold-at task size untold sought told)
+pub untold-finding : (task : Task) (query : Query) (untold : Untold) (finding : Finding) → finding ≡ finding_of query untold
+    → ComesUpFor task query → IsUntold task query task.options.steps untold → IsFindingFor task finding
+untold-finding task query untold finding same comes told = subst (IsFindingFor task) (sym same) (untold-at task query untold comes told)
 
-end-at : (task : Task) (size : ℕ) (untold : Untold) → IsTriedFor task size → IsUntold task size task.options.steps untold
+-- and where nothing is told of a size, how a search ends
+end-at : (task : Task) (size : ℕ) (untold : Untold) → IsTriedFor task size → IsUntold task (Search size) task.options.steps untold
     → IsSearchEndFor task (end_of size untold)
 end-at task size (untolds.Steps log) tries told = (tries, told.0, told.1, told.2)
 end-at task size (untolds.LogFull log) tries told = (tries, told.0, told.1, told.2)
 end-at task size untolds.Large tries told = (tries, told)
 
 pub untold-end : (task : Task) (size : ℕ) (untold : Untold) (end : SearchEnd) → end ≡ end_of size untold
-    → IsTriedFor task size → IsUntold task size task.options.steps untold → IsSearchEndFor task end
+    → IsTriedFor task size → IsUntold task (Search size) task.options.steps untold → IsSearchEndFor task end
 untold-end task size untold end same tries told = subst (IsSearchEndFor task) (sym same) (end-at task size untold tries told)

@@ -2,6 +2,7 @@ pub mod Evidence
 pub mod HeldPaths
 pub mod Kept
 pub mod Opened
+pub mod Raised
 pub mod Reached
 pub mod Seen
 pub mod Small

@@ -1,4 +1,4 @@
--- What is told of the runs of one size, and how far a search has come.
+-- What is told of the runs of one size or of another query, and how far a search has come.
 use Rattle.std.specs.Prelude.{◌≡◌, ◌≤◌, ℕ, suc}
 use Rattle.cdcl.specs.Answers.{IsSpent, IsFull}
 use Rattle.clauses.specs.declared.cnf.Cnf.{Cnf}
@@ -9,6 +9,7 @@ use Rattle.prover.specs.Queries.{clauses_of, variables_of}
 use Rattle.prover.specs.Stops.{IsFormulaFor, NoneBelowFor, ViolatesFor}
 use Rattle.prover.specs.declared.finding.Finding.{Finding}
 use Rattle.prover.specs.declared.finding.Finding.TheVariants as findings
+use Rattle.prover.specs.declared.finding.Query.{Query}
 use Rattle.prover.specs.declared.finding.Query.TheVariants.{Search}
 use Rattle.prover.specs.declared.finding.SearchEnd.{SearchEnd}
 use Rattle.prover.specs.declared.finding.SearchEnd.TheVariants as ends
@@ -26,27 +27,27 @@ pub record IsOfSize (task : Task) (size : ℕ) (run : Run) : Type 0 where
   pub violates : ViolatesFor task run
   pub size_is : run_size run ≡ size
 
--- why nothing is told of a size with so many steps
-abbrev pub IsUntold : Task → ℕ → ℕ → Untold → Type 0
-IsUntold task size steps (untolds.Steps log) =
-    (formula : Cnf) × IsFormulaFor task (Search size) formula × IsSpent formula steps log
-IsUntold task size steps (untolds.LogFull log) =
-    (formula : Cnf) × IsFormulaFor task (Search size) formula × IsFull formula steps log
-IsUntold task size steps untolds.Large =
-    IsTooLarge (variables_of task.netlist.now task.unit.now task.directive.now (Search size))
-    (clauses_of task.netlist.now task.unit.now task.directive.now (Search size))
+-- why nothing is told of a query with so many steps
+abbrev pub IsUntold : Task → Query → ℕ → Untold → Type 0
+IsUntold task query steps (untolds.Steps log) =
+    (formula : Cnf) × IsFormulaFor task query formula × IsSpent formula steps log
+IsUntold task query steps (untolds.LogFull log) =
+    (formula : Cnf) × IsFormulaFor task query formula × IsFull formula steps log
+IsUntold task query steps untolds.Large =
+    IsTooLarge (variables_of task.netlist.now task.unit.now task.directive.now query)
+    (clauses_of task.netlist.now task.unit.now task.directive.now query)
 
 -- what a look at a size with so many steps tells
 abbrev pub IsGlance : Task → ℕ → ℕ → Glance → Type 0
 IsGlance task size steps (glances.Violates run) = IsOfSize task size run
 IsGlance task size steps (glances.Holds lemmas) = NoneBelowFor task (suc size)
-IsGlance task size steps (glances.Nothing untold) = IsUntold task size steps untold
+IsGlance task size steps (glances.Nothing untold) = IsUntold task (Search size) steps untold
 
--- what is found, or how a search ends, where nothing is told of a size
-abbrev pub finding_of : ℕ → Untold → Finding
-finding_of size (untolds.Steps log) = findings.Steps (Search size) log
-finding_of size (untolds.LogFull log) = findings.LogFull (Search size) log
-finding_of size untolds.Large = findings.Large (Search size)
+-- what is found where nothing is told of a query, and how a search ends where nothing is told of a size
+abbrev pub finding_of : Query → Untold → Finding
+finding_of query (untolds.Steps log) = findings.Steps query log
+finding_of query (untolds.LogFull log) = findings.LogFull query log
+finding_of query untolds.Large = findings.Large query
 
 abbrev pub end_of : ℕ → Untold → SearchEnd
 end_of size (untolds.Steps log) = ends.Steps size log
@@ -65,4 +66,4 @@ pub record IsSearchedTo (task : Task) (size : ℕ) (searched : Searched) : Type 
 -- how far it comes that goes on from a size: to that one at least, or nothing is told of it with all the steps
 abbrev pub IsProgress : Task → ℕ → Progress → Type 0
 IsProgress task size (progress.Reached searched) = IsSearchedTo task size searched
-IsProgress task size (progress.Nothing untold) = IsUntold task size task.options.steps untold
+IsProgress task size (progress.Nothing untold) = IsUntold task (Search size) task.options.steps untold

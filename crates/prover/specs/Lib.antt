@@ -5,6 +5,7 @@ pub mod Glances
 pub mod Kept
 pub mod Proving
 pub mod Queries
+pub mod Raised
 pub mod Reaching
 pub mod Stops
 pub mod Tasks

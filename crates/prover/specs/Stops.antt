@@ -1,7 +1,5 @@
--- What is asked and found, of a task; why a search ends at a query; and what the solver tells of its formula where it
--- does not.
+-- What is asked and found, of a task, and why a search ends at a query.
 use Rattle.std.specs.Prelude.{ℕ, Bool as Truth, List}
-use Rattle.cdcl.specs.Answers.{IsModelOf, IsRefutation}
 use Rattle.clauses.specs.declared.cnf.Cnf.{Cnf}
 use Rattle.clauses.specs.declared.flat.CnfFault.{CnfFault}
 use Rattle.clauses.specs.declared.flat.CnfFault.TheVariants as faults
@@ -9,8 +7,6 @@ use Rattle.prover.specs.Findings.{IsFinding, IsHeldPath, IsSearchEnd, IsUndecide
 use Rattle.prover.specs.Queries.{ComesUp, IsFormulaOf, IsLookedAt, IsSought, IsTried}
 use Rattle.prover.specs.Violating.{NoneBelow, Violates}
 use Rattle.prover.specs.Windows.{StaysOpen}
-use Rattle.prover.specs.declared.answering.Solved.{Solved}
-use Rattle.prover.specs.declared.answering.Solved.TheVariants.{Model, Refuted}
 use Rattle.prover.specs.declared.finding.Finding.{Finding}
 use Rattle.prover.specs.declared.finding.Finding.TheVariants.{Large}
 use Rattle.prover.specs.declared.finding.OpenPath.{OpenPath}
@@ -67,8 +63,3 @@ IsStopOf task stops.NoMemory = Unit {0}
 abbrev pub stop_of : Query → CnfFault → Stop
 stop_of query faults.TooLarge = stops.Found (Large query)
 stop_of query faults.NoMemory = stops.NoMemory
-
--- a model of the formula, or a log that refutes it
-abbrev pub IsSolved : Cnf → ℕ → Solved → Type 0
-IsSolved formula steps (Model values) = IsModelOf formula values
-IsSolved formula steps (Refuted log) = IsRefutation formula steps log

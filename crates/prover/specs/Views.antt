@@ -4,9 +4,10 @@ use Rattle.joint.specs.Joined.{Joined}
 use Rattle.joint_theory.specs.Paths.{IsOpen}
 use Rattle.joint_theory.specs.declared.path.JointPath.{JointPath}
 use Rattle.owed.specs.Violations.{violation_of}
+use Rattle.prover.specs.Glances.{IsUntold}
 use Rattle.prover.specs.Proving.{IsRefuted}
 use Rattle.prover.specs.declared.closing.Kind.{Kind}
-use Rattle.prover.specs.declared.closing.Kind.TheVariants.{Open, Closed}
+use Rattle.prover.specs.declared.closing.Kind.TheVariants.{Open, Closed, Nothing}
 use Rattle.prover.specs.declared.closing.View.{View}
 use Rattle.prover.specs.declared.finding.OpenPath.{OpenPath}
 use Rattle.prover.specs.declared.finding.Query.{Query}
@@ -40,9 +41,10 @@ IsPathAt task visits window member =
     (member.visits ≡ visits)
     × IsOpen task.netlist.now (violation_of task.unit.now task.directive.now) visits window member.initial member.path
 
--- a path that is open, or a log by which there is none
+-- a path that is open, or a log by which there is none, or why nothing is told
 abbrev pub IsKindOf : Task → View → Kind → Type 0
 IsKindOf task view (Open path) = IsPathAt task view.visits view.window path
 IsKindOf task view (Closed log) =
     IsRefuted task.netlist.now task.unit.now task.directive.now task.options.steps (view_query view) log
     × ((path : JointPath) → IsSeen task view path → ⊥)
+IsKindOf task view (Nothing untold) = IsUntold task (view_query view) task.options.steps untold

@@ -9,13 +9,15 @@ ghost use Rattle.prover.specs.Stops.{ComesUpFor, IsLookedAtFor, IsStopOf};
 ghost use Rattle.prover.specs.Views.{IsJointOf, IsKindOf, IsPathAt, view_query};
 ghost use Rattle.run_terms.specs.Formulas.{HasModel};
 
-use crate::answering::Solved;
 use crate::context::Prover;
 use crate::finding::{Finding, OpenPath, Query};
+use crate::glance::Untold;
 use crate::stop::Stop;
+use cdcl::{Answer, solve};
 use cert_theory::Certificate;
 use clauses::{Cnf, CnfFault, Log};
 use joint::Joint;
+use psl_base::NoMemory;
 use std::alloc::Global;
 
 /// The joint paths of a kind at a window: those of the initial kind, or the others.
@@ -33,6 +35,8 @@ pub(crate) enum Kind {
     Open(OpenPath),
     /// None is, as the log shows.
     Closed(Log),
+    /// Nothing.
+    Nothing(Untold),
 }
 
 impl View {
@@ -68,7 +72,8 @@ impl View {
 }
 
 impl Prover<'_> {
-    /// An open path of the window for a number of visits. It stops where there is none: then the directive is proved.
+    /// An open path of the window for a number of visits. It stops where there is none: then the directive is proved. The
+    /// paths of the induction come first: mostly one of them is open, and then the others are not asked for.
     pub fn close_at(
         self,
         alloc: Global,
@@ -82,15 +87,6 @@ impl Prover<'_> {
         ensures path { IfOk result (IsPathAt self.entry.task visits window) }
         ensures stop { IfErr result (IsStopOf self.entry.task) }
     {
-        let initial = View {
-            visits,
-            window,
-            initial: true,
-        };
-        let base = match self.look(alloc, joint, initial)? {
-            Kind::Open(path) => return Ok(path),
-            Kind::Closed(log) => log,
-        };
         let other = View {
             visits,
             window,
@@ -98,33 +94,45 @@ impl Prover<'_> {
         };
         let induction = match self.look(alloc, joint, other)? {
             Kind::Open(path) => return Ok(path),
-            Kind::Closed(log) => log,
+            told => told,
         };
-        Err(Stop::Found(Finding::Proved(Certificate {
-            assertion: self.task.directive.number,
+        let first = View {
             visits,
             window,
-            base,
-            induction,
-        })))
+            initial: true,
+        };
+        let base = match self.look(alloc, joint, first)? {
+            Kind::Open(path) => return Ok(path),
+            Kind::Closed(log) => log,
+            Kind::Nothing(untold) => return Err(Stop::Found(untold.finding(first.query()))),
+        };
+        match induction {
+            Kind::Open(path) => Ok(path),
+            Kind::Closed(induction) => Err(Stop::Found(Finding::Proved(Certificate {
+                assertion: self.task.directive.number,
+                visits,
+                window,
+                base,
+                induction,
+            }))),
+            Kind::Nothing(untold) => Err(Stop::Found(untold.finding(other.query()))),
+        }
     }
 
-    // An open path of a kind, or the log that shows that there is none.
-    fn look(self, alloc: Global, joint: &Joint, view: View) -> Result<Kind, Stop>
+    // What is told of the joint paths of a kind.
+    fn look(self, alloc: Global, joint: &Joint, view: View) -> Result<Kind, NoMemory>
         requires ready { IsReady self }
         requires joint { IsJointOf self.task view.visits joint.now }
-        requires comes_up { ComesUpFor self.task (view_query view) }
-        ensures kind { IfOk result (IsKindOf self.entry.task view) }
-        ensures stop { IfErr result (IsStopOf self.entry.task) }
+        ensures { IfOk result (IsKindOf self.entry.task view) }
     {
-        let query = view.query();
         let formula = match view.formula(alloc, joint) {
             Ok(formula) => formula,
-            Err(fault) => return Err(Stop::without(query, fault)),
+            Err(CnfFault::TooLarge) => return Ok(Kind::Nothing(Untold::Large)),
+            Err(CnfFault::NoMemory) => return Err(NoMemory),
         };
-        match self.solved(alloc, query, formula)? {
-            Solved::Refuted(log) => Ok(Kind::Closed(log)),
-            Solved::Model(values) => {
+        let _words = formula.clauses.words();
+        match solve(alloc, &formula, self.task.options.steps)? {
+            Answer::Model(values) => {
                 let path = joint.read_path(alloc, view.window, view.initial, &values)?;
                 Ok(Kind::Open(OpenPath {
                     visits: view.visits,
@@ -132,6 +140,9 @@ impl Prover<'_> {
                     path,
                 }))
             }
+            Answer::Refuted(log) => Ok(Kind::Closed(log)),
+            Answer::Spent(log) => Ok(Kind::Nothing(Untold::Steps(log))),
+            Answer::LogFull(log) => Ok(Kind::Nothing(Untold::LogFull(log))),
         }
     }
 }

@@ -23,7 +23,7 @@ pub(crate) enum Glance {
     Nothing(Untold),
 }
 
-/// Why nothing is told of the runs of a size.
+/// Why nothing is told of the runs of a size, or of another query.
 #[derive(Debug, Drop)]
 pub(crate) enum Untold {
     /// The steps were spent; the log has as many lemmas.
@@ -35,11 +35,10 @@ pub(crate) enum Untold {
 }
 
 impl Untold {
-    /// What is found, where nothing is told of runs of so many valuations.
-    pub fn finding(self, size: u32) -> Finding
-        ensures { result ≡ finding_of size self }
+    /// What is found, where nothing is told of a query.
+    pub fn finding(self, query: Query) -> Finding
+        ensures { result ≡ finding_of query self }
     {
-        let query = Query::Search(size);
         match self {
             Untold::Steps(log) => Finding::Steps(query, log),
             Untold::LogFull(log) => Finding::LogFull(query, log),

@@ -19,11 +19,42 @@ use std::alloc::Global;
 // A question for a path takes so many conflicts at most: it may tell nothing, and others wait behind it.
 const MOST_CONFLICTS: u64 = 20_000;
 
+// Paths are asked for ahead of a window: so many times its valuations, and so many more. They are asked of one solver that
+// goes on, so that a longer one costs little where the one before it was asked for.
+const TIMES_AHEAD: u32 = 2;
+
+const VALUATIONS_AHEAD: u32 = 8;
+
 impl Prover<'_> {
+    /// Asks for paths of more valuations than so many, ahead of a window, and tells of how many it has asked then.
+    pub fn hold_ahead(
+        self,
+        alloc: Global,
+        prefixes: &mut Prefixes<'_>,
+        held: u32,
+        window: u32,
+        searched: Searched,
+    ) -> Result<u32, Stop>
+        requires ready { IsReady self }
+        requires netlist { prefixes.old ≡ self.task.netlist.now }
+        requires searched { IsSearched self.task searched }
+        ensures netlist { prefixes.new ≡ prefixes.old }
+        ensures stop { IfErr result (IsStopOf self.entry.task) }
+    {
+        let most = window
+            .saturating_mul(TIMES_AHEAD)
+            .saturating_add(VALUATIONS_AHEAD)
+            .min(self.task.options.depth);
+        for _size in held..most {
+            self.hold(alloc, prefixes, searched)?;
+        }
+        Ok(most)
+    }
+
     /// Asks for a path of one valuation more than before, behind which a run that holds its inputs violates what is owed.
     /// It stops where one is found: with it once the search for runs has come to its end, or with a run of that search,
     /// which goes first.
-    pub fn hold(
+    fn hold(
         self,
         alloc: Global,
         prefixes: &mut Prefixes<'_>,

@@ -1,9 +1,10 @@
 // Paths that keep windows open beyond the one at which they were found.
-ghost use Rattle.std.specs.Prelude.{◌≡◌, ◌-◌, ◌<◌, ◌≤◌, suc, IfOk, IfErr, IfSome, IsTrue};
+ghost use Rattle.std.specs.Prelude.{◌≡◌, ◌-◌, ◌<◌, ◌≤◌, suc, length, slice_get, Some, IfOk, IfErr, IfSome};
 ghost use Rattle.prover.specs.Claims.{IsReady};
 ghost use Rattle.prover.specs.Kept.{AreKeptFor, IsAhead, IsKeptFor, keeps_at};
 ghost use Rattle.prover.specs.Stops.{IsLookedAtFor, IsStopOf};
 ghost use Rattle.prover.specs.Views.{IsJointOf};
+ghost use Rattle.prover_bmc.specs.Chains.{IsLikely};
 
 use crate::context::Prover;
 use crate::finding::{OpenPath, OpenPaths, Query};
@@ -11,11 +12,19 @@ use crate::stop::Stop;
 use cdcl::{Answer, solve};
 use clauses::CnfFault;
 use joint::{Joint, joint};
+use prover_bmc::{Likely, Opened, Opens};
+use prover_open::open_path;
 use psl_base::NoMemory;
 use std::alloc::Global;
 
 // A look ahead takes at most so many lemmas.
 const LEMMAS_AHEAD: u64 = 10_000;
+
+// A question for a path that is likely to be open takes so many conflicts at most.
+const MOST_CONFLICTS: u64 = 100_000;
+
+// So many times it is asked again for one whose states differ where those of the one before were alike.
+const MOST_ALIKE: u32 = 1_000;
 
 impl OpenPath {
     // Whether it keeps a window open, where it does the one before: a path of the initial kind is open at each window
@@ -30,15 +39,18 @@ impl OpenPath {
 impl Prover<'_> {
     /// A path for each number of visits that keeps the first window open. It stops where there is none for one of them:
     /// then the directive is proved.
-    pub fn first_paths(self, alloc: Global) -> Result<OpenPaths, Stop>
+    pub fn first_paths(self, alloc: Global, opens: &mut Opens<'_>) -> Result<OpenPaths, Stop>
         requires ready { IsReady self }
+        requires netlist { opens.old ≡ self.task.netlist.now }
         requires looked_at { IsLookedAtFor self.task 0 1 }
+        ensures netlist { opens.new ≡ opens.old }
         ensures paths { IfOk result (AreKeptFor self.entry.task (suc self.entry.task.options.visits) 1) }
         ensures stop { IfErr result (IsStopOf self.entry.task) }
     {
         let mut paths = OpenPaths::new(alloc);
         for visits in 0..=self.task.options.visits {
-            let path = self.keep_at(alloc, visits, 1)?;
+            let fewer = path_before(&paths, visits);
+            let path = self.next_path(alloc, opens, fewer, visits, 1)?;
             paths.push(path)?;
         }
         Ok(paths)
@@ -46,21 +58,123 @@ impl Prover<'_> {
 
     /// A path for each number of visits that keeps the window open, where these keep open the window before. It stops
     /// where there is none for one of them: then the directive is proved.
-    pub fn keep(self, alloc: Global, window: u32, known: OpenPaths) -> Result<OpenPaths, Stop>
+    pub fn keep(
+        self,
+        alloc: Global,
+        opens: &mut Opens<'_>,
+        window: u32,
+        known: OpenPaths,
+    ) -> Result<OpenPaths, Stop>
         requires ready { IsReady self }
+        requires netlist { opens.old ≡ self.task.netlist.now }
         requires looked_at { IsLookedAtFor self.task 0 window }
         requires known { AreKeptFor self.task (suc self.task.options.visits) (window - 1) known }
+        ensures netlist { opens.new ≡ opens.old }
         ensures paths { IfOk result (AreKeptFor self.entry.task (suc self.entry.task.options.visits) window) }
         ensures stop { IfErr result (IsStopOf self.entry.task) }
     {
         let mut paths = known;
         for visits in 0..=self.task.options.visits {
             if !paths.at(visits as usize).keeps(window) {
-                let path = self.keep_at(alloc, visits, window)?;
+                let fewer = path_before(&paths, visits);
+                let path = self.next_path(alloc, opens, fewer, visits, window)?;
                 paths.set(visits as usize, path);
             }
         }
         Ok(paths)
+    }
+
+    // A path that keeps the window open for a number of visits, where this one does so for one visit fewer, if there is
+    // one. A path of the induction does so for more visits too, once it is counted for them.
+    fn next_path(
+        self,
+        alloc: Global,
+        opens: &mut Opens<'_>,
+        fewer: Option<&OpenPath>,
+        visits: u32,
+        window: u32,
+    ) -> Result<OpenPath, Stop>
+        requires ready { IsReady self }
+        requires netlist { opens.old ≡ self.task.netlist.now }
+        requires fewer { IfSome fewer (λ path. (0 < visits) × IsKeptFor self.task (visits - 1) window path.now) }
+        requires looked_at { IsLookedAtFor self.task visits window }
+        ensures netlist { opens.new ≡ opens.old }
+        ensures path { IfOk result (IsKeptFor self.entry.task visits window) }
+        ensures stop { IfErr result (IsStopOf self.entry.task) }
+    {
+        if let Some(path) = fewer {
+            if !path.initial {
+                let raised = path.raised(alloc, visits - 1)?;
+                return Ok(raised);
+            }
+        }
+        if visits == 0 {
+            if let Some(path) = self.likely_path(alloc, opens, window)? {
+                return Ok(path);
+            }
+        }
+        self.keep_at(alloc, visits, window)
+    }
+
+    // A path of the induction that is open at the window, counted for no visit, as one is likely to be: it is told by a
+    // solver whose formula holds of few states, and judged here.
+    fn likely_path(
+        self,
+        alloc: Global,
+        opens: &mut Opens<'_>,
+        window: u32,
+    ) -> Result<Option<OpenPath>, NoMemory>
+        requires ready { IsReady self }
+        requires netlist { opens.old ≡ self.task.netlist.now }
+        ensures netlist { opens.new ≡ opens.old }
+        ensures ahead { IfOk result (λ found. IfSome found (IsAhead self.entry.task 0 window)) }
+    {
+        let steps = self.task.options.steps.min(MOST_CONFLICTS);
+        for _again in 0..MOST_ALIKE {
+            match opens.ask(alloc, window, steps)? {
+                Opened::Likely(likely) => {
+                    let judged = self.judged_path(alloc, &likely, window)?;
+                    if judged.is_some() || !opens.part(alloc, &likely)? {
+                        return Ok(judged);
+                    }
+                }
+                Opened::None | Opened::Nothing => return Ok(None),
+            }
+        }
+        Ok(None)
+    }
+
+    // The path of joint states that are likely to be open at the window, where it is.
+    fn judged_path(
+        self,
+        alloc: Global,
+        likely: &Likely,
+        window: u32,
+    ) -> Result<Option<OpenPath>, NoMemory>
+        requires ready { IsReady self }
+        requires likely { IsLikely self.task.netlist.now likely.now }
+        ensures { IfOk result (λ found. IfSome found (IsAhead self.entry.task 0 window)) }
+    {
+        if likely.choices.inputs.len() != window as usize + 1 {
+            return Ok(None);
+        }
+        let (netlist, violation) = (self.task.netlist, &self.claim.violation);
+        let choices = &likely.choices;
+        match open_path(
+            alloc,
+            netlist,
+            violation,
+            choices,
+            &likely.owed,
+            &likely.pending,
+        )? {
+            Some(path) => Ok(Some(OpenPath {
+                visits: 0,
+                initial: false,
+                path,
+            })),
+            None => Ok(None),
+        }
     }
 
     // A path that keeps the window open for a number of visits. Larger windows are looked at first, since a path that is
@@ -75,7 +189,12 @@ impl Prover<'_> {
             Ok(joint) => joint,
             Err(fault) => return Err(Stop::without(Query::Base(visits, window), fault)),
         };
-        let mut ahead = (window - 1).saturating_mul(2).min(self.task.options.depth);
+        // Without a visit, larger windows were asked for already, and are likely to be closed.
+        let mut ahead = if visits == 0 {
+            window
+        } else {
+            (window - 1).saturating_mul(2).min(self.task.options.depth)
+        };
         while window < ahead {
             if let Some(path) = self.peek(alloc, &joint, visits, ahead)? {
                 return Ok(path);
@@ -114,4 +233,15 @@ impl Prover<'_> {
             Answer::Refuted(_) | Answer::Spent(_) | Answer::LogFull(_) => Ok(None),
         }
     }
+}
+
+// The path for one visit fewer than so many, if there is one.
+fn path_before(paths: &OpenPaths, visits: u32) -> Option<&OpenPath>
+    requires { visits ≤ length paths.now }
+    ensures { IfSome result (λ path. (0 < visits) × (slice_get paths.now (visits - 1) ≡ Some path.now)) }
+{
+    if visits == 0 {
+        return None;
+    }
+    Some(paths.at(visits as usize - 1))
 }

@@ -1,7 +1,6 @@
 //! The prover: whether each run of a netlist satisfies what is owed of a directive.
 #![tactic(auto)]
 
-mod answering;
 mod claim;
 mod closing;
 mod context;
@@ -11,6 +10,7 @@ mod holding;
 mod keeping;
 mod options;
 mod proving;
+mod raising;
 mod reaching;
 mod searching;
 mod stop;

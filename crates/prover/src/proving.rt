@@ -12,7 +12,7 @@ use crate::reaching::{Reaching, budget_at};
 use crate::searching::Searched;
 use crate::stop::Stop;
 use crate::task::Task;
-use prover_bmc::Prefixes;
+use prover_bmc::{Opens, Prefixes};
 use psl_base::NoMemory;
 use std::alloc::Global;
 
@@ -58,16 +58,17 @@ impl Prover<'_> {
         };
         let mut searched = self.search(alloc, 1, begun)?;
         let mut prefixes = Prefixes::new(alloc, self.task.netlist, &self.claim.violation)?;
-        self.hold(alloc, &mut prefixes, searched)?;
-        let mut paths = self.first_paths(alloc)?;
+        let mut held = self.hold_ahead(alloc, &mut prefixes, 0, 1, searched)?;
+        let mut opens = Opens::new(alloc, self.task.netlist, &self.claim.violation)?;
+        let mut paths = self.first_paths(alloc, &mut opens)?;
         let joints = self.joints(alloc)?;
         let mut reaching = self.reach_on(alloc, budget_at(1), Reaching::new(alloc, &joints))?;
         for window in 2..=self.task.options.depth {
             if searched.none_within < window {
                 searched = self.search(alloc, window, searched)?;
             }
-            self.hold(alloc, &mut prefixes, searched)?;
-            paths = self.keep(alloc, window, paths)?;
+            held = self.hold_ahead(alloc, &mut prefixes, held, window, searched)?;
+            paths = self.keep(alloc, &mut opens, window, paths)?;
             reaching = self.reach_on(alloc, budget_at(window), reaching)?;
         }
         let Reaching { ends, .. } = self.reach_on(alloc, None, reaching)?;

@@ -5,7 +5,7 @@ ghost use Rattle.prover.specs.Glances.{IsOfSize, IsProgress, IsSearched, IsSearc
 ghost use Rattle.prover.specs.Stops.{IsSoughtFor, IsStopOf, IsTriedFor, NoneBelowFor, ViolatesFor};
 
 use crate::context::Prover;
-use crate::finding::Finding;
+use crate::finding::{Finding, Query};
 use crate::glance::{Glance, Untold};
 use crate::stop::Stop;
 use lasso_judge::satisfies;
@@ -58,7 +58,7 @@ impl Prover<'_> {
     {
         match self.go_on(alloc, size, last)? {
             Progress::Reached(searched) => Ok(searched),
-            Progress::Nothing(untold) => Err(Stop::Found(untold.finding(size))),
+            Progress::Nothing(untold) => Err(Stop::Found(untold.finding(Query::Search(size)))),
         }
     }
 

@@ -1,3 +1,4 @@
+pub mod Chains
 pub mod Fields
 pub mod Hints
 pub mod Later

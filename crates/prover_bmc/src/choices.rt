@@ -18,7 +18,7 @@ fn value_of(values: &Bits, literal: i32) -> bool {
 }
 
 // The values of literals.
-fn values_of(alloc: Global, values: &Bits, literals: &[i32]) -> Result<Bits, NoMemory>
+pub(crate) fn values_of(alloc: Global, values: &Bits, literals: &[i32]) -> Result<Bits, NoMemory>
     ensures { IfOk result (λ bits. length bits ≡ length literals.now) }
 {
     let mut bits = Bits::new(alloc);
@@ -29,7 +29,11 @@ fn values_of(alloc: Global, values: &Bits, literals: &[i32]) -> Result<Bits, NoM
 }
 
 // The values of the literals of each frame.
-fn all_values_of(alloc: Global, values: &Bits, frames: &[Literals]) -> Result<Items<Bits>, NoMemory>
+pub(crate) fn all_values_of(
+    alloc: Global,
+    values: &Bits,
+    frames: &[Literals],
+) -> Result<Items<Bits>, NoMemory>
     ensures size { IfOk result (λ all. length all ≡ length frames.now) }
     ensures each { (count : ℕ) → All (λ literals. length literals ≡ count) frames.now
         → IfOk result (All (λ bits. length bits ≡ count)) }

@@ -75,8 +75,13 @@ fn owed_by(
     Ok(marks)
 }
 
-// A free literal, or the one that is false. The numbers say what it stands for.
-fn debt_if(builder: &mut Builder, is_owed: bool, place: u32, number: u32) -> Result<i32, CnfFault>
+/// A free literal, or the one that is false. The numbers say what it stands for.
+pub(crate) fn debt_if(
+    builder: &mut Builder,
+    is_owed: bool,
+    place: u32,
+    number: u32,
+) -> Result<i32, CnfFault>
     ensures later { OnOk result (IsLater builder.old builder.new) }
     ensures of { IfOk result (IsOf builder.new) }
 {

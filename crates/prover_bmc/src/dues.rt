@@ -29,8 +29,8 @@ impl<'a> Place<'a> {
     }
 }
 
-// Whether the letter of a place and what is owed at the next one meet a combination.
-fn met_at(builder: &mut Builder, place: Place, delta: &Positive) -> Result<i32, CnfFault>
+/// Whether the letter of a place and what is owed at the next one meet a combination.
+pub(crate) fn met_at(builder: &mut Builder, place: Place, delta: &Positive) -> Result<i32, CnfFault>
     requires { IsPlace builder.old place }
     ensures later { OnOk result (IsLater builder.old builder.new) }
     ensures of { IfOk result (IsOf builder.new) }

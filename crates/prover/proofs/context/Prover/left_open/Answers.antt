@@ -3,7 +3,7 @@ use Rattle.prover.proofs.Evidence.{none-fewer}
 use Rattle.prover.proofs.Kept.{kept-stays, reaches-on, undecided}
 use Rattle.prover.proofs.Opened.{first-look, none-below-one, sought}
 use Rattle.prover.proofs.context.Prover.left_open.Goals as goal
-use Rattle.prover.proofs.context.Prover.left_open.Goals.{else-loop-window-test, then-loop-window-test+in_ok-hold-2+in_ok-paths-2+in_ok-reaching-2+else-window-window-end, then-searched-window+in_ok-searched-2, else-searched-window}
+use Rattle.prover.proofs.context.Prover.left_open.Goals.{else-loop-window-test, then-loop-window-test+in_ok-held-2+in_ok-paths-2+in_ok-reaching-2+else-window-window-end, then-searched-window+in_ok-searched-2, else-searched-window}
 use Rattle.prover.specs.Glances.{IsSearchedTo}
 use Rattle.prover.specs.Kept.{AreKeptFor}
 use Rattle.prover.specs.Reaching.{IsReaching}
@@ -35,8 +35,8 @@ search-requires-then-searched-window-clause-sought c = sought c.args.self.task.n
     (λ more. kept-stays c.args.self.task (suc c.args.self.task.options.visits) (c.loop-window.window - 1) c.loop-window.paths
     c.loop-window.invariant.paths)
 
-pub hold-requires-in-loop-window-clause-searched : goal.hold-requires-in-loop-window-clause-searched
-hold-requires-in-loop-window-clause-searched c =
+pub hold_ahead-requires-in-loop-window-clause-searched : goal.hold_ahead-requires-in-loop-window-clause-searched
+hold_ahead-requires-in-loop-window-clause-searched c =
     let to : IsSearchedTo c.args.self.task c.loop-window.window c.if-searched-window.searched = elim c.if-searched-window.branch [
       | then-searched-window+in_ok-searched-2 w ↦ subst (λ (s : Searched). IsSearchedTo c.args.self.task c.loop-window.window s)
           (sym w.searched-is) w.in_ok-searched-2.ensures.searched
@@ -84,13 +84,14 @@ loop-window-preserved c =
       paths = subst (λ (n : ℕ). AreKeptFor c.args.self.task (suc c.args.self.task.options.visits) n c.in_ok-paths-2.paths) before
           c.in_ok-paths-2.ensures.paths;
       reaching = c.in_ok-reaching-2.ensures.reaching;
-      prefixes = c.in_ok-hold-2.ensures.netlist ∙ c.loop-window.invariant.prefixes;
+      prefixes = c.in_ok-held-2.ensures.netlist ∙ c.loop-window.invariant.prefixes;
+      opens = c.in_ok-paths-2.ensures.netlist ∙ c.loop-window.invariant.opens;
     }
 
 pub reach_on-requires-2-clause-known : goal.reach_on-requires-2-clause-known
 reach_on-requires-2-clause-known c = elim c.loop-window-test.branch [
   | else-loop-window-test w ↦ subst (λ (r : Reaching). IsReaching c.args.self.task r) (sym w.reaching-is) c.loop-window.invariant.reaching
-  | then-loop-window-test+in_ok-hold-2+in_ok-paths-2+in_ok-reaching-2+else-window-window-end w ↦
+  | then-loop-window-test+in_ok-held-2+in_ok-paths-2+in_ok-reaching-2+else-window-window-end w ↦
       subst (λ (r : Reaching). IsReaching c.args.self.task r) (sym w.reaching-is) w.in_ok-reaching-2.ensures.reaching
 ]
 
@@ -99,7 +100,7 @@ undecided-requires-clause-paths c = elim c.loop-window-test.branch [
   | else-loop-window-test w ↦ undecided c.args.self.task (c.loop-window.window - 1) c.loop-window.searched c.loop-window.paths
       c.loop-window-test.paths (omega (arith, c.loop-window.invariant.some, c.loop-window.invariant.end, w.loop-window-test.false))
       c.loop-window.invariant.searched c.loop-window.invariant.paths w.paths-is
-  | then-loop-window-test+in_ok-hold-2+in_ok-paths-2+in_ok-reaching-2+else-window-window-end w ↦ elim w.if-searched-window.branch [
+  | then-loop-window-test+in_ok-held-2+in_ok-paths-2+in_ok-reaching-2+else-window-window-end w ↦ elim w.if-searched-window.branch [
     | then-searched-window+in_ok-searched-2 v ↦ undecided c.args.self.task c.loop-window.window v.in_ok-searched-2.searched
         w.in_ok-paths-2.paths c.loop-window-test.paths (omega arith) v.in_ok-searched-2.ensures.searched w.in_ok-paths-2.ensures.paths w.paths-is
     | else-searched-window v ↦ undecided c.args.self.task c.loop-window.window w.if-searched-window.searched

@@ -12,4 +12,5 @@ invariant-loop-window l = record {
   paths : AreKeptFor l.fn.self.task (suc l.fn.self.task.options.visits) (l.window - 1) l.paths;
   reaching : IsReaching l.fn.self.task l.reaching;
   prefixes : l.prefixes ≡ l.fn.self.task.netlist.now;
+  opens : l.opens ≡ l.fn.self.task.netlist.now;
 }

@@ -2,11 +2,12 @@ use Rattle.std.proofs.Common.{subst, ◌+◌, arith}
 use Rattle.prover.proofs.HeldPaths.{tried, untold-end}
 use Rattle.prover.proofs.context.Prover.search_on.Goals as goal
 use Rattle.prover.specs.Glances.{IsProgress, IsUntold}
+use Rattle.prover.specs.declared.finding.Query.TheVariants.{Search}
 use Rattle.prover.specs.declared.searching.Progress.{Progress}
 
 pub returns-in-Nothing-clause-end : goal.returns-in-Nothing-clause-end
 returns-in-Nothing-clause-end c =
-    let told : IsUntold c.args.self.task (c.loop-searched.searched.none_within + 1) c.args.self.task.options.steps c.in-Nothing.untold =
+    let told : IsUntold c.args.self.task (Search (c.loop-searched.searched.none_within + 1)) c.args.self.task.options.steps c.in-Nothing.untold =
     subst (λ (p : Progress). IsProgress c.args.self.task (c.loop-searched.searched.none_within + 1) p) c.in-Nothing.is
     c.in_ok-further.ensures.progress in
     untold-end c.args.self.task (c.loop-searched.searched.none_within + 1) c.in-Nothing.untold c.end.result c.end.ensures
