@@ -21,7 +21,7 @@ use Rattle.owed.specs.Owed.{owed, plain_owed}
 use Rattle.owed.specs.Violations.{violation_of}
 use Rattle.run_terms.specs.Formulas.{HasModel, values_of}
 use Rattle.bounded_theory.specs.Found.{IsFound, SomeFound, run_size}
-use Rattle.bounded_frames.specs.Searches.{search_clauses, search_variables}
+use Rattle.bounded.specs.Searches.{search_clauses, search_variables}
 use Rattle.prover.proofs.Turned.{none-within}
 use Rattle.prover.specs.Findings.{IsShortest}
 use Rattle.prover.specs.Queries.{IsFormulaOf, clauses_of, variables_of}

@@ -7,7 +7,7 @@ use Rattle.joint_theory.specs.declared.path.JointPath.{JointPath}
 use Rattle.netlist.specs.Design.{Design}
 use Rattle.psl_tree.specs.declared.directive.Directive.{Directive}
 use Rattle.owed.specs.Violations.{violation_of}
-use Rattle.bounded_frames.specs.Searches.{search_clauses, search_variables}
+use Rattle.bounded.specs.Searches.{search_clauses, search_variables}
 use Rattle.prover.specs.Violating.{NoneBelow}
 use Rattle.prover.specs.Windows.{StaysOpen}
 use Rattle.prover.specs.declared.finding.Query.{Query}

@@ -5,7 +5,7 @@ ghost use Rattle.prover.specs.Glances.{end_of, finding_of, IsGlance};
 
 use crate::context::Prover;
 use crate::finding::{Finding, Query, SearchEnd};
-use bounded_frames::{read_run, search_formula};
+use bounded::{read_run, search_formula};
 use cdcl::{Answer, solve};
 use clauses::{CnfFault, Log};
 use netlist::Run;

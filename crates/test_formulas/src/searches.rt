@@ -1,13 +1,13 @@
 // Searches for a run.
 ghost use Rattle.std.specs.Prelude.{◌≡◌};
 ghost use Rattle.run_terms.specs.Automata.{TestsSignals};
-ghost use Rattle.bounded_frames.specs.Searches.{search_clauses, search_variables};
+ghost use Rattle.bounded.specs.Searches.{search_clauses, search_variables};
 
 use crate::models::model;
 use crate::netlists::{KEPT, TOGGLE, netlist};
 use crate::violations::{Test, Violation, automaton};
 use alternating::Alternating;
-use bounded_frames::{read_run, search_formula};
+use bounded::{read_run, search_formula};
 use clauses::Cnf;
 use netlist::{Netlist, Run, Valuations};
 use psl_base::{NoMemory, add_bytes};

@@ -1,7 +1,0 @@
-use Rattle.bounded_frames.specs.Adding.{closed_in}
-use Rattle.bounded_frames.proofs.Appending.{Left}
-use Rattle.bounded_frames.proofs.closing.add_closings.Given as goal
-
-abbrev pub invariant-loop-place : goal.invariant-loop-place
-invariant-loop-place l =
-    Left (closed_in l.places.automaton.now l.frames l.signals l.places.last l.places.before) l.initial.clauses l.clauses l.place l.places.last

@@ -1,4 +1,0 @@
-use Rattle.bounded_frames.proofs.comparing.+exceeds.Given as goal
-
-abbrev pub decreases-exceeds : goal.decreases-exceeds
-decreases-exceeds l = l.count

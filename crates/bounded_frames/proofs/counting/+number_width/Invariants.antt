@@ -1,4 +1,0 @@
-use Rattle.bounded_frames.proofs.counting.+number_width.Given as goal
-
-abbrev pub decreases-number_width : goal.decreases-number_width
-decreases-number_width l = l.number
