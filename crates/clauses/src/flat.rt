@@ -26,6 +26,11 @@ pub enum CnfFault {
 }
 
 impl From<NoMemory> for CnfFault {
+    ghost use Rattle.std.specs.Prelude.{◌≡◌};
+    ghost use Rattle.clauses.specs.declared.flat.CnfFault.{CnfFault};
+
+    ghost from_gives = { λ refused fault. fault ≡ CnfFault.NoMemory };
+
     fn from(_refused: NoMemory) -> CnfFault {
         CnfFault::NoMemory
     }

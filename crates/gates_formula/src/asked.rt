@@ -31,9 +31,7 @@ pub fn add_asked(
     ensures { Adds cnf.old cnf.new (asked_clauses builder.now.covers builder.now.given (suc builder.now.given)
         builder.now.nodes (flat_map (λ clause. clause) clauses.now)) result }
 {
-    let Ok(mut marks) = marks_of(alloc, builder.variables(), clauses) else {
-        return Err(CnfFault::NoMemory);
-    };
+    let mut marks = marks_of(alloc, builder.variables(), clauses)?;
     for place in (0..builder.nodes().len()).rev() {
         add_wanted(alloc, cnf, builder, place, &mut marks)?;
     }
@@ -124,8 +122,6 @@ fn add_rows(
     requires literals { IsTrue (clause_within cnf.old.variables literals.now) }
     ensures { Adds cnf.old cnf.new (implied output (spec.cubes given rows.now literals.now)) result }
 {
-    let Ok(cubes) = cubes(alloc, given, rows, literals) else {
-        return Err(CnfFault::NoMemory);
-    };
+    let cubes = cubes(alloc, given, rows, literals)?;
     add_implied(alloc, cnf, output, cubes.as_slice())
 }

@@ -24,9 +24,7 @@ pub fn add_implied(
     ensures { Adds cnf.old cnf.new (implied literal cubes.now) result }
 {
     for cube in cubes {
-        let Ok(clause) = implication(alloc, literal, cube.as_slice()) else {
-            return Err(CnfFault::NoMemory);
-        };
+        let clause = implication(alloc, literal, cube.as_slice())?;
         add(cnf, clause.as_slice())?;
     }
     Ok(())

@@ -83,9 +83,7 @@ fn add_frame(
         (latch_by source.entry builder.old.given) builder.old.nodes) result }
     ensures size { IfOk result (λ literals. length literals ≡ netlist.now.signals) }
 {
-    let Ok(mut literals) = blank(alloc, netlist.signals(), builder.no()) else {
-        return Err(CnfFault::NoMemory);
-    };
+    let mut literals = blank(alloc, netlist.signals(), builder.no())?;
     fill(
         alloc,
         builder,

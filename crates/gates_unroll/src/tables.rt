@@ -90,9 +90,7 @@ fn large_table(
         (frames.signed table.now.value (some_row builder.old.given builder.old.nodes table.now.rows
         (map (literal_at builder.old.given literals.now) table.now.inputs))) result }
 {
-    let Ok(read) = literals_of(alloc, table.inputs.as_slice(), literals) else {
-        return Err(CnfFault::NoMemory);
-    };
+    let read = literals_of(alloc, table.inputs.as_slice(), literals)?;
     let fits = builder.rows(&table.rows, read.as_slice())?;
     Ok(signed(table.value, fits))
 }

@@ -55,9 +55,7 @@ pub fn add_somewhere(
     let mut literals = Literals::new(alloc);
     for position in 0..positions {
         let literal = (position * size + variable) as i32;
-        let Ok(()) = literals.push(literal) else {
-            return Err(CnfFault::NoMemory);
-        };
+        literals.push(literal)?;
     }
     cnf.push(literals.as_slice())
 }

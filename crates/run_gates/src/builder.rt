@@ -68,10 +68,8 @@ impl Builder {
         if self.gates.len() >= MOST_VARIABLES as usize {
             return Err(CnfFault::TooLarge);
         }
-        match self.gates.push(gate) {
-            Ok(()) => Ok(()),
-            Err(NoMemory) => Err(CnfFault::NoMemory),
-        }
+        self.gates.push(gate)?;
+        Ok(())
     }
 
     /// So many free gates more.

@@ -65,9 +65,7 @@ impl Held {
             Some(guard) => gates.implied(guard, literal)?,
             None => literal,
         };
-        match self.literals.push(counts) {
-            Ok(()) => Ok(()),
-            Err(NoMemory) => Err(CnfFault::NoMemory),
-        }
+        self.literals.push(counts)?;
+        Ok(())
     }
 }

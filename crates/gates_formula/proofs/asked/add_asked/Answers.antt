@@ -8,8 +8,8 @@ loop-place-init c =
     let making = c.args.builder.now in
     let past : length making.nodes ≤ length c.nodes-place.result.now = omega (arith, ap length c.nodes-place.ensures.is) in
     record {
-      size = c.in-Ok.ensures.size ∙ ap suc (c.variables.ensures.is ∙ sym c.requires.variables);
-      added = asked-start making (length c.nodes-place.result.now) c.args.clauses.now c.args.cnf.now c.in-Ok.marks past c.in-Ok.ensures.marks;
+      size = c.in_ok-marks.ensures.size ∙ ap suc (c.variables.ensures.is ∙ sym c.requires.variables);
+      added = asked-start making (length c.nodes-place.result.now) c.args.clauses.now c.args.cnf.now c.in_ok-marks.marks past c.in_ok-marks.ensures.marks;
     }
 
 pub returns-in_err-add_wanted : goal.returns-in_err-add_wanted
@@ -20,7 +20,7 @@ returns-in_err-add_wanted c =
     let next : c.loop-place.place ≡ suc place = omega arith in
     let below : place < length making.nodes = omega (arith, ap length c.nodes-place.ensures.is) in
     let before = subst (λ p. Asked making p clauses c.args.cnf.now c.loop-place.cnf c.loop-place.marks) next c.loop-place.invariant.added in
-    let p = err_from_is_err_and c.from_residual.result c.from_residual.ensures.1 in
+    let p = err_from_is_err_and c.from_residual-in_err-add_wanted.result c.from_residual-in_err-add_wanted.ensures.1 in
     rw (p.1, p.2) (asked-fails making place clauses c.args.cnf.now c.loop-place.cnf c.add_wanted.new.cnf c.loop-place.marks c.in_err-add_wanted.field-0.0 below before
     (c.in_err-add_wanted.ensures.clauses (wanted_from making (suc place) clauses) before.marks))
 

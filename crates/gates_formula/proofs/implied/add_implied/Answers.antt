@@ -26,7 +26,7 @@ add-requires c =
     let fits_literal : SFits w32 c.args.literal = search rules in
     let below : c.loop-cube.cube-index < length c.args.cubes.now = omega arith in
     let here = item-within n c.args.cubes.now c.loop-cube.cube-index cube below c.cube-item.is c.loop-cube.invariant.within in
-    let made = simp to_z-of_z at c.in-Ok.ensures in
+    let made = simp to_z-of_z at c.in_ok-clause.ensures in
     let is : c.as_slice-in-loop-cube.result.now ≡ literal ∷ map neg_ℤ cube = c.as_slice-in-loop-cube.ensures ∙ made ∙ ap (λ l. literal ∷ map neg_ℤ l) c.as_slice.ensures in
     rw (c.loop-cube.invariant.so_far.variables, is) (more_within n literal (map neg_ℤ cube) c.requires.literal (negated_all n cube here.0))
 
@@ -39,12 +39,12 @@ returns-in_err-add c =
     let i = c.loop-cube.cube-index in
     let fits_literal : SFits w32 c.args.literal = search rules in
     let below : c.loop-cube.cube-index < length c.args.cubes.now = omega arith in
-    let made = simp to_z-of_z at c.in-Ok.ensures in
+    let made = simp to_z-of_z at c.in_ok-clause.ensures in
     let is : c.as_slice-in-loop-cube.result.now ≡ literal ∷ map neg_ℤ cube = c.as_slice-in-loop-cube.ensures ∙ made ∙ ap (λ l. literal ∷ map neg_ℤ l) c.as_slice.ensures in
     let so_far = simp to_z-of_z at c.loop-cube.invariant.so_far in
     let left = subst (λ (rest : Clauses). AddsSoFar old c.loop-cube.cnf (implied literal rest) (implied literal cubes)) (item-at cubes i cube below c.cube-item.is) so_far in
     let failed = subst (λ (clause : List ℤ). Adds {A = Unit {0}} c.loop-cube.cnf c.add.new.cnf (clause ∷ []) (Err c.in_err-add.field-0.0)) is c.in_err-add.ensures in
-    let p = err_from_is_err_and c.from_residual.result c.from_residual.ensures.1 in
+    let p = err_from_is_err_and c.from_residual-in_err-add.result c.from_residual-in_err-add.ensures.1 in
     rw (p.1, p.2) (so_far-err old c.loop-cube.cnf c.add.new.cnf ((literal ∷ map neg_ℤ cube) ∷ []) (implied literal (drop (suc i) cubes)) (implied literal cubes) c.in_err-add.field-0.0 left failed)
 
 pub loop-cube-preserved : goal.loop-cube-preserved
@@ -56,7 +56,7 @@ loop-cube-preserved c =
     let i = c.loop-cube.cube-index in
     let fits_literal : SFits w32 c.args.literal = search rules in
     let below : c.loop-cube.cube-index < length c.args.cubes.now = omega arith in
-    let made = simp to_z-of_z at c.in-Ok.ensures in
+    let made = simp to_z-of_z at c.in_ok-clause.ensures in
     let is : c.as_slice-in-loop-cube.result.now ≡ literal ∷ map neg_ℤ cube = c.as_slice-in-loop-cube.ensures ∙ made ∙ ap (λ l. literal ∷ map neg_ℤ l) c.as_slice.ensures in
     let so_far = simp to_z-of_z at c.loop-cube.invariant.so_far in
     let left = subst (λ (rest : Clauses). AddsSoFar old c.loop-cube.cnf (implied literal rest) (implied literal cubes)) (item-at cubes i cube below c.cube-item.is) so_far in

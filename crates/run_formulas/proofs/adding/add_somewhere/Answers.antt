@@ -14,7 +14,7 @@ loop-position-preserved c =
     let below = higher-below size c.args.positions variable position c.requires.variable c.loop-position-test.true in
     let fits = c.requires.fits in
     rw (
-      c.in-Ok.ensures.ok,
+      c.in_ok-push.ensures.ok,
       to_z_pos w32 (position * size + variable) (omega (arith, below)),
       c.loop-position.invariant,
       map-range_with_len_more (λ i. moved (i * size) (pos variable)) 0 position position (omega arith),
