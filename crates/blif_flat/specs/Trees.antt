@@ -14,9 +14,12 @@ use Rattle.blif_flat.specs.Lines.{all_but_last, last_of, table_by, mentions_of}
 
 -- the output of a table has the value that its rows say of its inputs
 abbrev pub TableSays : LineKind → List ℕ → (ℕ → Bool) → Type 0
+TableSays kinds.Inputs names value = Unit {0}
+TableSays kinds.Outputs names value = Unit {0}
+TableSays (kinds.Latch init) names value = Unit {0}
+TableSays (kinds.Table rows) [] value = Unit {0}
 TableSays (kinds.Table rows) (name ∷ names) value =
     value (last_of (name ∷ names)) ≡ output_by (table_by rows (name ∷ names)) (map value (all_but_last (name ∷ names)))
-TableSays kind names value = Unit {0}
 
 abbrev pub LineSays : ModelLine → (ℕ → Bool) → Type 0
 LineSays line value = TableSays line.kind line.mentions value
@@ -27,8 +30,11 @@ IsInstanceTree models tree = IsTree models LineSays tree
 
 -- the output of a latch has a first value that it may have
 abbrev pub LatchBegins : LineKind → List ℕ → (ℕ → Bool) → Type 0
+LatchBegins kinds.Inputs names value = Unit {0}
+LatchBegins kinds.Outputs names value = Unit {0}
 LatchBegins (kinds.Latch init) (input ∷ output ∷ []) value = MayBegin init (value output)
-LatchBegins kind names value = Unit {0}
+LatchBegins (kinds.Latch init) names value = Unit {0}
+LatchBegins (kinds.Table rows) names value = Unit {0}
 
 abbrev pub TreeBegins : Models → Tree Bool → Type 0
 TreeBegins models tree =
@@ -37,8 +43,11 @@ TreeBegins models tree =
 
 -- and takes the value that its input had
 abbrev pub LatchMoves : LineKind → List ℕ → (ℕ → Bool) → (ℕ → Bool) → Type 0
+LatchMoves kinds.Inputs names earlier later = Unit {0}
+LatchMoves kinds.Outputs names earlier later = Unit {0}
 LatchMoves (kinds.Latch init) (input ∷ output ∷ []) earlier later = later output ≡ earlier input
-LatchMoves kind names earlier later = Unit {0}
+LatchMoves (kinds.Latch init) names earlier later = Unit {0}
+LatchMoves (kinds.Table rows) names earlier later = Unit {0}
 
 abbrev pub TreeMoves : Models → Tree Bool → Tree Bool → Type 0
 TreeMoves models earlier later =

@@ -105,7 +105,7 @@ fn inputs_at<'a>(item: &'a Item<ModelLine>) -> &'a [u32]
     match item {
         Item::Own(line) => match line.kind {
             LineKind::Inputs => line.mentions.as_slice(),
-            _ => &[],
+            LineKind::Outputs | LineKind::Latch(_) | LineKind::Table(_) => &[],
         },
         Item::Place(_) => &[],
     }

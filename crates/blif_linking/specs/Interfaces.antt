@@ -5,7 +5,7 @@ use Rattle.std.specs.List.{list_any}
 use Rattle.std.specs.Str.{bytes_eq}
 use Rattle.psl_base.specs.Tokens.{PlacedToken}
 use Rattle.blif_model.specs.Files.{Part}
-use Rattle.blif_model.specs.Models.{Model, Statement, IsInputs, IsOutputs}
+use Rattle.blif_model.specs.Models.{Model, Statement, IsInputs, IsLatch, IsOutputs, IsTable}
 pub use Rattle.blif_linking.specs.declared.role.Role.{Role}
 pub use Rattle.blif_linking.specs.declared.role.Role.TheVariants.{Input, Output, Clock}
 
@@ -15,12 +15,16 @@ texts_of words = map (λ word. word.text) words
 abbrev pub inputs_in : List Statement → List (List ℕ)
 inputs_in [] = []
 inputs_in (IsInputs words ∷ statements) = texts_of words ++ inputs_in statements
-inputs_in (statement ∷ statements) = inputs_in statements
+inputs_in (IsOutputs words ∷ statements) = inputs_in statements
+inputs_in (IsLatch latch ∷ statements) = inputs_in statements
+inputs_in (IsTable gate ∷ statements) = inputs_in statements
 
 abbrev pub outputs_in : List Statement → List (List ℕ)
 outputs_in [] = []
+outputs_in (IsInputs words ∷ statements) = outputs_in statements
 outputs_in (IsOutputs words ∷ statements) = texts_of words ++ outputs_in statements
-outputs_in (statement ∷ statements) = outputs_in statements
+outputs_in (IsLatch latch ∷ statements) = outputs_in statements
+outputs_in (IsTable gate ∷ statements) = outputs_in statements
 
 abbrev pub is_one_of : List (List ℕ) → List ℕ → Bool
 is_one_of names name = list_any (bytes_eq name) names

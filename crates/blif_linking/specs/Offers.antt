@@ -13,9 +13,10 @@ use Rattle.blif_linking.specs.Sets.{gathered, text_at}
 
 -- the numbers that an item lists as inputs, or as outputs
 abbrev pub listed_by : Bool → LineKind → List ℕ → List ℕ
-listed_by true kinds.Inputs numbers = numbers
-listed_by false kinds.Outputs numbers = numbers
-listed_by inputs kind numbers = []
+listed_by inputs kinds.Inputs numbers = cond inputs numbers []
+listed_by inputs kinds.Outputs numbers = cond inputs [] numbers
+listed_by inputs (kinds.Latch init) numbers = []
+listed_by inputs (kinds.Table rows) numbers = []
 
 abbrev pub listed_at : Bool → Item ModelLine → List ℕ
 listed_at inputs (Own line) = listed_by inputs line.kind line.mentions

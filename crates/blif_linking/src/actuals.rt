@@ -28,7 +28,7 @@ pub(crate) struct Actual<'a> {
 /// The actuals of a placement's inputs and outputs, in the order of its connections.
 pub(crate) fn actuals_at<'a>(
     alloc: Global,
-    library: &Library<'_, 'a>,
+    library: &Library<'_, 'a, '_, '_>,
     line: &PlacementLine,
 ) -> Result<Vec<Actual<'a>>, NoMemory>
     requires { IsPlacementWithin library.now.whole.now line.now }

@@ -111,7 +111,7 @@ fn twice_by<'a>(
 /// The names that connections drive, each once.
 pub(crate) fn found_in<'a>(
     alloc: Global,
-    library: &Library<'_, 'a>,
+    library: &Library<'_, 'a, '_, '_>,
     lines: &[PlacementLine],
 ) -> Result<NameTable<'a>, NoMemory>
     requires { All (IsPlacementWithin library.now.whole.now) lines.now }

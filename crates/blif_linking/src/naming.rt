@@ -48,7 +48,7 @@ pub(crate) fn names_of<'a>(
 
 fn named_among<'a>(
     alloc: Global,
-    library: &Library<'_, 'a>,
+    library: &Library<'_, 'a, '_, '_>,
     models: &[FileModel<'a>],
 ) -> Result<Items<NameTable<'a>>, NoMemory>
     requires { All (IsModelWithin library.now.whole.now) models.now }
@@ -64,7 +64,7 @@ fn named_among<'a>(
 
 fn named_within<'a>(
     alloc: Global,
-    library: &Library<'_, 'a>,
+    library: &Library<'_, 'a, '_, '_>,
     model: &FileModel<'a>,
 ) -> Result<NameTable<'a>, NoMemory>
     requires { IsModelWithin library.now.whole.now model.now }

@@ -145,9 +145,9 @@ file-words-step whole file known (head ∷ words) follows faultless =
 by-fault : (whole : List ℕ) (file : FileStanding) (known : FileKnown) (command : FileCommand) (head : PlacedToken) (words : List PlacedToken)
     → FileFollows whole file known → file_command_fault_in known command head words ≡ file_fault_by file command head words
 by-fault whole file known Begin head words follows =
-    ap (λ (flags : Flags). option_map (λ rule. rule head.place) (begin_rule (is_bad_model flags commands.Model words) (is_repeated known.titles words)))
+    ap (λ (flags : Flags). option_map (λ rule. rule head.place) (begin_rule (is_bad_model flags words) (is_repeated known.titles words)))
     (flags-are whole file.own known.own follows.own)
-    ∙ ap (λ titles. option_map (λ rule. rule head.place) (begin_rule (is_bad_model (flags_of file.own) commands.Model words) (is_repeated titles words)))
+    ∙ ap (λ titles. option_map (λ rule. rule head.place) (begin_rule (is_bad_model (flags_of file.own) words) (is_repeated titles words)))
     follows.titles
 by-fault whole file known Place head words follows = command-fault-is whole file.own known.own commands.Clock head [] follows.own
 by-fault whole file known (Own command) head words follows =

@@ -147,4 +147,4 @@ not-repeated false false place is = cc
 pub begin-new : (file : FileKnown) (head word : PlacedToken) (words : List PlacedToken) → begin_fault_in file head (word ∷ words) ≡ None
     → is_new file.titles word.text ≡ true
 begin-new file head word words none =
-    not-repeated (is_bad_model (flags_in file.own) commands.Model (word ∷ words)) (is_new file.titles word.text) head.place none
+    not-repeated (is_bad_model (flags_in file.own) (word ∷ words)) (is_new file.titles word.text) head.place none

@@ -6,6 +6,7 @@ pub mod Filed
 pub mod Following
 pub mod Going
 pub mod Growing
+pub mod Hashed
 pub mod Held
 pub mod Holding
 pub mod Keeping

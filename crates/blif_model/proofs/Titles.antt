@@ -8,7 +8,6 @@ use Rattle.std.specs.Option.{option_map, option_or}
 use Rattle.std.specs.Str.{bytes_eq}
 use Rattle.psl_base.specs.Tokens.{PlacedToken}
 use Rattle.psl_base.specs.declared.place.Place.{Place as PlaceOf}
-use Rattle.blif_model.specs.declared.command.Command.TheVariants as commands
 use Rattle.blif_model.specs.declared.fault.BlifFault.{BlifFault}
 use Rattle.blif_model.specs.declared.fault.BlifFault.TheVariants.{MissingEnd}
 use Rattle.blif_model.specs.declared.file.FileCommand.{FileCommand}
@@ -52,7 +51,7 @@ rule_none false repeated place is = refl
 has-name : (file : FileStanding) (head : PlacedToken) (words : List PlacedToken) → begin_fault file head words ≡ None → first_of words ≡ None → ⊥
 has-name file head words none =
     let flags = flags_of file.own in
-    let bad = rule_none (is_bad_model flags commands.Model words) (is_repeated (titles_of file) words) head.place none in
+    let bad = rule_none (is_bad_model flags words) (is_repeated (titles_of file) words) head.place none in
     some-first words (or_false (has_one words) (flags.begun && not flags.titled) bad)
 
 begun : (file : FileStanding) (words : List PlacedToken) (title : Option PlacedToken) → file.title ≡ title → (first_of words ≡ None → ⊥)

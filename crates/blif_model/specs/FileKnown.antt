@@ -1,6 +1,6 @@
 -- What is known of a text of several models after some of its lines, and how each line adds to it: what the code is
 -- proved against. That this is what the definitions say is the law of reading files.
-use Rattle.std.specs.Prelude.{◌≡◌, ℕ, Bool, List, [], ◌∷◌, ◌++◌, length, map, All, Option, None, Some, IfSome, Result, Ok}
+use Rattle.std.specs.Prelude.{◌≡◌, ℕ, Bool, cond, List, [], ◌∷◌, ◌++◌, length, map, All, Option, None, Some, IfSome, Result, Ok}
 use Rattle.std.specs.Option.{option_map, option_or}
 use Rattle.psl_base.specs.Tokens.{PlacedToken}
 use Rattle.blif_model.specs.declared.command.Command.{Command}
@@ -15,6 +15,7 @@ use Rattle.blif_model.specs.declared.file.OwnText.{OwnText}
 use Rattle.blif_model.specs.declared.file.PlacementLine.{PlacementLine}
 use Rattle.blif_model.specs.declared.pieces.Span.{Span}
 use Rattle.blif_model.specs.declared.text.ModelText.{ModelText}
+use Rattle.blif_model.specs.Commands.{is_table_row}
 use Rattle.blif_model.specs.Files.{Part, Placing, begin_rule, clocks_by, file_command_of, first_of, is_repeated, model_named, models_of, title_text}
 use Rattle.blif_model.specs.Known.{Known, closed, command_fault_in, flags_in, known_by_command, nothing_known, raised, text_of}
 use Rattle.blif_model.specs.Lines.{Line}
@@ -113,7 +114,7 @@ file_known_after file (head ∷ words) = file_known_by file (file_command_of hea
 abbrev pub begin_fault_in : FileKnown → PlacedToken → List PlacedToken → Option BlifFault
 begin_fault_in file head words =
     option_map (λ rule. rule head.place)
-    (begin_rule (is_bad_model (flags_in file.own) commands.Model words) (is_repeated file.titles words))
+    (begin_rule (is_bad_model (flags_in file.own) words) (is_repeated file.titles words))
 
 abbrev pub file_command_fault_in : FileKnown → FileCommand → PlacedToken → List PlacedToken → Option BlifFault
 file_command_fault_in file Begin head words = begin_fault_in file head words
@@ -175,8 +176,7 @@ IsNumbered whole text parts =
 
 -- the words that belong to a command, of all words of a line and of those behind the first: all of a row
 abbrev pub spans_of : Command → List Span → List Span → List Span
-spans_of commands.Row words rest = words
-spans_of command words rest = rest
+spans_of command words rest = cond (is_table_row command) words rest
 
 -- a text says models, which these are by numbers
 abbrev pub FileSays : List ℕ → FileText → Type 0

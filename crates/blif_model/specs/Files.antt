@@ -102,8 +102,15 @@ placed_by file head words =
     }
 
 abbrev pub clocks_by : Command → List PlacedToken → List PlacedToken
+clocks_by commands.Model words = []
+clocks_by commands.Inputs words = []
+clocks_by commands.Outputs words = []
+clocks_by commands.Names words = []
+clocks_by commands.Latch words = []
 clocks_by commands.Clock words = words
-clocks_by command words = []
+clocks_by commands.End words = []
+clocks_by commands.Unknown words = []
+clocks_by commands.Row words = []
 
 -- a line of the model that is read
 abbrev pub said_by_own : FileStanding → Command → List PlacedToken → FileStanding
@@ -137,7 +144,7 @@ begin_rule bad repeated = cond bad (Some BadModel) (cond repeated (Some SecondMo
 abbrev pub begin_fault : FileStanding → PlacedToken → List PlacedToken → Option BlifFault
 begin_fault file head words =
     option_map (λ rule. rule head.place)
-    (begin_rule (is_bad_model (flags_of file.own) commands.Model words) (is_repeated (titles_of file) words))
+    (begin_rule (is_bad_model (flags_of file.own) words) (is_repeated (titles_of file) words))
 
 -- the faults of other lines are those of the model that is read
 abbrev pub file_fault_by : FileStanding → FileCommand → PlacedToken → List PlacedToken → Option BlifFault

@@ -120,12 +120,15 @@ row_on words table = row_onto table (row_of table.width words)
 
 -- what a command adds
 abbrev pub said_with : Known → Command → List PlacedToken → Known
-said_with known commands.Row words = record known { table = option_map (row_on words) known.table }
+said_with known commands.Model words = with_closed known
 said_with known commands.Inputs words = with_line known (map driven words) kinds.Inputs
 said_with known commands.Outputs words = with_line known (map used words) kinds.Outputs
 said_with known commands.Names words = with_table_of known words (last_of words)
 said_with known commands.Latch words = with_latch_of known (latch_of words)
-said_with known command words = with_closed known
+said_with known commands.Clock words = with_closed known
+said_with known commands.End words = with_closed known
+said_with known commands.Unknown words = with_closed known
+said_with known commands.Row words = record known { table = option_map (row_on words) known.table }
 
 -- what is known after a command
 abbrev pub after_command : Known → Command → Known
@@ -170,11 +173,17 @@ latch_fault_of known latch =
 
 -- the first fault of a line behind its first word
 abbrev pub said_fault : Known → Command → List PlacedToken → Option BlifFault
-said_fault known commands.Row words = row_fault_on known.table words
+said_fault known commands.Model words = names_fault_in known.named (mentions_of commands.Model words)
+said_fault known commands.Inputs words = names_fault_in known.named (mentions_of commands.Inputs words)
+said_fault known commands.Outputs words = names_fault_in known.named (mentions_of commands.Outputs words)
+said_fault known commands.Names words = names_fault_in known.named (mentions_of commands.Names words)
 said_fault known commands.Latch words =
     option_or (names_fault_in known.named (mentions_of commands.Latch words))
     (latch_fault known.clocking (latch_of words))
-said_fault known command words = names_fault_in known.named (mentions_of command words)
+said_fault known commands.Clock words = names_fault_in known.named (mentions_of commands.Clock words)
+said_fault known commands.End words = names_fault_in known.named (mentions_of commands.End words)
+said_fault known commands.Unknown words = names_fault_in known.named (mentions_of commands.Unknown words)
+said_fault known commands.Row words = row_fault_on known.table words
 
 abbrev pub head_fault_in : Known → Command → PlacedToken → List PlacedToken → Option BlifFault
 head_fault_in known command head words =

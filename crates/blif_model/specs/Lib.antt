@@ -5,6 +5,7 @@ pub mod Known
 pub mod FileExamples
 pub mod FileKnown
 pub mod Files
+pub mod Hashes
 pub mod Lines
 pub mod Models
 pub mod Names

@@ -26,8 +26,12 @@ class_of b bs =
 
 -- a part of a word
 abbrev pub is_part : Class → Bool
+is_part LineFeed = false
+is_part White = false
+is_part Comment = false
+is_part Join = false
+is_part Stray = false
 is_part Part = true
-is_part class = false
 
 -- the next byte is there, and is a part of a word
 abbrev pub goes_on : List ℕ → Bool

@@ -8,7 +8,7 @@ use Rattle.psl_base.specs.declared.place.Place.{Place}
 use Rattle.blif_model.specs.declared.command.Command.{Command}
 use Rattle.blif_model.specs.declared.command.Command.TheVariants as commands
 use Rattle.blif_model.specs.declared.fault.BlifFault.{BlifFault}
-use Rattle.blif_model.specs.declared.fault.BlifFault.TheVariants.{UnknownCommand, BadModel, BadRow, MixedRows, BadLatch, LatchType, TwoClocks, DrivenTwice, SecondModel, TooLarge}
+use Rattle.blif_model.specs.declared.fault.BlifFault.TheVariants.{UnknownCommand, BadRow, MixedRows, BadLatch, LatchType, TwoClocks, DrivenTwice, SecondModel, TooLarge}
 use Rattle.blif_model.specs.declared.flags.Flags.{Flags}
 use Rattle.blif_model.specs.declared.names.TheConstants.{SIGNAL_LIMIT}
 use Rattle.blif_model.specs.Models.{Gate, Mention, is_mentioned, is_driven, names_of}
@@ -21,17 +21,23 @@ signal_limit = SIGNAL_LIMIT
 
 -- UnknownCommand: the first word begins with a dot and is no command
 abbrev pub is_unknown : Command → Bool
+is_unknown commands.Model = false
+is_unknown commands.Inputs = false
+is_unknown commands.Outputs = false
+is_unknown commands.Names = false
+is_unknown commands.Latch = false
+is_unknown commands.Clock = false
+is_unknown commands.End = false
 is_unknown commands.Unknown = true
-is_unknown command = false
+is_unknown commands.Row = false
 
 -- BadModel: a `.model` without just one name, or a first one behind another command
 abbrev pub has_one : List PlacedToken → Bool
 has_one (word ∷ []) = true
 has_one words = false
 
-abbrev pub is_bad_model : Flags → Command → List PlacedToken → Bool
-is_bad_model flags commands.Model words = not (has_one words) || (flags.begun && not flags.titled)
-is_bad_model flags command words = false
+abbrev pub is_bad_model : Flags → List PlacedToken → Bool
+is_bad_model flags words = not (has_one words) || (flags.begun && not flags.titled)
 
 -- BadRow: a line that is no command and no row of the table above it; or a `.names` without a name
 abbrev pub is_row : Option ℕ → List PlacedToken → Bool
@@ -43,28 +49,36 @@ has_none [] = true
 has_none (word ∷ words) = false
 
 abbrev pub is_bad_row : Flags → Command → List PlacedToken → Bool
-is_bad_row flags commands.Row words = not (is_row flags.width words)
+is_bad_row flags commands.Model words = false
+is_bad_row flags commands.Inputs words = false
+is_bad_row flags commands.Outputs words = false
 is_bad_row flags commands.Names words = has_none words
-is_bad_row flags command words = false
+is_bad_row flags commands.Latch words = false
+is_bad_row flags commands.Clock words = false
+is_bad_row flags commands.End words = false
+is_bad_row flags commands.Unknown words = false
+is_bad_row flags commands.Row words = not (is_row flags.width words)
 
 -- BadLatch: words that are no latch
 abbrev pub is_bad_latch : Command → List PlacedToken → Bool
+is_bad_latch commands.Model words = false
+is_bad_latch commands.Inputs words = false
+is_bad_latch commands.Outputs words = false
+is_bad_latch commands.Names words = false
 is_bad_latch commands.Latch words = is_none (latch_of words)
-is_bad_latch command words = false
+is_bad_latch commands.Clock words = false
+is_bad_latch commands.End words = false
+is_bad_latch commands.Unknown words = false
+is_bad_latch commands.Row words = false
 
--- SecondModel: a second `.model`, or any line behind `.end`
-abbrev pub is_second : Flags → Command → Bool
-is_second flags commands.Model = flags.titled || flags.ended
-is_second flags command = flags.ended
-
--- the fault at the first word of a line, where it has one: it wants its place
+-- the fault at the first word of a line of a model behind its `.model`, where it has one: it wants its place.
+-- SecondModel: the line stands behind `.end`
 abbrev pub head_rule_by : Flags → Command → List PlacedToken → Option (Place → BlifFault)
 head_rule_by flags command words =
     cond (is_unknown command) (Some UnknownCommand)
-    (cond (is_bad_model flags command words) (Some BadModel)
     (cond (is_bad_row flags command words) (Some BadRow)
     (cond (is_bad_latch command words) (Some BadLatch)
-    (cond (is_second flags command) (Some SecondModel) None))))
+    (cond flags.ended (Some SecondModel) None)))
 
 -- the table whose rows may follow has so many inputs
 abbrev pub width_of : Bool → Option Gate → Option ℕ
@@ -135,10 +149,16 @@ latch_fault earlier (Some latch) = clocking_fault earlier latch.clocking
 
 -- the first fault behind the first word of a line
 abbrev pub tail_fault : Standing → Command → List PlacedToken → Option BlifFault
-tail_fault standing commands.Row words = row_fault (last_table standing.model.statements) words
+tail_fault standing commands.Model words = names_fault standing.model.mentions (mentions_of commands.Model words)
+tail_fault standing commands.Inputs words = names_fault standing.model.mentions (mentions_of commands.Inputs words)
+tail_fault standing commands.Outputs words = names_fault standing.model.mentions (mentions_of commands.Outputs words)
+tail_fault standing commands.Names words = names_fault standing.model.mentions (mentions_of commands.Names words)
 tail_fault standing commands.Latch words =
     option_or (names_fault standing.model.mentions (mentions_of commands.Latch words)) (latch_fault standing.clocking (latch_of words))
-tail_fault standing command words = names_fault standing.model.mentions (mentions_of command words)
+tail_fault standing commands.Clock words = names_fault standing.model.mentions (mentions_of commands.Clock words)
+tail_fault standing commands.End words = names_fault standing.model.mentions (mentions_of commands.End words)
+tail_fault standing commands.Unknown words = names_fault standing.model.mentions (mentions_of commands.Unknown words)
+tail_fault standing commands.Row words = row_fault (last_table standing.model.statements) words
 
 abbrev pub command_fault : Standing → Command → PlacedToken → List PlacedToken → Option BlifFault
 command_fault standing command head words =

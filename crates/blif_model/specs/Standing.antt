@@ -1,8 +1,9 @@
 -- What the lines before a line have said.
-use Rattle.std.specs.Prelude.{Bool, true, false, List, [], ◌∷◌, ◌++◌, map, length, Option, None, Some}
+use Rattle.std.specs.Prelude.{Bool, true, false, cond, List, [], ◌∷◌, ◌++◌, map, length, Option, None, Some}
 use Rattle.psl_base.specs.Tokens.{PlacedToken}
 use Rattle.blif_model.specs.declared.command.Command.{Command}
 use Rattle.blif_model.specs.declared.command.Command.TheVariants as commands
+use Rattle.blif_model.specs.Commands.{is_table_row}
 use Rattle.blif_model.specs.Models.{Gate, Mention, Model, Statement, IsInputs}
 use Rattle.blif_model.specs.Models.{IsOutputs, IsLatch, IsTable, driven, used, nothing_said}
 use Rattle.blif_model.specs.Shapes.{Clocking, Row, LatchParts, row_of, latch_of, is_one}
@@ -43,16 +44,22 @@ mentions_of_latch (Some latch) = used latch.input ∷ driven latch.output ∷ []
 
 -- the names that a command mentions, in order
 abbrev pub mentions_of : Command → List PlacedToken → List Mention
+mentions_of commands.Model words = []
 mentions_of commands.Inputs words = map driven words
 mentions_of commands.Outputs words = map used words
 mentions_of commands.Names words = mentions_of_names words
 mentions_of commands.Latch words = mentions_of_latch (latch_of words)
-mentions_of command words = []
+mentions_of commands.Clock words = []
+mentions_of commands.End words = []
+mentions_of commands.Unknown words = []
+mentions_of commands.Row words = []
 
 -- the table that was said last, where nothing else was said behind it
 abbrev pub table_of : Statement → Option Gate
+table_of (IsInputs words) = None
+table_of (IsOutputs words) = None
+table_of (IsLatch latch) = None
 table_of (IsTable gate) = Some gate
-table_of statement = None
 
 abbrev pub last_table : List Statement → Option Gate
 last_table [] = None
@@ -65,8 +72,10 @@ with_row gate None = gate
 with_row gate (Some row) = record gate { rows = gate.rows ++ row.marks ∷ []; value = is_one row.output.text }
 
 abbrev pub with_row_in : Statement → List PlacedToken → Statement
+with_row_in (IsInputs names) words = IsInputs names
+with_row_in (IsOutputs names) words = IsOutputs names
+with_row_in (IsLatch latch) words = IsLatch latch
 with_row_in (IsTable gate) words = IsTable (with_row gate (row_of (length gate.inputs) words))
-with_row_in statement words = statement
 
 -- the table that was said last has a row more
 abbrev pub with_last_row : List Statement → List PlacedToken → List Statement
@@ -85,20 +94,24 @@ latch_by (Some latch) = IsLatch (record { input = latch.input; output = latch.ou
 
 -- what a command says that is no row
 abbrev pub statements_of : Command → List PlacedToken → List Statement
+statements_of commands.Model words = []
 statements_of commands.Inputs words = IsInputs words ∷ []
 statements_of commands.Outputs words = IsOutputs words ∷ []
 statements_of commands.Names words = table_by words (last_of words)
 statements_of commands.Latch words = latch_by (latch_of words)
-statements_of command words = []
+statements_of commands.Clock words = []
+statements_of commands.End words = []
+statements_of commands.Unknown words = []
+statements_of commands.Row words = []
 
 -- what is said of the model with one command more
 abbrev pub said_by : Model → Command → List PlacedToken → Model
-said_by model commands.Row words = record model { statements = with_last_row model.statements words }
 said_by model command words =
-    record {
+    cond (is_table_row command) (record model { statements = with_last_row model.statements words })
+    (record {
       mentions = model.mentions ++ mentions_of command words;
       statements = model.statements ++ statements_of command words;
-    }
+    })
 
 abbrev pub clocking_in : Option LatchParts → Option Clocking
 clocking_in None = None
@@ -110,21 +123,48 @@ first_clocking None later = later
 first_clocking (Some clocking) later = Some clocking
 
 abbrev pub clocking_by : Option Clocking → Command → List PlacedToken → Option Clocking
+clocking_by clocking commands.Model words = clocking
+clocking_by clocking commands.Inputs words = clocking
+clocking_by clocking commands.Outputs words = clocking
+clocking_by clocking commands.Names words = clocking
 clocking_by clocking commands.Latch words = first_clocking clocking (clocking_in (latch_of words))
-clocking_by clocking command words = clocking
+clocking_by clocking commands.Clock words = clocking
+clocking_by clocking commands.End words = clocking
+clocking_by clocking commands.Unknown words = clocking
+clocking_by clocking commands.Row words = clocking
 
 abbrev pub is_in_table : Bool → Command → Bool
+is_in_table before commands.Model = false
+is_in_table before commands.Inputs = false
+is_in_table before commands.Outputs = false
 is_in_table before commands.Names = true
+is_in_table before commands.Latch = false
+is_in_table before commands.Clock = false
+is_in_table before commands.End = false
+is_in_table before commands.Unknown = false
 is_in_table before commands.Row = before
-is_in_table before command = false
 
 abbrev pub is_titled : Bool → Command → Bool
 is_titled before commands.Model = true
-is_titled before command = before
+is_titled before commands.Inputs = before
+is_titled before commands.Outputs = before
+is_titled before commands.Names = before
+is_titled before commands.Latch = before
+is_titled before commands.Clock = before
+is_titled before commands.End = before
+is_titled before commands.Unknown = before
+is_titled before commands.Row = before
 
 abbrev pub is_ended : Bool → Command → Bool
+is_ended before commands.Model = before
+is_ended before commands.Inputs = before
+is_ended before commands.Outputs = before
+is_ended before commands.Names = before
+is_ended before commands.Latch = before
+is_ended before commands.Clock = before
 is_ended before commands.End = true
-is_ended before command = before
+is_ended before commands.Unknown = before
+is_ended before commands.Row = before
 
 -- what is said with one command more, and the words behind it; the words of a row are all of its line
 abbrev pub standing_by_command : Standing → Command → List PlacedToken → Standing
@@ -139,5 +179,4 @@ standing_by_command standing command words = record {
 
 -- the words that belong to a command: those behind it, or all of a row
 abbrev pub words_of : Command → PlacedToken → List PlacedToken → List PlacedToken
-words_of commands.Row head words = head ∷ words
-words_of command head words = words
+words_of command head words = cond (is_table_row command) (head ∷ words) words

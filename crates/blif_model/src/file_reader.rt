@@ -118,7 +118,7 @@ impl<'a> FileReader<'a> {
         requires words { All (IsWithin self.now.own.named.whole) words.now }
         ensures { result ≡ begin_fault_in self.now (word_of self.now.own.named.whole head) (map (word_of self.now.own.named.whole) words.now) }
     {
-        if is_bad_model(&self.own.flags(), Command::Model, words) {
+        if is_bad_model(&self.own.flags(), words) {
             return Some(BlifFault::BadModel(place_in(self.own.whole(), head)));
         }
         if self.is_repeated(words) {
@@ -250,10 +250,28 @@ fn add_clocks(clocks: &mut Spans, command: Command, words: &[Span]) -> Result<()
     ensures within { (whole : List ℕ) → All (IsWithin whole) clocks.old → All (IsWithin whole) words.now
         → OnOk result (All (IsWithin whole) clocks.new) }
 {
-    if matches!(command, Command::Clock) {
-        for word in words {
-            clocks.push(*word)?;
-        }
+    match command {
+        Command::Clock => add_words(clocks, words),
+        Command::Model
+        | Command::Inputs
+        | Command::Outputs
+        | Command::Names
+        | Command::Latch
+        | Command::End
+        | Command::Unknown
+        | Command::Row => Ok(()),
+    }
+}
+
+/// Words come behind others.
+fn add_words(all: &mut Spans, words: &[Span]) -> Result<(), NoMemory>
+    ensures added { (whole : List ℕ) → OnOk result (map (word_of whole) all.new
+        ≡ map (word_of whole) all.old ++ map (word_of whole) words.now) }
+    ensures within { (whole : List ℕ) → All (IsWithin whole) all.old → All (IsWithin whole) words.now
+        → OnOk result (All (IsWithin whole) all.new) }
+{
+    for word in words {
+        all.push(*word)?;
     }
     Ok(())
 }
@@ -264,7 +282,14 @@ fn spans_of<'b>(command: Command, words: &'b [Span], rest: &'b [Span]) -> &'b [S
 {
     match command {
         Command::Row => words,
-        _ => rest,
+        Command::Model
+        | Command::Inputs
+        | Command::Outputs
+        | Command::Names
+        | Command::Latch
+        | Command::Clock
+        | Command::End
+        | Command::Unknown => rest,
     }
 }
 

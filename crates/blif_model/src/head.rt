@@ -1,7 +1,7 @@
 ghost use Rattle.std.specs.Prelude.{◌≡◌, ℕ, ◌≤◌, List, length, map, All};
 ghost use Rattle.std.specs.Option.{option_map};
 ghost use Rattle.psl_base.specs.Places.{file_limit};
-ghost use Rattle.blif_model.specs.Rules.{head_rule_by, is_bad_latch, is_bad_model, is_bad_row, is_second, is_unknown};
+ghost use Rattle.blif_model.specs.Rules.{head_rule_by, is_bad_latch, is_bad_model, is_bad_row, is_unknown};
 ghost use Rattle.blif_model.specs.Scanning.{IsWithin, word_of};
 
 use crate::BlifFault;
@@ -11,7 +11,8 @@ use crate::pieces::Span;
 use crate::shapes::{is_row, latch_of};
 use crate::signals::place_in;
 
-/// The fault at the first word of a line, if it has one. The words are those behind a command, or all of a row.
+/// The fault at the first word of a line of a model behind its `.model`, if it has one. The words are those behind a
+/// command, or all of a row.
 pub fn head_fault(
     whole: &[u8],
     flags: &Flags,
@@ -24,11 +25,8 @@ pub fn head_fault(
     requires words { All (IsWithin whole.now) words.now }
     ensures { result ≡ option_map (λ rule. rule (word_of whole.now head).place) (head_rule_by flags.now command (map (word_of whole.now) words.now)) }
 {
-    if matches!(command, Command::Unknown) {
+    if is_unknown(command) {
         return Some(BlifFault::UnknownCommand(place_in(whole, head)));
-    }
-    if is_bad_model(flags, command, words) {
-        return Some(BlifFault::BadModel(place_in(whole, head)));
     }
     if is_bad_row(whole, flags, command, words) {
         return Some(BlifFault::BadRow(place_in(whole, head)));
@@ -36,19 +34,33 @@ pub fn head_fault(
     if is_bad_latch(whole, command, words) {
         return Some(BlifFault::BadLatch(place_in(whole, head)));
     }
-    if is_second(flags, command) {
+    if flags.ended {
         return Some(BlifFault::SecondModel(place_in(whole, head)));
     }
     None
 }
 
 /// A `.model` without just one name, or a first one behind another command.
-pub fn is_bad_model(flags: &Flags, command: Command, words: &[Span]) -> bool
-    ensures { (whole : List ℕ) → result ≡ is_bad_model flags.now command (map (word_of whole) words.now) }
+pub fn is_bad_model(flags: &Flags, words: &[Span]) -> bool
+    ensures { (whole : List ℕ) → result ≡ is_bad_model flags.now (map (word_of whole) words.now) }
+{
+    words.len() != 1 || (flags.begun && !flags.titled)
+}
+
+/// A word that begins with a dot and is no command.
+fn is_unknown(command: Command) -> bool
+    ensures { result ≡ is_unknown command }
 {
     match command {
-        Command::Model => words.len() != 1 || (flags.begun && !flags.titled),
-        _ => false,
+        Command::Unknown => true,
+        Command::Model
+        | Command::Inputs
+        | Command::Outputs
+        | Command::Names
+        | Command::Latch
+        | Command::Clock
+        | Command::End
+        | Command::Row => false,
     }
 }
 
@@ -63,7 +75,13 @@ fn is_bad_row(whole: &[u8], flags: &Flags, command: Command, words: &[Span]) -> 
             None => true,
         },
         Command::Names => words.is_empty(),
-        _ => false,
+        Command::Model
+        | Command::Inputs
+        | Command::Outputs
+        | Command::Latch
+        | Command::Clock
+        | Command::End
+        | Command::Unknown => false,
     }
 }
 
@@ -74,16 +92,13 @@ fn is_bad_latch(whole: &[u8], command: Command, words: &[Span]) -> bool
 {
     match command {
         Command::Latch => latch_of(whole, words).is_none(),
-        _ => false,
-    }
-}
-
-/// A second `.model`, or any line behind `.end`.
-fn is_second(flags: &Flags, command: Command) -> bool
-    ensures { result ≡ is_second flags.now command }
-{
-    match command {
-        Command::Model => flags.titled || flags.ended,
-        _ => flags.ended,
+        Command::Model
+        | Command::Inputs
+        | Command::Outputs
+        | Command::Names
+        | Command::Clock
+        | Command::End
+        | Command::Unknown
+        | Command::Row => false,
     }
 }

@@ -91,7 +91,7 @@ impl<'a> Pieces<'a> {
                 self.at = self.whole.len();
                 Found::Backslash(start as u32)
             }
-            _ => {
+            Class::White | Class::Comment | Class::Join | Class::Part => {
                 let end = word_end(self.whole, start);
                 self.at = end;
                 Found::Word(Span {
@@ -187,5 +187,8 @@ fn is_part(text: &[u8], at: usize) -> bool
     requires { at < length text.now }
     ensures { result ≡ part (class_of (slice_index text.now at) (drop (at + 1) text.now)) }
 {
-    matches!(class_at(text, at), Class::Part)
+    match class_at(text, at) {
+        Class::Part => true,
+        Class::LineFeed | Class::White | Class::Comment | Class::Join | Class::Stray => false,
+    }
 }

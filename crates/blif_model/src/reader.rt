@@ -146,7 +146,13 @@ impl<'a> Reader<'a> {
         match command {
             Command::Model => self.titled = true,
             Command::End => self.ended = true,
-            _ => {}
+            Command::Inputs
+            | Command::Outputs
+            | Command::Names
+            | Command::Latch
+            | Command::Clock
+            | Command::Unknown
+            | Command::Row => {}
         }
     }
 

@@ -13,7 +13,7 @@ use Rattle.blif_model.specs.declared.fault.BlifFault.TheVariants.{UnknownCommand
 use Rattle.blif_model.specs.Lines.{Line, lines}
 use Rattle.blif_model.specs.Files.{FileStanding, begin_rule, file_by, file_command_of, file_fault_by, file_line_fault, file_words_fault, first_file_fault, is_repeated, models_of, parts_of, titles_of, unless}
 use Rattle.blif_model.specs.Models.{Gate, Mention, is_driven, is_mentioned, names_of}
-use Rattle.blif_model.specs.Rules.{is_unknown, is_bad_model, is_bad_row, is_bad_latch, is_second, flags_of, signal_limit, name_rule, names_fault, first_output, differs, output_fault, row_fault_in, row_fault, differ, clocking_fault, latch_fault, head_rule, tail_fault, command_fault}
+use Rattle.blif_model.specs.Rules.{is_unknown, is_bad_model, is_bad_row, is_bad_latch, flags_of, signal_limit, name_rule, names_fault, first_output, differs, output_fault, row_fault_in, row_fault, differ, clocking_fault, latch_fault, head_rule, tail_fault, command_fault}
 use Rattle.blif_model.specs.Shapes.{Clocking, LatchParts, Row, row_of, latch_of, is_level, is_one}
 use Rattle.blif_linking.specs.Names.{Parts}
 use Rattle.blif_reader.specs.Meaning.{IsReading}
@@ -54,10 +54,9 @@ where_true false one other first second = second
 head_rules : (standing : Standing) (command : Command) (words : List PlacedToken) → AreRules (head_rule standing command words)
 head_rules standing command words =
     either (is_unknown command) (Some UnknownCommand) _ (λ place. tt)
-    (either (is_bad_model (flags_of standing) command words) (Some BadModel) _ (λ place. tt)
     (either (is_bad_row (flags_of standing) command words) (Some BadRow) _ (λ place. tt)
     (either (is_bad_latch command words) (Some BadLatch) _ (λ place. tt)
-    (either (is_second (flags_of standing) command) (Some SecondModel) None (λ place. tt) tt))))
+    (either standing.ended (Some SecondModel) None (λ place. tt) tt)))
 
 names_rules : (before mentions : List Mention) → OnlyRules (names_fault before mentions)
 names_rules before [] = tt
@@ -115,8 +114,8 @@ begin_rules bad repeated =
 
 by_command_rules : (file : FileStanding) (command : FileCommand) (head : PlacedToken) (words : List PlacedToken) → OnlyRules (file_fault_by file command head words)
 by_command_rules file Begin head words =
-    at_place (begin_rule (is_bad_model (flags_of file.own) commands.Model words) (is_repeated (titles_of file) words)) head.place
-    (begin_rules (is_bad_model (flags_of file.own) commands.Model words) (is_repeated (titles_of file) words))
+    at_place (begin_rule (is_bad_model (flags_of file.own) words) (is_repeated (titles_of file) words)) head.place
+    (begin_rules (is_bad_model (flags_of file.own) words) (is_repeated (titles_of file) words))
 by_command_rules file Place head words = command_rules file.own commands.Clock head []
 by_command_rules file (Own command) head words = command_rules file.own command head (words_of command head words)
 
