@@ -52,7 +52,7 @@ pub record IsDrawn (chart : Chart) : Type 0 where
       → slice_index_or chart.into.items state []
       ≡ places_from 0 state (map (λ (arrow : Arrow). arrow.target) chart.arrows.items)
   pub cells : chart.cells ≡ length chart.before.items * length chart.nfa.states
-  pub few : chart.cells < 2 ^ 32
+  pub few : chart.cells < 2 ^ 64
   pub few_states : length chart.nfa.states < 2 ^ 32
 
 -- and the places before each place are listed

@@ -3,6 +3,7 @@ pub mod Cells
 pub mod Labels
 pub mod Limits
 pub mod MergedView
+pub mod MarkingView
 pub mod Merging
 pub mod Stops
 pub mod Untils

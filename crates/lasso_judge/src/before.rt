@@ -22,8 +22,8 @@ pub(crate) fn cells_before(
     next: &[usize],
     flipped: bool,
     marks: &[bool],
-    cell: u32,
-    found: &mut Vec<u32>,
+    cell: usize,
+    found: &mut Vec<usize>,
 ) -> Result<(), NoMemory>
     requires chart { IsChart next.now chart.now }
     requires labels { IsLabelled (λ place. seen_at word.now flipped place) chart.now }
@@ -35,17 +35,9 @@ pub(crate) fn cells_before(
         (into_at chart.now (cell % length chart.now.nfa.states))) }
 {
     let states = chart.nfa.len();
-    let before = chart.before[cell as usize / states].as_slice();
+    let before = chart.before[cell / states].as_slice();
     found.clear();
-    add_back(
-        chart,
-        word,
-        flipped,
-        marks,
-        before,
-        cell as usize % states,
-        found,
-    )
+    add_back(chart, word, flipped, marks, before, cell % states, found)
 }
 
 // Adds the cells of some places that are not marked and from which one letter leads to a state.
@@ -56,7 +48,7 @@ fn add_back(
     marks: &[bool],
     places: &[usize],
     target: usize,
-    found: &mut Vec<u32>,
+    found: &mut Vec<usize>,
 ) -> Result<(), NoMemory>
     requires chart { IsDrawn chart.now }
     requires labels { IsLabelled (λ place. seen_at word.now flipped place) chart.now }
@@ -83,7 +75,7 @@ fn add_before(
     marks: &[bool],
     place: usize,
     target: usize,
-    found: &mut Vec<u32>,
+    found: &mut Vec<usize>,
 ) -> Result<(), NoMemory>
     requires chart { IsDrawn chart.now }
     requires labels { IsLabelled (λ place. seen_at word.now flipped place) chart.now }
@@ -111,7 +103,7 @@ fn add_sources(
     marks: &[bool],
     place: usize,
     target: usize,
-    found: &mut Vec<u32>,
+    found: &mut Vec<usize>,
 ) -> Result<(), NoMemory>
     requires chart { IsDrawn chart.now }
     requires sources { AreSources chart.now (length chart.now.nfa.states) chart.now.sources.items }
@@ -132,7 +124,7 @@ fn add_unmarked(
     marks: &[bool],
     place: usize,
     states: &[usize],
-    found: &mut Vec<u32>,
+    found: &mut Vec<usize>,
 ) -> Result<(), NoMemory>
     requires chart { IsDrawn chart.now }
     requires marks { length marks.now ≡ chart.now.cells }
@@ -153,7 +145,7 @@ fn add_if_unmarked(
     marks: &[bool],
     place: usize,
     state: usize,
-    found: &mut Vec<u32>,
+    found: &mut Vec<usize>,
 ) -> Result<(), NoMemory>
     requires chart { IsDrawn chart.now }
     requires marks { length marks.now ≡ chart.now.cells }
@@ -164,7 +156,7 @@ fn add_if_unmarked(
         then [] else cell_of (length chart.now.nfa.states) place state ∷ [])) }
 {
     let cell = cell_of(chart, place, state);
-    if !marks[cell as usize] {
+    if !marks[cell] {
         found.push(cell)?;
     }
     Ok(())
@@ -178,7 +170,7 @@ fn add_at(
     marks: &[bool],
     place: usize,
     arrows: &[usize],
-    found: &mut Vec<u32>,
+    found: &mut Vec<usize>,
 ) -> Result<(), NoMemory>
     requires chart { IsDrawn chart.now }
     requires marks { length marks.now ≡ chart.now.cells }
@@ -203,7 +195,7 @@ fn add_one(
     marks: &[bool],
     place: usize,
     number: usize,
-    found: &mut Vec<u32>,
+    found: &mut Vec<usize>,
 ) -> Result<(), NoMemory>
     requires chart { IsDrawn chart.now }
     requires marks { length marks.now ≡ chart.now.cells }
@@ -231,7 +223,7 @@ fn is_fresh(
     word: &Word,
     flipped: bool,
     marks: &[bool],
-    cell: u32,
+    cell: usize,
     place: usize,
     number: usize,
 ) -> bool
@@ -241,7 +233,7 @@ fn is_fresh(
     ensures { result ≡ (not (value_at marks.now cell) && holds (seen_at word.now flipped place)
         (label_of chart.now.nfa.states (arrow_at chart.now.arrows.items number))) }
 {
-    !marks[cell as usize] && is_taken(chart, word, flipped, place, number)
+    !marks[cell] && is_taken(chart, word, flipped, place, number)
 }
 
 // Whether an arrow can be taken at a place.
@@ -255,7 +247,7 @@ fn is_taken(chart: &Chart, word: &Word, flipped: bool, place: usize, number: usi
 }
 
 // The cell of a place from which an arrow leads.
-fn source(chart: &Chart, place: usize, number: usize) -> u32
+fn source(chart: &Chart, place: usize, number: usize) -> usize
     requires chart { IsDrawn chart.now }
     requires place { place < length chart.now.before.items }
     requires arrow { number < length chart.now.arrows.items }
@@ -267,12 +259,12 @@ fn source(chart: &Chart, place: usize, number: usize) -> u32
 }
 
 // The cell of a place and a state.
-fn cell_of(chart: &Chart, place: usize, state: usize) -> u32
+fn cell_of(chart: &Chart, place: usize, state: usize) -> usize
     requires chart { IsDrawn chart.now }
     requires place { place < length chart.now.before.items }
     requires state { state < length chart.now.nfa.states }
     ensures cell { result ≡ cell_of (length chart.now.nfa.states) place state }
     ensures within { result < chart.now.cells }
 {
-    (place * chart.nfa.len() + state) as u32
+    place * chart.nfa.len() + state
 }

@@ -127,17 +127,13 @@ fn automaton(alloc: Global, r: &Sere) -> Result<Nfa, NoMemory>
     }
 }
 
-// How many cells there are. More than 2^32 are refused as memory is.
+// How many cells there are. Each takes a byte at the least, so memory is wanted where the count is past what an address can
+// be, as it is for a `Vec` of so many members.
 fn cell_count(places: usize, states: usize) -> Result<usize, NoMemory>
     ensures count { IfOk result (λ cells. cells ≡ places * states) }
-    ensures few { IfOk result (λ cells. cells < 2 ^ 32) }
+    ensures few { IfOk result (λ cells. cells < 2 ^ 64) }
 {
-    let cells = places.checked_mul(states).ok_or(NoMemory)?;
-    if cells < 1 << 32 {
-        Ok(cells)
-    } else {
-        Err(NoMemory)
-    }
+    Ok(places.checked_mul(states).ok_or(NoMemory)?)
 }
 
 fn arrows_of(alloc: Global, nfa: &Merged) -> Result<Vec<Arrow>, NoMemory>

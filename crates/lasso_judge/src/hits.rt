@@ -3,7 +3,7 @@ ghost use Rattle.psl_tree.specs.Holds.{holds};
 ghost use Rattle.psl_tree.specs.Trees.{boolean_of};
 ghost use Rattle.psl_tree.specs.SequenceAutomata.{state_at};
 ghost use Rattle.sere_nfa.specs.Marking.{visit_all};
-ghost use Rattle.sere_nfa.specs.MarkingView.{marking_of};
+ghost use Rattle.lasso_judge.specs.MarkingView.{marking_of};
 ghost use Rattle.sere_nfa.specs.Views.{edge_of, edges_of};
 ghost use Rattle.lasso_judge.specs.Arrows.{IsChart, IsDrawn};
 ghost use Rattle.lasso_judge.specs.Cells.{ends_at, ends_on, numbers_below, AreHits};
@@ -13,10 +13,11 @@ ghost use Rattle.lasso_tables.specs.Seen.{course_by, seen_at, IsWhole};
 use crate::before::cells_before;
 use crate::chart::Chart;
 use crate::labels::known;
+use crate::marking::Marking;
 use lasso_tables::holds_at;
 use psl_base::NoMemory;
 use psl_tree::Word;
-use sere_nfa::{Marking, NfaEdge};
+use sere_nfa::NfaEdge;
 use std::alloc::Global;
 
 /// The cells from which a path of the automaton leads to an end, its last letter read at a place that is
@@ -67,13 +68,13 @@ fn ended(
     let mut marking = Marking::new(alloc, chart.cells)?;
     for cell in 0..chart.cells {
         let ends = ends_here(chart, word, flipped, hits, cell);
-        visit_where(ends, cell as u32, &mut marking)?;
+        visit_where(ends, cell, &mut marking)?;
     }
     Ok(marking)
 }
 
 // Visits a cell where that is asked.
-fn visit_where(asked: bool, cell: u32, marking: &mut Marking) -> Result<(), NoMemory>
+fn visit_where(asked: bool, cell: usize, marking: &mut Marking) -> Result<(), NoMemory>
     requires { cell < length marking.old.marks.items }
     ensures marking { OnOk result (marking_of marking.new ≡
         visit_all (marking_of marking.old) (if asked then cell ∷ [] else [])) }

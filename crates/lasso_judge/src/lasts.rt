@@ -1,7 +1,7 @@
 ghost use Rattle.std.specs.Prelude.{◌≡◌, ◌+◌, ◌*◌, ◌<◌, ◌≤◌, ◌&&◌, ◌||◌, ℕ, All, [], length, not, nat_lt, replicate};
 ghost use Rattle.std.specs.Prelude.{slice_index, IfOk, OnOk};
 ghost use Rattle.psl_tree.specs.SequenceAutomata.{state_at};
-ghost use Rattle.sere_nfa.specs.MarkingView.{marking_of};
+ghost use Rattle.lasso_judge.specs.MarkingView.{marking_of};
 ghost use Rattle.sere_nfa.specs.Views.{edge_of, edges_of};
 ghost use Rattle.lasso_judge.specs.Arrows.{edge_at, IsChart, IsDrawn};
 ghost use Rattle.lasso_judge.specs.Cells.{fall, fall_all, goes_along, goes_on, lasts_at, NoneGoes};
@@ -13,10 +13,11 @@ ghost use Rattle.lasso_tables.specs.Tables.{value_at};
 use crate::before::cells_before;
 use crate::chart::Chart;
 use crate::labels::known;
+use crate::marking::Marking;
 use lasso_tables::holds_at;
 use psl_base::NoMemory;
 use psl_tree::Word;
-use sere_nfa::{Marking, NfaEdge};
+use sere_nfa::NfaEdge;
 use std::alloc::Global;
 
 /// The cells from which the sequence does not last: some cut of the course leaves no prefix of it. A cell
@@ -91,15 +92,7 @@ fn first_fallen(
         waiting: Vec::new(alloc),
     };
     for cell in 0..chart.cells {
-        fall_one(
-            chart,
-            word,
-            next,
-            flipped,
-            cell as u32,
-            &mut marking,
-            passed,
-        )?;
+        fall_one(chart, word, next, flipped, cell, &mut marking, passed)?;
     }
     Ok(marking)
 }
@@ -123,7 +116,7 @@ fn fall_each(
     word: &Word,
     next: &[usize],
     flipped: bool,
-    cells: &[u32],
+    cells: &[usize],
     marking: &mut Marking,
     passed: &mut Vec<usize>,
 ) -> Result<(), NoMemory>
@@ -153,7 +146,7 @@ fn fall_one(
     word: &Word,
     next: &[usize],
     flipped: bool,
-    cell: u32,
+    cell: usize,
     marking: &mut Marking,
     passed: &mut Vec<usize>,
 ) -> Result<(), NoMemory>
@@ -170,18 +163,10 @@ fn fall_one(
     ensures passed { OnOk result (ArePassed chart.now.nfa.states (λ place. seen_at word.now flipped place) next.now
         chart.now.cells marking.new.marks.items passed.new.items) }
 {
-    if marking.marks[cell as usize] {
+    if marking.marks[cell] {
         return Ok(());
     }
-    if !lasts(
-        chart,
-        word,
-        next,
-        flipped,
-        cell as usize,
-        &marking.marks,
-        passed,
-    ) {
+    if !lasts(chart, word, next, flipped, cell, &marking.marks, passed) {
         marking.visit(cell)?;
     }
     Ok(())

@@ -9,6 +9,7 @@ mod hits;
 mod judge;
 mod labels;
 mod lasts;
+mod marking;
 mod merged;
 mod sequences;
 mod until;

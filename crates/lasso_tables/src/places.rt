@@ -45,9 +45,9 @@ fn holds_seen(letter: &Letter, flipped: bool, test: &Bool) -> bool
 pub fn next_places(alloc: Global, word: &Word) -> Result<Vec<usize>, NoMemory>
     ensures { IfOk result (λ next. Leads (places word.now + 2) (λ place. next_place word.now place) next.items) }
 {
-    let stem = word.stem.len();
-    let places = stem.checked_add(word.looped.len()).ok_or(NoMemory)?;
-    let count = places.checked_add(2).ok_or(NoMemory)?;
+    let stem = word.stem.as_slice().len();
+    let places = stem + word.looped.as_slice().len();
+    let count = places + 2;
     let mut next = Vec::new(alloc);
     for place in 0..count {
         next.push(following(stem, places, place))?;

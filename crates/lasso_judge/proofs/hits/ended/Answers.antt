@@ -2,7 +2,7 @@ use Rattle.std.proofs.Common.{◌∙◌, [], false, replicate}
 use Rattle.lasso_judge.specs.Cells.{ends_at}
 use Rattle.lasso_tables.specs.Seen.{seen_at}
 use Rattle.lasso_judge.proofs.Visiting.{visited-more}
-use Rattle.sere_nfa.specs.MarkingView.{marking_of}
+use Rattle.lasso_judge.specs.MarkingView.{marking_of}
 use Rattle.lasso_judge.proofs.hits.ended.Goals as goal
 
 pub loop-cell-preserved : goal.loop-cell-preserved

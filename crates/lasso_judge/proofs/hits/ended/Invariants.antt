@@ -1,6 +1,6 @@
 use Rattle.std.proofs.Common.{◌≡◌, [], false, length, replicate}
 use Rattle.sere_nfa.specs.Marking.{visit_all}
-use Rattle.sere_nfa.specs.MarkingView.{marking_of}
+use Rattle.lasso_judge.specs.MarkingView.{marking_of}
 use Rattle.lasso_judge.specs.Cells.{ends_at, numbers_below}
 use Rattle.lasso_tables.specs.Seen.{seen_at}
 use Rattle.lasso_judge.proofs.hits.ended.Given as goal

@@ -1,6 +1,6 @@
 use Rattle.std.proofs.Common.{◌≡◌, ◌∙◌, ◌<◌, [], sym, ap, Bool as Truth, List, length, rules}
 use Rattle.sere_nfa.proofs.Reach.{work}
-use Rattle.sere_nfa.specs.MarkingView.{marking_of}
+use Rattle.lasso_judge.specs.MarkingView.{marking_of}
 use Rattle.lasso_judge.proofs.Charted.{cells-are, hits-begin, hits-below, found-below, hits-more, hits-end}
 use Rattle.lasso_judge.proofs.Hitting.{IsHitSearch}
 use Rattle.lasso_judge.proofs.hits.hit_cells.Goals as goal

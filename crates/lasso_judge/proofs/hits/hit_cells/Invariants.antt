@@ -1,5 +1,5 @@
 use Rattle.sere_nfa.proofs.Reach.{work}
-use Rattle.sere_nfa.specs.MarkingView.{marking_of}
+use Rattle.lasso_judge.specs.MarkingView.{marking_of}
 use Rattle.lasso_judge.proofs.Hitting.{IsHitSearch}
 use Rattle.lasso_judge.proofs.hits.hit_cells.Given as goal
 

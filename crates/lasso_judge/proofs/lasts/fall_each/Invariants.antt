@@ -1,5 +1,5 @@
 use Rattle.std.proofs.Common.{◌≡◌, length, drop}
-use Rattle.sere_nfa.specs.MarkingView.{marking_of}
+use Rattle.lasso_judge.specs.MarkingView.{marking_of}
 use Rattle.lasso_judge.specs.Cells.{fall_all, ArePassed}
 use Rattle.lasso_tables.specs.Seen.{seen_at}
 use Rattle.lasso_judge.proofs.lasts.fall_each.Given as goal

@@ -1,6 +1,6 @@
 use Rattle.std.proofs.Common.{◌≡◌, ◌∙◌, ◌<◌, [], sym, ap, Bool as Truth, List, length, rules}
 use Rattle.sere_nfa.proofs.Reach.{work}
-use Rattle.sere_nfa.specs.MarkingView.{marking_of}
+use Rattle.lasso_judge.specs.MarkingView.{marking_of}
 use Rattle.lasso_judge.proofs.Charted.{cells-are, falls-begin, falls-below, found-below, falls-more, falls-end}
 use Rattle.lasso_judge.proofs.Lasting.{IsFallSearch}
 use Rattle.lasso_judge.proofs.lasts.fallen_cells.Goals as goal

@@ -1,5 +1,5 @@
 use Rattle.std.proofs.Common.{◌∙◌}
-use Rattle.sere_nfa.specs.MarkingView.{marking_of}
+use Rattle.lasso_judge.specs.MarkingView.{marking_of}
 use Rattle.lasso_tables.specs.Seen.{seen_at}
 use Rattle.lasso_judge.proofs.Visiting.{fallen-more}
 use Rattle.lasso_judge.proofs.lasts.first_fallen.Goals as goal
