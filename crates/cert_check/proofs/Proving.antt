@@ -1,12 +1,15 @@
 -- A certificate that is passed proves its claim.
-use Rattle.std.proofs.Common.{◌≡◌, ◌⊎◌, ◌↔◌, inl, inr, ◌∙◌, ap, sym, subst, ℕ, ℤ, Bool as Truth, true, false, List, Option, Some, refl}
+use Rattle.std.proofs.Common.{◌≡◌, ◌↔◌, ◌∙◌, ap, sym, subst, ℕ, ℤ, Bool as Truth, true, false, List, Option, Some}
 use Rattle.std.specs.Bool.{IsTrue}
 use Rattle.alternating_theory.specs.Acceptance.{Accepts}
 use Rattle.alternating_theory.specs.Obligations.{Automaton}
 use Rattle.cert_theory.specs.declared.header.Asked.{Asked}
-use Rattle.cert_theory.specs.Shown.{IsClosed, IsInduced, IsRefuted, IsShown}
+use Rattle.cert_theory.specs.declared.header.Form.{Form}
+use Rattle.cert_theory.specs.declared.header.Form.TheVariants.{Windowed, Clausal}
+use Rattle.cert_theory.specs.declared.header.Header.{Header}
+use Rattle.cert_theory.specs.Shown.{IsClosed, IsInduced, IsRefuted, IsShown, IsShownBy}
 use Rattle.cert_theory.specs.Texts.{IsPassed}
-use Rattle.cert_theory.proofs.Passed.{shown}
+use Rattle.cert_theory.proofs.Shows.{shown}
 use Rattle.clauses.proofs.Soundness.{no_model}
 use Rattle.clauses.specs.Literals.{clauses_within}
 use Rattle.joint_theory.specs.Bits.{joint_width}
@@ -91,20 +94,21 @@ module _ (design : Design) (unit : List Directive) (directive : Directive) (soun
   none_accepted : ((run : Run) → IsRun design run → Accepts (violation_of unit directive) (word design run) → ⊥) → EachSatisfies design unit directive
   none_accepted none = λ run runs. (tells run runs.loops).satisfied (none run runs)
 
-  by_window : RefutesRuns → AreWithin → IsClosed (queries_for design (violation_of unit directive)) → EachSatisfies design unit directive
-  by_window refutes within is =
+  by_window : RefutesRuns → AreWithin → (header : Header) → IsClosed (queries_for design (violation_of unit directive)) header → EachSatisfies design unit directive
+  by_window refutes within header is =
       let automaton = violation_of unit directive in
+      let visits = header.visits in
+      let window = header.window in
       none_accepted
-      (refutes design automaton is.visits is.window sound right tests
-      (refuted_none (query_variables design automaton is.visits is.window true) (query design automaton is.visits is.window true) (within design automaton is.visits is.window true sound right tests) is.base)
-      (refuted_none (query_variables design automaton is.visits is.window false) (query design automaton is.visits is.window false) (within design automaton is.visits is.window false sound right tests) is.induction))
+      (refutes design automaton visits window sound right tests
+      (refuted_none (query_variables design automaton visits window true) (query design automaton visits window true) (within design automaton visits window true sound right tests) is.base)
+      (refuted_none (query_variables design automaton visits window false) (query design automaton visits window false) (within design automaton visits window false sound right tests) is.induction))
 
-  by_clauses : InductsRuns → StandInitially → StandForSteps → StandBadly → AreInductive → IsInduced (queries_for design (violation_of unit directive))
-      → EachSatisfies design unit directive
-  by_clauses inducts initially steps badly inductive is =
+  by_clauses : InductsRuns → StandInitially → StandForSteps → StandBadly → AreInductive → (header : Header) (clauses : List (List ℤ))
+      → IsInduced (queries_for design (violation_of unit directive)) header clauses → EachSatisfies design unit directive
+  by_clauses inducts initially steps badly inductive header clauses is =
       let automaton = violation_of unit directive in
-      let visits = is.visits in
-      let clauses = is.clauses in
+      let visits = header.visits in
       none_accepted (inducts design automaton visits clauses ((inductive design automaton visits clauses sound right tests is.within).1 (record {
         initial = refuted_none (initial_variables design automaton visits clauses) (query_initial design automaton visits clauses)
             (initially design automaton visits clauses sound right tests is.within).within (initial_refuted design automaton visits clauses is.initial);
@@ -114,23 +118,25 @@ module _ (design : Design) (unit : List Directive) (directive : Directive) (soun
             (badly design automaton visits clauses sound right tests is.within).within (bad_refuted design automaton visits clauses is.bad);
       })))
 
-  by_either : RefutesRuns → AreWithin → InductsRuns → StandInitially → StandForSteps → StandBadly → AreInductive
-      → IsClosed (queries_for design (violation_of unit directive)) ⊎ IsInduced (queries_for design (violation_of unit directive)) → EachSatisfies design unit directive
-  by_either refutes within inducts initially steps badly inductive (inl is) = by_window refutes within is
-  by_either refutes within inducts initially steps badly inductive (inr is) = by_clauses inducts initially steps badly inductive is
+  by_form : RefutesRuns → AreWithin → InductsRuns → StandInitially → StandForSteps → StandBadly → AreInductive → (asked : Asked) (text : List ℕ) (header : Header) (form : Form)
+      → IsShownBy asked (queries_for design (violation_of unit directive)) text header form → EachSatisfies design unit directive
+  by_form refutes within inducts initially steps badly inductive asked text header (Windowed version) is = by_window refutes within header is
+  by_form refutes within inducts initially steps badly inductive asked text header Clausal is =
+      by_clauses inducts initially steps badly inductive header is.0 is.2
 
   pub each_satisfies : RefutesRuns → AreWithin → InductsRuns → StandInitially → StandForSteps → StandBadly → AreInductive
-      → (asked : Asked) → IsShown asked (queries_for design (violation_of unit directive)) → EachSatisfies design unit directive
-  each_satisfies refutes within inducts initially steps badly inductive asked is = by_either refutes within inducts initially steps badly inductive is.by
+      → (asked : Asked) (text : List ℕ) → IsShown asked (queries_for design (violation_of unit directive)) text → EachSatisfies design unit directive
+  each_satisfies refutes within inducts initially steps badly inductive asked text is =
+      by_form refutes within inducts initially steps badly inductive asked text is.header is.header.form is.by
 
 pub is_proved : (design : Design) (unit : List Directive) (number : ℕ) (directive : Directive) (text : List ℕ) → directive_of unit number ≡ Some directive
     → IsPassed (asked_of unit number) (queries_of design unit number) text
-    → ((asked : Asked) → IsShown asked (queries_for design (violation_of unit directive)) → EachSatisfies design unit directive) → IsProved design unit number
+    → ((asked : Asked) (text : List ℕ) → IsShown asked (queries_for design (violation_of unit directive)) text → EachSatisfies design unit directive) → IsProved design unit number
 is_proved design unit number directive text is passed each =
     let here = shown (asked_of unit number) (queries_of design unit number) text passed in
     record {
       directive = directive;
       is = is;
-      has_claim = sym (ap has_claim is) ∙ here.has_claim;
-      each = each (asked_of unit number) (subst (λ (found : Option Directive). IsShown (asked_of unit number) (queries_by design unit found)) is here);
+      has_claim = sym (ap has_claim is) ∙ here.has.has_claim;
+      each = each (asked_of unit number) text (subst (λ (found : Option Directive). IsShown (asked_of unit number) (queries_by design unit found) text) is here);
     }

@@ -46,7 +46,7 @@ field_lacks field number may =
     ∙ and_from (lacks 10 (word_of field)) (lacks 10 (32 ∷ decimal number)) (word_lacks field) (decimal_lacks 10 number (omega arith) (small_number field number may))
 
 -- the lines behind the visits
-abbrev end_lines : Form → ℕ → ℕ → List (List ℕ)
+abbrev pub end_lines : Form → ℕ → ℕ → List (List ℕ)
 end_lines form window live = window_lines form window ++ (live_lines form live ++ last_line form ∷ [])
 
 ends_lack : (form : Form) (window live : ℕ) → MayBe Window window → MayBe Live live → list_all (lacks 10) (end_lines form window live) ≡ true

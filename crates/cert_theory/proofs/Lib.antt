@@ -6,3 +6,4 @@ pub mod HeaderLines
 pub mod Once
 pub mod OneAnswer
 pub mod Passed
+pub mod Shows

@@ -50,9 +50,10 @@ pub fn one_header_law()
         → HasClauses asked queries text other others → clauses ≡ others }
 {}
 
-/// A law of the definitions: where the text of a certificate is passed, what was asked for claims something, and for some
-/// visits both formulas of some window are refuted, or the three formulas of some clauses over the state bits.
+/// A law of the definitions: where the text of a certificate is passed, it begins with a header of what was asked for, which
+/// claims something, and its numbers are in their ranges. With a window both formulas of the header's visits and window are
+/// refuted, and else the three formulas of its visits and of the clauses behind it, which are over the state bits.
 pub fn shown_law()
     ensures shown { (asked : Asked) (queries : Queries) (text : List ℕ) → IsPassed asked queries text
-        → IsShown asked queries }
+        → IsShown asked queries text }
 {}

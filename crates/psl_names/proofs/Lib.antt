@@ -2,6 +2,7 @@ pub mod Backward
 pub mod Bits
 pub mod Counts
 pub mod Fronts
+pub mod Gathered
 pub mod Looking
 pub mod Members
 pub mod Ranging

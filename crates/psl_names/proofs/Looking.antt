@@ -13,7 +13,7 @@ use Rattle.psl_tree.specs.declared.name.Name.{Name}
 use Rattle.psl_layer_theory.specs.declared.found.Found.{Found}
 use Rattle.psl_layer_theory.specs.declared.found.Found.TheVariants.{Nothing, One, Several}
 use Rattle.psl_layer_theory.specs.LookUp.{found_among, first_filled, is_named, ends_named, is_same_range, look_up, named}
-use Rattle.psl_names.specs.Alike.{alike, said, first_passes}
+use Rattle.psl_names.specs.Alike.{alike, chosen, said, first_passes}
 use Rattle.psl_names.specs.Ends.{backward}
 use Rattle.psl_names.specs.Sorting.{is_before, IsSorting, IsPlaceOf, found_in, named_in}
 use Rattle.psl_names.proofs.Backward.{named-back, ends-back, named-below, ends-below}
@@ -59,14 +59,8 @@ ends-first text sorted place up at none i j d order within ends =
     (sym (ap (is_named text) (get_or-drop place sorted i d)) ∙ none i d (omega arith))
     (sym (ap (ends_named text) (get_or-drop place sorted j d)) ∙ ends)
 
--- the first of two that found something
-abbrev pub chosen : Found → Found → Found
-chosen Nothing second = second
-chosen (One signal left right) second = One signal left right
-chosen Several second = Several
-
 -- what matching names say, by what each of the two lists of them says
-found-filled : (first second : List Name) → found_among (first_filled first second) ≡ chosen (found_among first) (found_among second)
+pub found-filled : (first second : List Name) → found_among (first_filled first second) ≡ chosen (found_among first) (found_among second)
 found-filled [] second = refl
 found-filled (name ∷ more) second = by_all (list_all (is_same_range name) more) name
   where

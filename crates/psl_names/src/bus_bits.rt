@@ -4,7 +4,7 @@ ghost use Rattle.psl_layer_theory.specs.Buses as spec;
 ghost use Rattle.psl_layer_theory.specs.declared.found.Reference.TheVariants as references;
 ghost use Rattle.psl_sugar.specs.Vectors.{only_bit};
 
-use crate::matching::{NameIndex, look_up, named};
+use crate::matching::{NameIndex, named};
 use crate::paths::PathIndex;
 use crate::texts::indexed_text;
 use psl_base::{NoMemory, Numbers};
@@ -16,7 +16,7 @@ use std::alloc::Global;
 pub(crate) fn bus(alloc: Global, names: &PathIndex, text: &[u8]) -> Result<Reference, NoMemory>
     ensures { IfOk result (λ reference. reference ≡ spec.bus names.now text.now) }
 {
-    match look_up(names.buses(), text) {
+    match names.buses().look_up(text) {
         Found::Nothing => Ok(Reference::Nothing),
         Found::One { left, right, .. } => joined(alloc, names.names(), text, left, right),
         Found::Several => Ok(Reference::Several),
@@ -74,7 +74,7 @@ fn bit_behind(
     Ok(if is_whole {
         named(names, indexed.as_slice())
     } else {
-        look_up(names, indexed.as_slice())
+        names.look_up(indexed.as_slice())
     })
 }
 

@@ -1,7 +1,7 @@
 // Which entries of a list of names a text matches.
 ghost use Rattle.std.specs.Prelude.{◌≡◌, ◌+◌, ◌^◌, ◌<◌, ◌≤◌, drop, length, slice_index, IfOk};
 ghost use Rattle.psl_layer_theory.specs.LookUp as spec;
-ghost use Rattle.psl_names.specs.Alike.{alike_each, first_passes, said};
+ghost use Rattle.psl_names.specs.Alike.{alike_each, chosen, first_passes, said, with_name};
 ghost use Rattle.psl_names.specs.Sorting.{found_in, found_with, named_in, is_before, names_of, IsPlaceOf};
 ghost use Rattle.std.specs.List.Sorted.{IsSortedBy};
 
@@ -46,21 +46,62 @@ impl<'a> NameIndex<'a> {
             counts,
         })
     }
+
+    /// What a text stands for among the names, as `look_up` says. It takes no memory, and time that grows with the logarithm
+    /// of the number of names.
+    pub fn look_up(&self, text: &[u8]) -> Found
+        ensures { result ≡ spec.look_up self.now text.now }
+    {
+        let sorted = self.sorted.as_slice();
+        found_from(sorted, self.counts.as_slice(), place_of(sorted, text), text)
+    }
 }
 
 /// What a text stands for among names: the entries that have it, or, if none has it, those that end with a dot and it.
-/// Entries of one signal with one range count as one. It takes no memory, and time that grows with the logarithm of the
-/// number of names.
-pub fn look_up(names: &NameIndex, text: &[u8]) -> Found
+/// Entries of one signal with one range count as one. It takes no memory, and time that grows as the bytes of the names;
+/// where many texts are looked up a `NameIndex` is faster.
+pub fn look_up(names: &Names, text: &[u8]) -> Found
     ensures { result ≡ spec.look_up names.now text.now }
 {
-    let sorted = names.sorted.as_slice();
-    found_from(
-        sorted,
-        names.counts.as_slice(),
-        place_of(sorted, text),
-        text,
-    )
+    let mut named = Found::Nothing;
+    let mut ending = Found::Nothing;
+    let all = names.as_slice();
+    for name in all {
+        named = with(named, is_named(name, text), name);
+        ending = with(ending, ends_named(name, text), name);
+    }
+    chosen(named, ending)
+}
+
+// The first of two that found something.
+fn chosen(first: Found, second: Found) -> Found
+    ensures { result ≡ chosen first second }
+{
+    match first {
+        Found::Nothing => second,
+        _ => first,
+    }
+}
+
+// What was found, with a name more if it matches.
+fn with(found: Found, is_match: bool, name: &Name) -> Found
+    ensures { result ≡ with_name found is_match name.now }
+{
+    if !is_match {
+        return found;
+    }
+    match found {
+        Found::Nothing => said(name, false),
+        Found::One {
+            signal,
+            left,
+            right,
+        } => {
+            let is_same = signal == name.signal && left == name.left && right == name.right;
+            if is_same { found } else { Found::Several }
+        }
+        Found::Several => found,
+    }
 }
 
 /// What a text stands for among names where the entries have to have it.

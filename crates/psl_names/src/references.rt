@@ -3,7 +3,6 @@ ghost use Rattle.std.specs.Prelude.{◌≡◌, ◌<◌, ◌^◌, None, Some, IfO
 ghost use Rattle.psl_layer_theory.specs.References as spec;
 
 use crate::bus_bits::bus;
-use crate::matching::look_up;
 use crate::paths::PathIndex;
 use crate::texts::indexed_text;
 use crate::values::number_of;
@@ -32,7 +31,7 @@ pub fn refers_to(
 fn without_index(alloc: Global, names: &PathIndex, text: &[u8]) -> Result<Reference, NoMemory>
     ensures { IfOk result (λ reference. reference ≡ spec.refers_to names.now text.now None) }
 {
-    match look_up(names.names(), text) {
+    match names.names().look_up(text) {
         Found::Nothing => bus(alloc, names, text),
         found => Ok(whole_of(found)),
     }
@@ -48,8 +47,8 @@ fn with_index(
     ensures { IfOk result (λ reference. reference ≡ spec.refers_to names.now text.now (Some index)) }
 {
     let indexed = indexed_text(alloc, text, index)?;
-    Ok(match look_up(names.names(), indexed.as_slice()) {
-        Found::Nothing => bit_of(look_up(names.names(), text), index),
+    Ok(match names.names().look_up(indexed.as_slice()) {
+        Found::Nothing => bit_of(names.names().look_up(text), index),
         found => whole_of(found),
     })
 }

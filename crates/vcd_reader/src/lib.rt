@@ -24,6 +24,6 @@ pub use laws::{
     first_fault_law, one_meaning_law, places_law, running_law, times_law, unknown_law, values_law,
 };
 pub use psl_base::Place;
-pub use reading::read_vcd;
+pub use reading::{read_bytes, read_faultless, read_vcd};
 pub use recording::Recording;
 pub use unknown::Unknown;

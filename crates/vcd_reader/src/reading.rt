@@ -1,4 +1,4 @@
-ghost use Rattle.std.specs.Prelude.{◌≡◌, ◌<◌, ◌≤◌, ◌^◌, length, None, Ok, IfOk, IfErr, IsErrOf};
+ghost use Rattle.std.specs.Prelude.{◌≡◌, ◌<◌, ◌≤◌, ◌^◌, length, None, Ok, IfOk, IfErr, IsErrOf, IsOk};
 ghost use Rattle.psl_base.specs.Places.{file_limit};
 ghost use Rattle.psl_base.specs.Shelf.{OnlyReads, IsLonger, Tells, HasTaken, ReadingFails, SelectsNoOther};
 ghost use Rattle.vcd_reader.specs.Meaning.{reading};
@@ -10,7 +10,7 @@ use crate::body::Body;
 use crate::definitions::Definitions;
 use crate::recording::Parts;
 use crate::{Recording, Unknown, VcdFault};
-use psl_base::{Bytes, Cursor, FILE_LIMIT, Shelf, read_all};
+use psl_base::{Bytes, Cursor, FILE_LIMIT, NoMemory, Shelf, read_all};
 use std::alloc::Global;
 
 /// The recording that a file holds, a value change dump (IEEE 1364, clause 18). It has one sample for
@@ -44,14 +44,34 @@ pub fn read_vcd<S: Shelf>(
     read_bytes(alloc, bytes, unknown)
 }
 
-/// The recording that the bytes of a file say.
-fn read_bytes(alloc: Global, bytes: Bytes, unknown: Unknown) -> Result<Recording, VcdFault>
+/// The recording that bytes say which are in memory, as `read_vcd` reads those of a file. The recording keeps them, and they
+/// are not copied.
+///
+/// # Errors
+/// The first fault of the text, and `NoMemory` where the allocator refuses memory.
+pub fn read_bytes(alloc: Global, bytes: Bytes, unknown: Unknown) -> Result<Recording, VcdFault>
     requires { length bytes ≤ file_limit }
     ensures ok { IfOk result (λ recording. reading unknown bytes ≡ Ok recording) }
     ensures err { IfErr result (λ fault. IsReadFault unknown bytes fault) }
 {
     let parts = read_parts(alloc, bytes.as_slice())?;
     Ok(Recording::of(bytes, parts, unknown))
+}
+
+/// The recording that bytes say of which it is known that they have no fault, such as those that a writer of recordings made.
+///
+/// # Errors
+/// `NoMemory` where the allocator refuses memory.
+pub fn read_faultless(alloc: Global, bytes: Bytes, unknown: Unknown) -> Result<Recording, NoMemory>
+    requires short { length bytes ≤ file_limit }
+    requires faultless { IsOk (reading unknown bytes) }
+    ensures { IfOk result (λ recording. reading unknown bytes ≡ Ok recording) }
+{
+    match read_bytes(alloc, bytes, unknown) {
+        Ok(recording) => Ok(recording),
+        Err(VcdFault::NoMemory) => Err(NoMemory),
+        Err(_) => unreachable!(),
+    }
 }
 
 /// What the bytes say, apart from themselves.

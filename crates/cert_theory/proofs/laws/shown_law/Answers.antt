@@ -1,4 +1,4 @@
-use Rattle.cert_theory.proofs.Passed.{shown}
+use Rattle.cert_theory.proofs.Shows.{shown}
 use Rattle.cert_theory.proofs.laws.shown_law.Goals as goal
 
 pub returns : goal.returns

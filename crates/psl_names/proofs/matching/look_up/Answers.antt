@@ -1,11 +1,8 @@
-use Rattle.std.proofs.Common.{◌∙◌, sym, subst, List, Bor}
-use Rattle.psl_tree.specs.declared.name.Name.{Name}
-use Rattle.psl_names.specs.Sorting.{names_of, IsSorting}
-use Rattle.psl_names.proofs.Looking.{looked-up}
+use Rattle.std.proofs.Common.{◌∙◌}
+use Rattle.psl_names.proofs.Gathered.{looked-through}
 use Rattle.psl_names.proofs.matching.look_up.Goals as goal
 
 pub returns : goal.returns
-returns c =
-    let sorting = subst (λ (refs : List (Bor Name)). IsSorting c.names.inside.names.now (names_of refs)) (sym c.as_slice-sorted.ensures.value) c.names.invariant.sorting in
-    let names = subst (λ (names : List Name). IsSorting names (names_of c.as_slice-sorted.result.now)) c.names.view_is sorting in
-    c.found_from.ensures ∙ sym (looked-up c.args.names.now (names_of c.as_slice-sorted.result.now) c.args.text.now c.place_of.result names c.place_of.ensures.place)
+returns c = c.chosen.ensures
+    ∙ looked-through c.as_slice-all.result.now c.args.names.now c.args.text.now c.loop-name.named c.loop-name.ending c.loop-name.name-index c.as_slice-all.ensures c.loop-name-test.false
+    c.loop-name.invariant.named c.loop-name.invariant.ending
