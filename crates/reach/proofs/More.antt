@@ -8,7 +8,7 @@ use Rattle.reach_frames.specs.Cubes.{IsFrame}
 use Rattle.reach_frames.specs.Levels.{clauses_of, frames_of, IsWitnessed}
 use Rattle.reach_frames.specs.Systems.{System, frame_at, before_of, AreSound}
 use Rattle.reach_frames.specs.declared.level.KeptClause.{KeptClause}
-use Rattle.reach.specs.Searches.{AreGood}
+use Rattle.reach.specs.Sides.{AreGood}
 use Rattle.reach.specs.Systems.{system_of}
 
 -- no frame changes

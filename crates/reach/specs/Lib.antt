@@ -9,5 +9,6 @@ pub mod Questions
 pub mod Readings
 pub mod Searched
 pub mod Searches
+pub mod Sides
 pub mod Sliced
 pub mod Systems

@@ -5,6 +5,7 @@
 //! implementation of property directed reachability (2011).
 #![tactic(auto)]
 
+mod aim;
 mod answer;
 mod apart;
 mod asked_values;
@@ -24,6 +25,7 @@ mod quick;
 mod reaching;
 mod reading;
 mod search;
+mod side;
 mod signal_order;
 mod sliced;
 mod stepping;

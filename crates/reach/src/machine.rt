@@ -34,6 +34,8 @@ use std::cell::Cell;
 pub(crate) struct JointMachine<'a> {
     pub joint: &'a Joint<'a>,
     pub steps: u64,
+    /// Whether literals are left out of cubes one after the other.
+    pub leaves_out: bool,
     // What is true of the bits of an initial state.
     pub start: Literals,
     pub ghost start_is: { start ≡ spec.start_literals joint.now.design joint.now.automaton joint.now.visits },
@@ -55,6 +57,7 @@ impl Drop for JointMachine<'_> {
         let JointMachine {
             joint: _,
             steps: _,
+            leaves_out: _,
             start: _,
             known: _,
             sliced: _,
@@ -70,6 +73,7 @@ impl<'a> JointMachine<'a> {
         alloc: Global,
         joint: &'a Joint<'a>,
         steps: u64,
+        leaves_out: bool,
     ) -> Result<JointMachine<'a>, NoMemory>
         ensures joint { IfOk result (λ machine. machine.joint.now ≡ joint.now) }
         ensures steps { IfOk result (λ machine. machine.steps ≡ steps) }
@@ -81,6 +85,7 @@ impl<'a> JointMachine<'a> {
         Ok(JointMachine {
             joint,
             steps,
+            leaves_out,
             start,
             known,
             sliced,
@@ -219,6 +224,10 @@ impl Machine for JointMachine<'_> {
     fn thinned(&self, alloc: Global, cube: &[i32]) -> Result<Bits, NoMemory> {
         let counts = self.joint.visits().saturating_add(1);
         all_bits(alloc, self.joint.state_bits().saturating_sub(counts))
+    }
+
+    fn leaves_out(&self) -> bool {
+        self.leaves_out
     }
 
     fn is_away(&self, cube: &[i32]) -> bool {

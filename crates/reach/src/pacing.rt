@@ -2,7 +2,7 @@
 ghost use Rattle.std.specs.Prelude.{◌≡◌, ◌≤◌, ◌<◌, [], length, IfOk, IfErr, OnOk};
 ghost use Rattle.reach.specs.Pacing.{is_too_long};
 ghost use Rattle.reach.specs.Questions.{IsStop};
-ghost use Rattle.reach.specs.Searches.{AreGood};
+ghost use Rattle.reach.specs.Sides.{AreGood};
 ghost use Rattle.reach.specs.Systems.{system_of};
 ghost use Rattle.reach_frames.specs.Steps.{IsStep};
 

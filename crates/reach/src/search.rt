@@ -1,24 +1,33 @@
 // A search that can be gone on with.
 ghost use Rattle.std.specs.Prelude.{◌≡◌, ◌≤◌, ℕ, None, true, false, IfOk, IfSome, IfNone, IsSome, OnErr};
-ghost use Rattle.joint.specs.Joined.{Joined};
 ghost use Rattle.reach.specs.Answers.{IsReached};
-ghost use Rattle.reach.specs.Questions.{IsStop};
 
+use crate::aim::{Aim, Turned};
 use crate::answer::Reached;
-use crate::machine::JointMachine;
-use crate::pacing::{Pace, Sought};
-use crate::stepping::strengthen;
+use crate::side::Side;
 use joint::Joint;
 use psl_base::NoMemory;
-use reach_frames::Stop;
 use std::alloc::Global;
 use std::marker::Model;
 
+// The second of two searches begins where the first may come back to so many states for each frame: what the first
+// decides soon costs no more then.
+const LATE: u64 = 1_000;
+
 /// A search for inductive clauses, or for a path to a bad state.
+///
+/// Two of them go side by side. The first leaves literals out of each cube, one after the other, so that few clauses are
+/// kept (Bradley, SAT-based model checking without unrolling, 2011). The second keeps a cube out by what a refutation
+/// tells alone: its clauses are longer, it asks less for each, and some designs are decided by it in far fewer frames.
 pub struct Search<'a> {
-    machine: JointMachine<'a>,
-    sought: Sought,
-    most: u32,
+    aim: Aim<'a>,
+    // None once it has ended.
+    first: Option<Side<'a>>,
+    // None before it begins, and once it has ended.
+    second: Option<Side<'a>>,
+    is_late: bool,
+    // How the first of them ended that decided nothing.
+    left: Option<Reached>,
     has_ended: bool,
 }
 
@@ -43,9 +52,11 @@ impl<'a> Model for Search<'a> {
 impl Drop for Search<'_> {
     fn drop(self) {
         let Search {
-            machine: _,
-            sought: _,
-            most: _,
+            aim: _,
+            first: _,
+            second: _,
+            is_late: _,
+            left: _,
             has_ended: _,
         } = self;
     }
@@ -67,11 +78,14 @@ impl<'a> Search<'a> {
         ensures { IfOk result (λ search. search
             ≡ record { joined = joint.now; most = most; steps = steps; has_ended = false }) }
     {
-        let machine = JointMachine::new(alloc, joint, steps)?;
+        let aim = Aim { joint, most, steps };
+        let first = aim.side(alloc, true)?;
         Ok(Search {
-            machine,
-            sought: Sought::new(alloc, most),
-            most,
+            aim,
+            first: Some(first),
+            second: None,
+            is_late: false,
+            left: None,
             has_ended: false,
         })
     }
@@ -101,18 +115,27 @@ impl<'a> Search<'a> {
         ensures refused { OnErr result (self.new ≡ record self.old { has_ended = true }) }
     {
         self.has_ended = true;
-        let pace = Pace {
-            most: self.most,
-            budget,
+        let aim = self.aim;
+        let first = self.first.take();
+        let (first, left) = match aim.turn(alloc, first, self.left.take(), frames, budget)? {
+            Turned::Decided(reached) => return Ok(Some(reached)),
+            Turned::On(first, left) => (first, left),
         };
-        match strengthen(alloc, &self.machine, &mut self.sought, pace, frames) {
-            Ok(Some(reached)) => Ok(Some(reached)),
-            Ok(None) => {
-                self.has_ended = false;
-                Ok(None)
-            }
-            Err(stop) => Ok(Some(end_of(stop)?)),
+        let begins = begins(self.is_late, first.is_some(), budget);
+        let second = aim.begun(alloc, self.second.take(), begins)?;
+        let (second, left) = match aim.turn(alloc, second, left, frames, budget)? {
+            Turned::Decided(reached) => return Ok(Some(reached)),
+            Turned::On(second, left) => (second, left),
+        };
+        if first.is_none() && second.is_none() {
+            return Ok(left);
         }
+        self.first = first;
+        self.second = second;
+        self.left = left;
+        self.is_late = self.is_late | begins;
+        self.has_ended = false;
+        Ok(None)
     }
 
     /// Whether the search has ended.
@@ -123,15 +146,13 @@ impl<'a> Search<'a> {
     }
 }
 
-/// What a stop says.
-fn end_of(stop: Stop) -> Result<Reached, NoMemory>
-    ensures { IfOk result (λ reached. (joined : Joined) (frames steps : ℕ)
-        → IsStop joined steps stop → IsReached joined frames steps reached) }
-{
-    match stop {
-        Stop::NoMemory => Err(NoMemory),
-        Stop::Spent(query, log) => Ok(Reached::Spent(query, log)),
-        Stop::LogFull(query, log) => Ok(Reached::LogFull(query, log)),
-        Stop::Large(query) => Ok(Reached::Large(query)),
+// Whether the second search begins: it has not yet, and the first one has ended or goes on for long.
+fn begins(is_late: bool, first_goes: bool, budget: Option<u64>) -> bool {
+    if is_late {
+        return false;
+    }
+    match budget {
+        Some(states) => !first_goes || states >= LATE,
+        None => true,
     }
 }

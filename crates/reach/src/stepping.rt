@@ -3,7 +3,7 @@ ghost use Rattle.std.specs.Prelude.{◌≡◌, ◌≤◌, ◌<◌, None, length,
 ghost use Rattle.reach.specs.Answers.{IsReached};
 ghost use Rattle.reach.specs.Progress.{IsProgress};
 ghost use Rattle.reach.specs.Questions.{IsStop};
-ghost use Rattle.reach.specs.Searches.{AreGood};
+ghost use Rattle.reach.specs.Sides.{AreGood};
 
 use crate::answer::Reached;
 use crate::ending::{inductive, opened};

@@ -1,9 +1,6 @@
 // What leads into a cube.
 use psl_base::{Bits, Items};
 
-/// Literals, as of a clause or a cube.
-pub type Literals = Items<i32>;
-
 /// States in order, each of which follows the one before it.
 pub type Path = Items<Bits>;
 

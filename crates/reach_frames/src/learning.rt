@@ -74,6 +74,9 @@ fn lesson<M: Machine>(
 {
     let last = frames.len() - 1;
     let level = raise(alloc, machine, frames, core.as_slice(), place)?;
+    if !machine.leaves_out() {
+        return Ok(Learned { cube: core, level });
+    }
     if level == last {
         return at_last(alloc, machine, frames, core, level);
     }

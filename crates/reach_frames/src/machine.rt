@@ -72,6 +72,10 @@ pub trait Machine {
     fn thinned(&self, alloc: Global, cube: &[i32]) -> Result<Bits, NoMemory>
         requires { IsCube (system self.now).width cube.now };
 
+    /// Whether literals are left out of cubes one after the other, beyond what a refutation tells. It is a hint, and
+    /// nothing is promised of it.
+    fn leaves_out(&self) -> bool;
+
     /// Whether it is plain that no run begins in a cube. It is a hint, and nothing is promised of it.
     fn is_away(&self, cube: &[i32]) -> bool;
 

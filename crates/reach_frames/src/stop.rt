@@ -1,7 +1,6 @@
 // Why a search stops before it is done.
-use crate::Literals;
 use clauses::{Clauses, Log};
-use psl_base::NoMemory;
+use psl_base::{Items, NoMemory};
 
 /// A formula that a machine could not decide.
 #[derive(Debug, Drop)]
@@ -14,7 +13,7 @@ pub enum ReachQuery {
     Bad(Clauses),
     /// A state that meets these clauses and is outside the cube, and one that follows it in the cube. Where the truth value
     /// says so, the first begins.
-    Relative(Clauses, bool, Literals),
+    Relative(Clauses, bool, Items<i32>),
 }
 
 /// Why a search stops before it is done.

@@ -27,9 +27,11 @@ pub(crate) fn words_of(alloc: Global, list: &[i32]) -> Result<Vec<u32>, NoMemory
 pub(crate) fn literals_of(alloc: Global, words: &[u32]) -> Result<Literals, NoMemory>
     ensures { IfOk result (λ list. list ≡ literals words.now) }
 {
-    let mut list = Vec::with_capacity(alloc, words.len())?;
-    add_literals(&mut list, words)?;
-    Ok(Literals::from_vec(list))
+    let mut list = Literals::new(alloc);
+    for word in words {
+        list.push(word.cast_signed())?;
+    }
+    Ok(list)
 }
 
 /// Adds the literals of words at the end.

@@ -114,6 +114,10 @@ impl Machine for Table {
         mask(alloc, self.start.len(), false)
     }
 
+    fn leaves_out(&self) -> bool {
+        true
+    }
+
     // So that each literal is tried.
     fn is_away(&self, _cube: &[i32]) -> bool {
         true

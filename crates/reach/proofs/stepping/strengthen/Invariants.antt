@@ -1,5 +1,5 @@
 use Rattle.std.proofs.Common.{◌≤◌, ◌<◌, ◌-◌, length}
-use Rattle.reach.specs.Searches.{AreGood}
+use Rattle.reach.specs.Sides.{AreGood}
 use Rattle.reach.proofs.stepping.strengthen.Given as goal
 
 abbrev pub invariant-loop-reached : goal.invariant-loop-reached
