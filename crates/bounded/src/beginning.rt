@@ -38,8 +38,6 @@ pub(crate) fn add_first(
 {
     let start = places.owed(0, places.automaton.start());
     put(clauses, &[start])?;
-    let Ok(literals) = begin_literals(alloc, places) else {
-        return Err(CnfFault::NoMemory);
-    };
+    let literals = begin_literals(alloc, places)?;
     put(clauses, literals.as_slice())
 }

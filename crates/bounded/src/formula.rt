@@ -30,7 +30,7 @@ use crate::places::Places;
 use crate::placing::add_places;
 use alternating::Alternating;
 use clauses::{Clauses, Cnf, CnfFault, MOST_VARIABLES};
-use gates_builder::Builder;
+use gates_builder::{Builder, negated};
 use gates_formula::formula;
 use gates_theory::Literals;
 use netlist::{Netlist, Signals, soundness_law};
@@ -61,9 +61,7 @@ fn placed<'a>(
     }
     let (before, bits) = (builder.variables(), bits as u32);
     add_places(builder, bits, n)?;
-    let Ok(starts) = starts_of(alloc, violation, digits) else {
-        return Err(CnfFault::NoMemory);
-    };
+    let starts = starts_of(alloc, violation, digits)?;
     let _few = builder.variables();
     Ok(Places {
         automaton: violation,
@@ -128,13 +126,74 @@ fn asked_clauses(
 {
     soundness_law(netlist);
     automaton_law(places.automaton);
-    let Ok(signals) = free_in(alloc, netlist, cone) else {
-        return Err(CnfFault::NoMemory);
-    };
+    let signals = free_in(alloc, netlist, cone)?;
     let frames = frames.as_slice();
     let mut clauses = front_clauses(alloc, places, signals.as_slice(), frames)?;
     add_obligations(builder, &mut clauses, places, frames)?;
     Ok(clauses)
+}
+
+/// The formula of a search, and an order in which it is likely to be decided soon.
+#[derive(Drop)]
+pub struct OrderedFormula {
+    pub formula: Cnf,
+    /// Literals to be decided before all others, in this order. Nothing is promised of them.
+    pub first: Literals,
+}
+
+// That nothing is owed at a place, from the first places on. Where all that is owed behind a place is denied, what is owed
+// at it has to be met there, so valuations are asked for one after the other, as where the formula grows by one of them (Een
+// and Sorensson, Temporal induction by incremental SAT solving, 2003).
+fn first_literals(alloc: Global, places: &Places<'_>) -> Result<Literals, NoMemory> {
+    let mut literals = Literals::new(alloc);
+    for place in 1..=places.last {
+        for number in 0..places.automaton.len() {
+            literals.push(negated(places.owed(place, number as u32)))?;
+        }
+    }
+    Ok(literals)
+}
+
+/// The formula that has a model exactly where some run of so many valuations has a word that the automaton accepts.
+///
+/// # Errors
+///
+/// `TooLarge` only where there would be too many variables or words, and `NoMemory` if memory is refused.
+pub fn ordered_search(
+    alloc: Global,
+    netlist: &Netlist,
+    violation: &Alternating,
+    n: u32,
+) -> Result<OrderedFormula, CnfFault>
+    requires tests { TestsSignals netlist.now violation.now }
+    ensures variables { IfOk result (λ ordered. ordered.formula.variables ≡ search_variables netlist.now violation.now n) }
+    ensures clauses { IfOk result (λ ordered. ordered.formula.clauses ≡ search_clauses netlist.now violation.now n) }
+    ensures models { IfOk result (λ ordered. HasModel ordered.formula.variables ordered.formula.clauses ↔ SomeFound netlist.now violation.now n) }
+    ensures fits { IfOk result (λ ordered. IsTooLarge (search_variables netlist.now violation.now n)
+        (search_clauses netlist.now violation.now n) → ⊥) }
+    ensures words { IfOk result (λ ordered. length violation.now.obligations ≤ MOST_OBLIGATIONS
+        → clause_words ordered.formula.clauses ≤ 1000 * suc n * suc n * search_bulk netlist.now violation.now) }
+    ensures few { IfOk result (λ ordered. length violation.now.obligations ≤ MOST_OBLIGATIONS
+        → ordered.formula.variables ≤ 1000 * suc n * suc n * search_bulk netlist.now violation.now) }
+    ensures large { IfErr result (λ fault. fault ≡ CnfFault.TooLarge
+        → IsTooLarge (search_variables netlist.now violation.now n) (search_clauses netlist.now violation.now n)) }
+{
+    soundness_law(netlist);
+    automaton_law(violation);
+    let Framed {
+        mut builder,
+        frames,
+        cone,
+    } = search_frames(alloc, netlist, violation, n)?;
+    let places = placed(alloc, &mut builder, violation, n)?;
+    let clauses = asked_clauses(alloc, &mut builder, netlist, &places, &frames, &cone)?;
+    let cnf = formula(alloc, &builder, &clauses)?;
+    formula_is_few(&cnf);
+    let first = first_literals(alloc, &places)?;
+    Ok(OrderedFormula {
+        formula: cnf,
+        first,
+    })
 }
 
 /// The formula that has a model exactly where some run of so many valuations has a word that the automaton accepts.
@@ -161,16 +220,6 @@ pub fn search_formula(
     ensures large { IfErr result (λ fault. fault ≡ CnfFault.TooLarge
         → IsTooLarge (search_variables netlist.now violation.now n) (search_clauses netlist.now violation.now n)) }
 {
-    soundness_law(netlist);
-    automaton_law(violation);
-    let Framed {
-        mut builder,
-        frames,
-        cone,
-    } = search_frames(alloc, netlist, violation, n)?;
-    let places = placed(alloc, &mut builder, violation, n)?;
-    let clauses = asked_clauses(alloc, &mut builder, netlist, &places, &frames, &cone)?;
-    let cnf = formula(alloc, &builder, &clauses)?;
-    formula_is_few(&cnf);
-    Ok(cnf)
+    let ordered = ordered_search(alloc, netlist, violation, n)?;
+    Ok(ordered.formula)
 }

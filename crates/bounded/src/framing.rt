@@ -64,15 +64,11 @@ fn add_frames(
 {
     growing_law();
     let first = first_frame(alloc, builder, netlist, order, cone, true)?;
-    let Ok(mut frames) = alone(alloc, first) else {
-        return Err(CnfFault::NoMemory);
-    };
+    let mut frames = alone(alloc, first)?;
     for earlier in 0..last {
         let before = frames.at(earlier as usize);
         let next = next_frame(alloc, builder, netlist, order, cone, earlier + 1, before)?;
-        let Ok(()) = frames.push(next) else {
-            return Err(CnfFault::NoMemory);
-        };
+        frames.push(next)?;
     }
     Ok(frames)
 }
@@ -125,15 +121,9 @@ pub(crate) fn search_frames(
     if last >= MOST_VARIABLES {
         return Err(CnfFault::TooLarge);
     }
-    let Ok(cone) = search_cone(alloc, netlist, violation) else {
-        return Err(CnfFault::NoMemory);
-    };
-    let Ok(order) = order_of(alloc, netlist) else {
-        return Err(CnfFault::NoMemory);
-    };
-    let Ok(mut builder) = no_nodes(alloc, netlist) else {
-        return Err(CnfFault::NoMemory);
-    };
+    let cone = search_cone(alloc, netlist, violation)?;
+    let order = order_of(alloc, netlist)?;
+    let mut builder = no_nodes(alloc, netlist)?;
     let frames = add_frames(alloc, &mut builder, netlist, order.as_slice(), &cone, last)?;
     Ok(Framed {
         builder,

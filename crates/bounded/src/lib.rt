@@ -21,6 +21,6 @@ mod runs;
 mod serving;
 mod tested;
 
-pub use formula::search_formula;
+pub use formula::{OrderedFormula, ordered_search, search_formula};
 pub use laws::{example_law, filled_law, growing_law, search_law, search_size_law};
 pub use runs::read_run;

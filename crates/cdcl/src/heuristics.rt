@@ -5,7 +5,8 @@ use crate::spread::Spread;
 use crate::usage::{Candidate, Usage};
 use cdcl_conflict::Lemma;
 use cdcl_propagation::Propagator;
-use cdcl_trail::Trail;
+use cdcl_trail::{Trail, number_of};
+use clauses::MOST_VARIABLES;
 use psl_base::NoMemory;
 use std::alloc::Global;
 
@@ -41,6 +42,23 @@ impl Heuristics {
             spread: Spread::new(alloc, variables)?,
             next_drop: FIRST_DROP,
         })
+    }
+
+    /// The same, where some literals are decided before all others. Those of other variables are left out.
+    pub(crate) fn with_first(
+        alloc: Global,
+        variables: u32,
+        first: &[i32],
+    ) -> Result<Heuristics, NoMemory> {
+        let mut heuristics = Heuristics::new(alloc, variables)?;
+        let mut numbers = Vec::new(alloc);
+        for literal in first {
+            if *literal != 0 && literal.unsigned_abs() <= variables.min(MOST_VARIABLES) {
+                numbers.push(number_of(*literal))?;
+            }
+        }
+        heuristics.decider.decide_first(numbers);
+        Ok(heuristics)
     }
 
     /// Counts a lemma, which an analysis found that reached some places of the trail: whether it is time to restart.

@@ -28,6 +28,6 @@ pub use heuristics::Heuristics;
 pub use learn::analyze;
 pub use load::{other_literal, read_literals};
 pub use psl_base::NoMemory;
-pub use run::solve;
+pub use run::{solve, solve_first};
 pub use usage::Candidate;
 pub use valuation::values;

@@ -24,13 +24,25 @@ use std::alloc::Global;
 pub fn solve(alloc: Global, cnf: &Cnf, steps: u64) -> Result<Answer, NoMemory>
     ensures { IfOk result (IsAnswer cnf.now steps) }
 {
+    solve_first(alloc, cnf, steps, &[])
+}
+
+/// The same, where some literals are decided before all others, in this order, as long as their variables have no value.
+/// Where a formula asks one question after another, so the answer to each is learned before the next one comes up.
+///
+/// # Errors
+///
+/// `NoMemory` if memory is refused.
+pub fn solve_first(alloc: Global, cnf: &Cnf, steps: u64, first: &[i32]) -> Result<Answer, NoMemory>
+    ensures { IfOk result (IsAnswer cnf.now steps) }
+{
     if steps == 0 {
         return Ok(Answer::Spent(Log::new(alloc)));
     }
     let mut propagator = Propagator::new(alloc, cnf.variables)?;
     match load(alloc, cnf, &mut propagator)? {
         Some(place) => Ok(Answer::Refuted(refute(alloc, cnf, &propagator, place)?)),
-        None => search(alloc, Solver::new(alloc, cnf, propagator)?, steps),
+        None => search(alloc, Solver::new(alloc, cnf, propagator, first)?, steps),
     }
 }
 

@@ -51,11 +51,12 @@ impl Drop for Solver<'_> {
 }
 
 impl<'a> Solver<'a> {
-    /// A solver of a formula whose clauses are there, with an empty log.
+    /// A solver of a formula whose clauses are there, with an empty log. Some literals are decided before all others.
     pub(crate) fn new(
         alloc: Global,
         formula: &'a Cnf,
         propagator: Propagator,
+        first: &[i32],
     ) -> Result<Solver<'a>, NoMemory>
         ensures formula { IfOk result (λ solver. solver.formula.now ≡ formula.now) }
         ensures propagator { IfOk result (λ solver. solver.propagator ≡ propagator) }
@@ -72,7 +73,7 @@ impl<'a> Solver<'a> {
                 hints: Vec::new(alloc),
             },
             signed: Vec::new(alloc),
-            heuristics: Heuristics::new(alloc, formula.variables)?,
+            heuristics: Heuristics::with_first(alloc, formula.variables, first)?,
         })
     }
 

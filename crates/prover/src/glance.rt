@@ -5,8 +5,8 @@ ghost use Rattle.prover.specs.Glances.{end_of, finding_of, IsGlance};
 
 use crate::context::Prover;
 use crate::finding::{Finding, Query, SearchEnd};
-use bounded::{read_run, search_formula};
-use cdcl::{Answer, solve};
+use bounded::{ordered_search, read_run};
+use cdcl::{Answer, solve_first};
 use clauses::{CnfFault, Log};
 use netlist::Run;
 use psl_base::NoMemory;
@@ -65,12 +65,12 @@ impl Prover<'_> {
         ensures { IfOk result (IsGlance self.entry.task size steps) }
     {
         let netlist = self.task.netlist;
-        let formula = match search_formula(alloc, netlist, &self.claim.violation, size) {
-            Ok(formula) => formula,
+        let ordered = match ordered_search(alloc, netlist, &self.claim.violation, size) {
+            Ok(ordered) => ordered,
             Err(CnfFault::TooLarge) => return Ok(Glance::Nothing(Untold::Large)),
             Err(CnfFault::NoMemory) => return Err(NoMemory),
         };
-        match solve(alloc, &formula, steps)? {
+        match solve_first(alloc, &ordered.formula, steps, ordered.first.as_slice())? {
             Answer::Model(values) => {
                 let run = read_run(alloc, netlist, &self.claim.violation, size, &values)?;
                 Ok(Glance::Violates(run))

@@ -25,9 +25,9 @@ returns-in_err-clauses-clause-large c =
     let a = places.automaton.now in
     let n = places.last in
     let on : Premises d a = record { sound = c.soundness_law.ensures.sound; good = c.automaton_law.ensures; tests = c.requires.tests; some = c.soundness_law.ensures.ordered.0; ordered = c.soundness_law.ensures.ordered.1 } in
-    let signals : c.as_slice.result.now ≡ free_in d a = c.as_slice.ensures ∙ c.in-Ok.ensures.is ∙ free-are d a on.sound c.args.cone.now c.requires.placed.cone_is in
+    let signals : c.as_slice.result.now ≡ free_in d a = c.as_slice.ensures ∙ c.in_ok-signals.ensures.is ∙ free-are d a on.sound c.args.cone.now c.requires.placed.cone_is in
     let fronts = fronts-are d a n places.before c.as_slice-frames.result.now c.requires.placed.before (c.as_slice-frames.ensures ∙ c.requires.placed.frames_are) c.as_slice.result.now signals in
-    let p = err_from_is_err_and c.from_residual.result c.from_residual.ensures.1 in
+    let p = err_from_is_err_and c.from_residual-in_err-clauses.result c.from_residual-in_err-clauses.ensures.1 in
     rw (p.1, p.2) (λ e. front-large d a n on (subst (λ (cs : List (List ℤ)). MOST_WORDS < clause_words cs) fronts (c.in_err-clauses.ensures.large e)))
 
 pub add_obligations-requires-clause-places : goal.add_obligations-requires-clause-places
@@ -52,7 +52,7 @@ returns-in_err-add_obligations-clause-large c =
     let n = places.last in
     let on : Premises d a = record { sound = c.soundness_law.ensures.sound; good = c.automaton_law.ensures; tests = c.requires.tests; some = c.soundness_law.ensures.ordered.0; ordered = c.soundness_law.ensures.ordered.1 } in
     let frames = c.as_slice-frames.ensures ∙ c.requires.placed.frames_are in
-    let signals : c.as_slice.result.now ≡ free_in d a = c.as_slice.ensures ∙ c.in-Ok.ensures.is ∙ free-are d a on.sound c.args.cone.now c.requires.placed.cone_is in
+    let signals : c.as_slice.result.now ≡ free_in d a = c.as_slice.ensures ∙ c.in_ok-signals.ensures.is ∙ free-are d a on.sound c.args.cone.now c.requires.placed.cone_is in
     let fronts = fronts-are d a n places.before c.as_slice-frames.result.now c.requires.placed.before frames c.as_slice.result.now signals in
     let nodes = ap (λ (m : Making). m.nodes) c.requires.placed.builder in
     let all = asked-are d a n places.before c.as_slice-frames.result.now c.requires.placed.before frames c.args.builder.now.nodes c.in_ok-clauses.clauses nodes (c.in_ok-clauses.ensures.clauses ∙ fronts) in
@@ -66,7 +66,7 @@ returns-clause-builder c =
     let a = places.automaton.now in
     let n = places.last in
     let frames = c.as_slice-frames.ensures ∙ c.requires.placed.frames_are in
-    let signals : c.as_slice.result.now ≡ free_in d a = c.as_slice.ensures ∙ c.in-Ok.ensures.is ∙ free-are d a c.soundness_law.ensures.sound c.args.cone.now c.requires.placed.cone_is in
+    let signals : c.as_slice.result.now ≡ free_in d a = c.as_slice.ensures ∙ c.in_ok-signals.ensures.is ∙ free-are d a c.soundness_law.ensures.sound c.args.cone.now c.requires.placed.cone_is in
     let fronts = fronts-are d a n places.before c.as_slice-frames.result.now c.requires.placed.before frames c.as_slice.result.now signals in
     let nodes = ap (λ (m : Making). m.nodes) c.requires.placed.builder in
     let all = asked-are d a n places.before c.as_slice-frames.result.now c.requires.placed.before frames c.args.builder.now.nodes c.in_ok-clauses.clauses nodes (c.in_ok-clauses.ensures.clauses ∙ fronts) in
@@ -79,7 +79,7 @@ returns-clause-clauses c =
     let a = places.automaton.now in
     let n = places.last in
     let frames = c.as_slice-frames.ensures ∙ c.requires.placed.frames_are in
-    let signals : c.as_slice.result.now ≡ free_in d a = c.as_slice.ensures ∙ c.in-Ok.ensures.is ∙ free-are d a c.soundness_law.ensures.sound c.args.cone.now c.requires.placed.cone_is in
+    let signals : c.as_slice.result.now ≡ free_in d a = c.as_slice.ensures ∙ c.in_ok-signals.ensures.is ∙ free-are d a c.soundness_law.ensures.sound c.args.cone.now c.requires.placed.cone_is in
     let fronts = fronts-are d a n places.before c.as_slice-frames.result.now c.requires.placed.before frames c.as_slice.result.now signals in
     let nodes = ap (λ (m : Making). m.nodes) c.requires.placed.builder in
     let all = asked-are d a n places.before c.as_slice-frames.result.now c.requires.placed.before frames c.args.builder.now.nodes c.in_ok-clauses.clauses nodes (c.in_ok-clauses.ensures.clauses ∙ fronts) in

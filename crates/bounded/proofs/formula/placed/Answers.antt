@@ -49,6 +49,6 @@ invariant_of-result c =
     record {
       bits_are = bits;
       digits_are = width;
-      starts_are = c.in-Ok.ensures ∙ ap (λ w. map (λ number. bits_of w (take number a.obligations)) (range_with_len 0 (length a.obligations))) width;
+      starts_are = c.in_ok-starts.ensures ∙ ap (λ w. map (λ number. bits_of w (take number a.obligations)) (range_with_len 0 (length a.obligations))) width;
       room = subst (λ b. c.variables-before.result + (suc (suc n) * b + n) ≤ MOST_VARIABLES) (sym bits) room;
     }

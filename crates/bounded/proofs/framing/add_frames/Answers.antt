@@ -47,4 +47,4 @@ loop-earlier-preserved c =
     let number = c.loop-earlier.earlier in
     let next = frames-next d c.args.order.now cone old c.loop-earlier.builder c.loop-earlier.frames number c.at-before.result.now c.loop-earlier.invariant c.at-before.ensures c.next_frame.new.builder c.in_ok-next.next
     c.in_ok-next.ensures.frame c.in_ok-next.ensures.size in
-    subst (λ (fs : List (List ℤ)). FramesSoFar (at d c.args.order.now cone old) old c.next_frame.new.builder fs (number + 1) d.signals) (sym c.in-Ok-push.ensures.ok) next
+    subst (λ (fs : List (List ℤ)). FramesSoFar (at d c.args.order.now cone old) old c.next_frame.new.builder fs (number + 1) d.signals) (sym c.in_ok-push.ensures.ok) next

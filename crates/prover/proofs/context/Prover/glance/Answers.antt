@@ -18,27 +18,27 @@ returns-in-Model c = record {
 
 pub returns-in-Refuted : goal.returns-in-Refuted
 returns-in-Refuted c =
-    let r : IsRefutation c.in-Ok.formula c.args.steps c.in-Refuted.log =
-    subst (λ (a : Answer). IsAnswer c.in-Ok.formula c.args.steps a) c.in-Refuted.is c.in_ok-values.ensures in
+    let r : IsRefutation c.in-Ok.ordered.formula c.args.steps c.in-Refuted.log =
+    subst (λ (a : Answer). IsAnswer c.in-Ok.ordered.formula c.args.steps a) c.in-Refuted.is c.in_ok-values.ensures in
     none-more c.args.self.task.netlist.now c.args.self.task.unit.now c.args.self.task.directive.now c.args.self.claim.now.violation c.args.size
-    c.in-Ok.formula c.in-Refuted.log c.requires.ready.claim.violation c.in-Ok.ensures.models r.refutes
+    c.in-Ok.ordered.formula c.in-Refuted.log c.requires.ready.claim.violation c.in-Ok.ensures.models r.refutes
 
 pub returns-in-Spent : goal.returns-in-Spent
 returns-in-Spent c =
-    let spent : IsSpent c.in-Ok.formula c.args.steps c.in-Spent.log =
-    subst (λ (a : Answer). IsAnswer c.in-Ok.formula c.args.steps a) c.in-Spent.is c.in_ok-values.ensures in (
-      c.in-Ok.formula,
+    let spent : IsSpent c.in-Ok.ordered.formula c.args.steps c.in-Spent.log =
+    subst (λ (a : Answer). IsAnswer c.in-Ok.ordered.formula c.args.steps a) c.in-Spent.is c.in_ok-values.ensures in (
+      c.in-Ok.ordered.formula,
       query-formula c.args.self.task.netlist.now c.args.self.task.unit.now c.args.self.task.directive.now c.args.self.claim.now.violation
-          c.args.size c.in-Ok.formula c.requires.ready.claim.violation c.in-Ok.ensures.variables c.in-Ok.ensures.clauses,
+          c.args.size c.in-Ok.ordered.formula c.requires.ready.claim.violation c.in-Ok.ensures.variables c.in-Ok.ensures.clauses,
       spent,
     )
 
 pub returns : goal.returns
 returns c =
-    let full : IsFull c.in-Ok.formula c.args.steps c.in-LogFull.log =
-    subst (λ (a : Answer). IsAnswer c.in-Ok.formula c.args.steps a) c.in-LogFull.is c.in_ok-values.ensures in (
-      c.in-Ok.formula,
+    let full : IsFull c.in-Ok.ordered.formula c.args.steps c.in-LogFull.log =
+    subst (λ (a : Answer). IsAnswer c.in-Ok.ordered.formula c.args.steps a) c.in-LogFull.is c.in_ok-values.ensures in (
+      c.in-Ok.ordered.formula,
       query-formula c.args.self.task.netlist.now c.args.self.task.unit.now c.args.self.task.directive.now c.args.self.claim.now.violation
-          c.args.size c.in-Ok.formula c.requires.ready.claim.violation c.in-Ok.ensures.variables c.in-Ok.ensures.clauses,
+          c.args.size c.in-Ok.ordered.formula c.requires.ready.claim.violation c.in-Ok.ensures.variables c.in-Ok.ensures.clauses,
       full,
     )

@@ -10,7 +10,7 @@ use Rattle.bounded.proofs.Cones.{Premises}
 use Rattle.bounded.proofs.Gathered.{final-few, final-models, final-within, final-words, placed-from}
 use Rattle.bounded.proofs.Standing.{frames-still}
 use Rattle.bounded.proofs.Totals.{placed-few}
-use Rattle.bounded.proofs.formula.search_formula.Goals as goal
+use Rattle.bounded.proofs.formula.ordered_search.Goals as goal
 
 pub returns-in_err-places-clause-large : goal.returns-in_err-places-clause-large
 returns-in_err-places-clause-large c =
