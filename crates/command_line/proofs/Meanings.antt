@@ -75,7 +75,8 @@ one_evidence values a b one two =
     let cert : a.cert ≡ b.cert = sym one.cert ∙ two.cert in
     let vcd : a.vcd ≡ b.vcd = sym one.vcd ∙ two.vcd in
     let loops : a.loops ≡ b.loops = one_given _ _ _ _ _ (omega arith) one.loops two.loops in
-    λ i. record { cert = cert i; vcd = vcd i; loops = loops i }
+    let buses : a.buses ≡ b.buses = sym one.buses ∙ two.buses in
+    λ i. record { cert = cert i; vcd = vcd i; loops = loops i; buses = buses i }
 
 one_said : (most : ℕ) (values : Values) (first second : Meaning) → most < 2 ^ 32 → kind_of first ≡ kind_of second → Says most values first
     → Says most values second → first ≡ second

@@ -14,7 +14,7 @@ use Rattle.command_line.specs.Evidences.{IsEvidence}
 use Rattle.command_line.specs.Kinds.{word_of}
 use Rattle.command_line.specs.Numbers.{IsGiven}
 use Rattle.command_line.specs.Ranges.{AreInRange}
-use Rattle.command_line.specs.Plain.{ArePlain, IsPlain, certificates_in, flags, limits_of_covers, limits_of_depth, limits_of_reach, recordings_in, to_check, usual_limits, with_depth, with_options, with_points, with_recordings, with_unknown}
+use Rattle.command_line.specs.Plain.{ArePlain, certificates_in, flags, IsPlain, limits_of_covers, limits_of_depth, limits_of_reach, recordings_in, to_check, usual_limits, vectors_in, with_buses, with_depth, with_options, with_points, with_recordings, with_unknown}
 use Rattle.command_line.specs.declared.Limits.{Limits}
 use Rattle.command_line.specs.declared.Unknown.{Unknown}
 use Rattle.command_line.specs.declared.Unknown.TheVariants.{Zero, One, Refuse}
@@ -191,8 +191,9 @@ usual values limits depth visits steps reach covers = record {
 }
 
 -- certificates alone
-certified : (values : Values) (cert : Option (List ℕ)) → values (codes "cert") ≡ cert → values (codes "vcd") ≡ None → values (codes "loops") ≡ Some (codes "1") → IsEvidence values (certificates_in cert)
-certified values cert given none loops = record { cert = given; vcd = none; loops = given_text 1 16 1 _ (codes "1") loops usual_loops (omega arith) (omega arith) }
+certified : (values : Values) (cert : Option (List ℕ)) → values (codes "cert") ≡ cert → values (codes "vcd") ≡ None → values (codes "loops") ≡ Some (codes "1")
+    → is_true (values (codes "buses")) ≡ false → IsEvidence values (certificates_in cert)
+certified values cert given none loops alone = record { cert = given; vcd = none; loops = given_text 1 16 1 _ (codes "1") loops usual_loops (omega arith) (omega arith); buses = alone }
 
 pub plain_prove : (most : ℕ) (unit netlist : List ℕ) → IsPlain unit → IsPlain netlist
     → IsCommand most (codes "prove" ∷ unit ∷ netlist ∷ []) (prove unit netlist usual_limits (certificates_in None))
@@ -209,7 +210,8 @@ plain_prove most a b one two =
         run_given Prove words end (codes "netlist") run,
         usual _ usual_limits depth (run_given Prove words end (codes "visits") run) (run_given Prove words end (codes "steps") run) (ap is_true (run_given Prove words end (codes "reach") run))
             (ap is_true (run_given Prove words end (codes "covers") run)),
-        certified _ _ (run_given Prove words end (codes "cert") run) (run_given Prove words end (codes "vcd") run) (run_given Prove words end (codes "loops") run),
+        certified _ _ (run_given Prove words end (codes "cert") run) (run_given Prove words end (codes "vcd") run) (run_given Prove words end (codes "loops") run)
+            (ap is_true (run_given Prove words end (codes "buses") run)),
       ),
     )
 
@@ -233,7 +235,8 @@ plain_depth most a b number one two above below =
         run_given Prove words end (codes "netlist") run,
         usual _ (limits_of_depth number) depth (run_given Prove words end (codes "visits") run) (run_given Prove words end (codes "steps") run) (ap is_true (run_given Prove words end (codes "reach") run))
             (ap is_true (run_given Prove words end (codes "covers") run)),
-        certified _ _ (run_given Prove words end (codes "cert") run) (run_given Prove words end (codes "vcd") run) (run_given Prove words end (codes "loops") run),
+        certified _ _ (run_given Prove words end (codes "cert") run) (run_given Prove words end (codes "vcd") run) (run_given Prove words end (codes "loops") run)
+            (ap is_true (run_given Prove words end (codes "buses") run)),
       ),
     )
 
@@ -256,7 +259,8 @@ plain_reach most a b one two =
         run_given Prove words end (codes "netlist") run,
         usual _ limits_of_reach depth (run_given Prove words end (codes "visits") run) (run_given Prove words end (codes "steps") run) (ap is_true (run_given Prove words end (codes "reach") run))
             (ap is_true (run_given Prove words end (codes "covers") run)),
-        certified _ _ (run_given Prove words end (codes "cert") run) (run_given Prove words end (codes "vcd") run) (run_given Prove words end (codes "loops") run),
+        certified _ _ (run_given Prove words end (codes "cert") run) (run_given Prove words end (codes "vcd") run) (run_given Prove words end (codes "loops") run)
+            (ap is_true (run_given Prove words end (codes "buses") run)),
       ),
     )
 
@@ -279,7 +283,8 @@ plain_covers most a b one two =
         run_given Prove words end (codes "netlist") run,
         usual _ limits_of_covers depth (run_given Prove words end (codes "visits") run) (run_given Prove words end (codes "steps") run) (ap is_true (run_given Prove words end (codes "reach") run))
             (ap is_true (run_given Prove words end (codes "covers") run)),
-        certified _ _ (run_given Prove words end (codes "cert") run) (run_given Prove words end (codes "vcd") run) (run_given Prove words end (codes "loops") run),
+        certified _ _ (run_given Prove words end (codes "cert") run) (run_given Prove words end (codes "vcd") run) (run_given Prove words end (codes "loops") run)
+            (ap is_true (run_given Prove words end (codes "buses") run)),
       ),
     )
 
@@ -391,7 +396,8 @@ options_with most a b prefix limits true true plain range =
         limits_given _ (record limits { reach = true; covers = true }) (range_with limits true true range) (run_given Prove words end (codes "depth") run)
             (run_given Prove words end (codes "visits") run) (run_given Prove words end (codes "steps") run)
             (ap is_true (run_given Prove words end (codes "reach") run)) (ap is_true (run_given Prove words end (codes "covers") run)),
-        certified _ _ (run_given Prove words end (codes "cert") run) (run_given Prove words end (codes "vcd") run) (run_given Prove words end (codes "loops") run),
+        certified _ _ (run_given Prove words end (codes "cert") run) (run_given Prove words end (codes "vcd") run) (run_given Prove words end (codes "loops") run)
+            (ap is_true (run_given Prove words end (codes "buses") run)),
       ),
     )
 options_with most a b prefix limits true false plain range =
@@ -406,7 +412,8 @@ options_with most a b prefix limits true false plain range =
         limits_given _ (record limits { reach = true; covers = false }) (range_with limits true false range) (run_given Prove words end (codes "depth") run)
             (run_given Prove words end (codes "visits") run) (run_given Prove words end (codes "steps") run)
             (ap is_true (run_given Prove words end (codes "reach") run)) (ap is_true (run_given Prove words end (codes "covers") run)),
-        certified _ _ (run_given Prove words end (codes "cert") run) (run_given Prove words end (codes "vcd") run) (run_given Prove words end (codes "loops") run),
+        certified _ _ (run_given Prove words end (codes "cert") run) (run_given Prove words end (codes "vcd") run) (run_given Prove words end (codes "loops") run)
+            (ap is_true (run_given Prove words end (codes "buses") run)),
       ),
     )
 options_with most a b prefix limits false true plain range =
@@ -421,7 +428,8 @@ options_with most a b prefix limits false true plain range =
         limits_given _ (record limits { reach = false; covers = true }) (range_with limits false true range) (run_given Prove words end (codes "depth") run)
             (run_given Prove words end (codes "visits") run) (run_given Prove words end (codes "steps") run)
             (ap is_true (run_given Prove words end (codes "reach") run)) (ap is_true (run_given Prove words end (codes "covers") run)),
-        certified _ _ (run_given Prove words end (codes "cert") run) (run_given Prove words end (codes "vcd") run) (run_given Prove words end (codes "loops") run),
+        certified _ _ (run_given Prove words end (codes "cert") run) (run_given Prove words end (codes "vcd") run) (run_given Prove words end (codes "loops") run)
+            (ap is_true (run_given Prove words end (codes "buses") run)),
       ),
     )
 options_with most a b prefix limits false false plain range =
@@ -436,7 +444,8 @@ options_with most a b prefix limits false false plain range =
         limits_given _ (record limits { reach = false; covers = false }) (range_with limits false false range) (run_given Prove words end (codes "depth") run)
             (run_given Prove words end (codes "visits") run) (run_given Prove words end (codes "steps") run)
             (ap is_true (run_given Prove words end (codes "reach") run)) (ap is_true (run_given Prove words end (codes "covers") run)),
-        certified _ _ (run_given Prove words end (codes "cert") run) (run_given Prove words end (codes "vcd") run) (run_given Prove words end (codes "loops") run),
+        certified _ _ (run_given Prove words end (codes "cert") run) (run_given Prove words end (codes "vcd") run) (run_given Prove words end (codes "loops") run)
+            (ap is_true (run_given Prove words end (codes "buses") run)),
       ),
     )
 
@@ -510,6 +519,41 @@ plain_recordings most a b prefix number plain some most_loops =
           cert = run_given Prove words end (codes "cert") run;
           vcd = run_given Prove words end (codes "vcd") run;
           loops = given_number 1 16 number _ (run_given Prove words end (codes "loops") run) some most_loops;
+          buses = ap is_true (run_given Prove words end (codes "buses") run);
+        },
+      ),
+    )
+
+pub plain_buses : (most : ℕ) (unit netlist vcd : List ℕ) → ArePlain unit netlist vcd
+    → IsCommand most (with_buses unit netlist vcd) (prove unit netlist usual_limits (vectors_in vcd))
+unfolding clap_on_literals app
+plain_buses most a b prefix plain =
+    let on_flag = codes "--buses" ∷ [] in
+    let on_prefix = prefix ∷ on_flag in
+    let on_vcd = codes "--vcd" ∷ on_prefix in
+    let words = a ∷ b ∷ on_vcd in
+    let w1 = behind Prove start a in
+    let w2 = behind Prove w1 b in
+    let w3 = behind_any Prove w2 (codes "--vcd") in
+    let w4 = behind_value Prove w3 (codes "vcd") prefix in
+    let end = behind_any Prove w4 (codes "--buses") in
+    let run = word_then Prove start.held 1 end a (b ∷ on_vcd) plain.0 refl
+    (word_then Prove w1.held 2 end b on_vcd plain.1 refl
+    (any_then Prove w2 end (codes "--vcd") on_prefix refl
+    (value_then Prove w3.held 3 end (codes "vcd") prefix on_flag plain.2
+    (any_then Prove w4 end (codes "--buses") [] refl (ends Prove end))))) in
+    let depth = given_text 1 1000 20 _ (codes "20") (run_given Prove words end (codes "depth") run) usual_depth (omega arith) (omega arith) in (
+      record { named = refl; taken = run_taken Prove words end run refl },
+      (
+        run_given Prove words end (codes "unit") run,
+        run_given Prove words end (codes "netlist") run,
+        usual _ usual_limits depth (run_given Prove words end (codes "visits") run) (run_given Prove words end (codes "steps") run) (ap is_true (run_given Prove words end (codes "reach") run))
+            (ap is_true (run_given Prove words end (codes "covers") run)),
+        record {
+          cert = run_given Prove words end (codes "cert") run;
+          vcd = run_given Prove words end (codes "vcd") run;
+          loops = given_text 1 16 1 _ (codes "1") (run_given Prove words end (codes "loops") run) usual_loops (omega arith) (omega arith);
+          buses = ap is_true (run_given Prove words end (codes "buses") run);
         },
       ),
     )

@@ -55,11 +55,19 @@ with_options unit netlist limits prefix =
 
 -- certificates alone, where there is a prefix for them
 abbrev pub certificates_in : Option (List ℕ) → Wanted
-certificates_in cert = record { cert = cert; vcd = None; loops = 1 }
+certificates_in cert = record { cert = cert; vcd = None; loops = 1; buses = false }
 
 -- recordings alone
 abbrev pub recordings_in : List ℕ → ℕ → Wanted
-recordings_in vcd loops = record { cert = None; vcd = Some vcd; loops = loops }
+recordings_in vcd loops = record { cert = None; vcd = Some vcd; loops = loops; buses = false }
+
+-- recordings in which each bus is one vector
+abbrev pub vectors_in : List ℕ → Wanted
+vectors_in vcd = record { cert = None; vcd = Some vcd; loops = 1; buses = true }
+
+-- `prove UNIT NETLIST --vcd PREFIX --buses`
+abbrev pub with_buses : List ℕ → List ℕ → List ℕ → List (List ℕ)
+with_buses unit netlist prefix = codes "prove" ∷ unit ∷ netlist ∷ codes "--vcd" ∷ prefix ∷ codes "--buses" ∷ []
 
 -- `prove UNIT NETLIST --vcd PREFIX --loops N`
 abbrev pub with_recordings : List ℕ → List ℕ → List ℕ → ℕ → List (List ℕ)

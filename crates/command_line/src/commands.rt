@@ -165,6 +165,7 @@ fn evidence_of<'a>(matches: &ArgMatches<'a>) -> Option<Evidence<'a>>
         cert: matches.get_str("cert"),
         vcd: matches.get_str("vcd"),
         loops,
+        buses: is_set(matches, "buses"),
     })
 }
 

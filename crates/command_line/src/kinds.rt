@@ -77,6 +77,7 @@ pub fn args_of<'a>(alloc: Global, kind: Kind) -> Result<Vec<Arg<'a>>, AllocError
             option(alloc, "loops", "1"),
             flag(alloc, "reach"),
             flag(alloc, "covers"),
+            flag(alloc, "buses"),
         ]?,
         Kind::Check => vec![in alloc;
             required(alloc, "unit"),

@@ -6,7 +6,8 @@ ghost use Rattle.std.specs.Prelude.{◌≡◌, ◌∷◌, ◌<◌, ◌≤◌, �
 ghost use Rattle.command_line.specs.Commands.{IsCommand, IsNoCommand, IsRefused, Meaning, meaning_of, most_seed};
 ghost use Rattle.command_line.specs.Commands.Meaning.{wave as a_wave, gen as a_gen, show as a_show, show_netlist as a_netlist, prove as a_proof, check as a_check, replay as a_replay};
 ghost use Rattle.command_line.specs.Ranges.{AreInRange, IsInRange};
-ghost use Rattle.command_line.specs.Plain.{ArePlain, IsPlain, certificates_in, limits_of_covers, limits_of_depth, limits_of_reach, recordings_in, to_check, usual_limits, with_depth, with_options, with_points, with_recordings, with_unknown};
+ghost use Rattle.command_line.specs.Plain.{ArePlain, IsPlain, certificates_in, limits_of_covers, limits_of_depth, limits_of_reach, recordings_in, to_check, usual_limits};
+ghost use Rattle.command_line.specs.Plain.{vectors_in, with_buses, with_depth, with_options, with_points, with_recordings, with_unknown};
 
 mod commands;
 mod kinds;
@@ -86,6 +87,9 @@ pub struct Evidence<'a> {
 
     /// How often the loop of a run is written in its recording, from 1 to 16.
     pub loops: u32,
+
+    /// Whether each bus is one vector in it: `--buses`.
+    pub buses: bool,
 }
 
 /// How a bit of a recording reads that is neither 0 nor 1.
@@ -201,6 +205,7 @@ pub fn plain_words()
         → IsCommand most (with_options unit netlist limits cert) (a_proof unit netlist limits (certificates_in (Some cert))) }
     ensures recordings { (most : ℕ) (unit netlist vcd : List ℕ) (loops : ℕ) → ArePlain unit netlist vcd → 1 ≤ loops → loops ≤ 16
         → IsCommand most (with_recordings unit netlist vcd loops) (a_proof unit netlist usual_limits (recordings_in vcd loops)) }
+    ensures buses { (most : ℕ) (unit netlist vcd : List ℕ) → ArePlain unit netlist vcd → IsCommand most (with_buses unit netlist vcd) (a_proof unit netlist usual_limits (vectors_in vcd)) }
     ensures replay { (most : ℕ) (unit netlist recording : List ℕ) → ArePlain unit netlist recording → IsCommand most (codes "replay" ∷ unit ∷ netlist ∷ recording ∷ []) (a_replay unit netlist recording) }
     ensures check { (most : ℕ) (unit netlist proof : List ℕ) (number : ℕ) → ArePlain unit netlist proof → 1 ≤ number → number < 2 ^ 32 → IsCommand most (to_check unit netlist number proof) (a_check unit netlist number proof) }
     ensures wave_behind { (most : ℕ) (unit recording : List ℕ) → IsCommand most (codes "wave" ∷ codes "--" ∷ unit ∷ recording ∷ []) (a_wave unit recording Unknown.Zero false) }

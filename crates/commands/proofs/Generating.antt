@@ -1,11 +1,13 @@
 -- What `gen` gives: the made recording is read as it was made, and its one directive can be judged.
-use Rattle.std.proofs.Common.{◌≡◌, refl, sym, ◌∙◌, ap, subst, ℕ, ◌≤◌, List, [], ◌∷◌, Some, Ok, arith}
-use Rattle.std.specs.Prelude.{Result, All, Any, codes}
-use Rattle.std.proofs.lemmas.List.Elements.{All-cons, All-nil}
-use Rattle.psl_base.specs.Files.{content_of}
-use Rattle.psl_base.specs.MemShelfState.{MemoryShelf, shelf_state}
+use Rattle.std.proofs.Common.{◌≡◌, ◌⊎◌, inl, inr, refl, sym, ◌∙◌, ap, subst, ℕ, ◌≤◌, List, [], ◌∷◌, None, Ok, arith}
+use Rattle.std.specs.Prelude.{Result, All, Any, codes, is_ok, IsOk}
+use Rattle.std.proofs.lemmas.List.Elements.{All-cons, All-get_or, All-nil}
+use Rattle.std.proofs.lemmas.Option.{get_or_from_slice_get, slice_get_within}
+use Rattle.alternating.specs.Limits.{HasLargeSequence}
 use Rattle.psl_tree.specs.Atoms.{AtomsOfFormula}
-use Rattle.psl_tree.specs.Counts.{formula_size}
+use Rattle.psl_tree.specs.Counts.{formula_size, obligations_of}
+use Rattle.psl_tree.specs.Plain.{plain}
+use Rattle.psl_tree.specs.declared.counts.TheConstants.{MOST_OBLIGATIONS}
 use Rattle.psl_tree.specs.Names.{AtomInRange}
 use Rattle.psl_tree.specs.declared.atom.Atom.{Atom}
 use Rattle.psl_tree.specs.declared.directive.Directive.{Directive}
@@ -19,24 +21,21 @@ use Rattle.vcd_reader.specs.declared.unknown.Unknown.TheVariants.{Zero}
 use Rattle.vcd_reader.specs.Meaning.{reading}
 use Rattle.vcd_reader.specs.Rules.{sample_limit}
 use Rattle.vcd_reader.specs.Sampled.{Sampled, letters_of}
-use Rattle.vcd_reader.specs.Told.{Says}
+use Rattle.wave_judge.specs.Faults.{IsFirstFault, IsJudgeFault, IsJudgeable, IsRefused}
 use Rattle.wave_judge.specs.Judged.{AreVerdicts}
+use Rattle.wave_judge.specs.declared.fault.JudgeFault.{JudgeFault}
+use Rattle.wave_judge.specs.declared.fault.JudgeFault.TheVariants as faults
 use Rattle.wave_judge.specs.declared.verdict.Verdict.{Verdict}
 
-same-some : (a b : List ℕ) → Some a ≡ Some b → a ≡ b
-same-some a b e = cc
+-- a made recording has no fault
+pub made-faultless : (text : List ℕ) (seed samples : ℕ) → text ≡ made_text seed samples → samples ≤ sample_limit → IsOk (reading Zero text)
+made-faultless text seed samples made few = ap (λ (r : Result Sampled VcdFault). is_ok r) (ap (reading Zero) made ∙ accepted Zero seed samples few)
 
-same-read : (a b : Sampled) (r : Result Sampled VcdFault) → r ≡ Ok a → r ≡ Ok b → a ≡ b
-same-read a b r p q = let e : Ok a ≡ Ok b = sym p ∙ q in cc
-
--- what is read of the shelf is what was made
-pub read-made : (shelf : MemoryShelf) (name text : List ℕ) (seed samples : ℕ) (recording : Sampled) → content_of shelf.store.files name ≡ Some text
-    → text ≡ made_text seed samples → samples ≤ sample_limit → Says Zero (shelf_state shelf) name (Ok recording) → recording ≡ made_sampled Zero seed samples
-read-made shelf name text seed samples recording holds made few says =
-    let found = says (content_of shelf.store.files) refl in
-    let same : found.0 ≡ text = same-some found.0 text (sym found.1 ∙ holds) in
-    same-read recording (made_sampled Zero seed samples) (reading Zero (made_text seed samples))
-    (ap (reading Zero) (sym (same ∙ made)) ∙ found.3) (accepted Zero seed samples few)
+-- what is read of it is what was made
+pub read-made : (text : List ℕ) (seed samples : ℕ) (recording : Sampled) → text ≡ made_text seed samples → samples ≤ sample_limit → reading Zero text ≡ Ok recording
+    → recording ≡ made_sampled Zero seed samples
+read-made text seed samples recording made few read =
+    let e : Ok recording ≡ Ok (made_sampled Zero seed samples) = sym read ∙ ap (reading Zero) made ∙ accepted Zero seed samples few in cc
 
 one-all : (P : Directive → Type 0) (d : Directive) → P d → All P (d ∷ [])
 one-all P d h = All-cons P d [] h (All-nil P)
@@ -75,3 +74,34 @@ made-verdicts seed samples recording unit verdicts few made answers judged = rec
   are_answered = answers;
   judged = judged;
 }
+
+-- no part of the formula is a sequence
+none-large : ⊥ ⊎ (⊥ ⊎ ⊥) → ⊥
+none-large (inl large) = large
+none-large (inr (inl large)) = large
+none-large (inr (inr large)) = large
+
+-- the directive can be judged
+answered-judgeable : (unit : List Directive) → AreAnswered unit → All IsJudgeable unit
+answered-judgeable unit (directive, is, answers) =
+    subst (All IsJudgeable) (sym is) (one-all IsJudgeable directive (record {
+      sequences = λ large. none-large (subst (λ (f : Formula). HasLargeSequence (plain f None)) answers.formula large);
+      obligations = subst (λ (f : Formula). obligations_of (plain f None) ≤ MOST_OBLIGATIONS) (sym answers.formula) (omega arith);
+    }))
+
+judgeable-stands : (directive : Directive) (fault : JudgeFault) → IsJudgeable directive → IsRefused directive fault → ⊥
+judgeable-stands directive (faults.Sere number) is refused = is.sequences refused.1
+judgeable-stands directive (faults.Automaton number) is refused = omega (arith, is.obligations, refused.2)
+judgeable-stands directive faults.NoMemory is refused = refused
+
+not-refused : (unit : List Directive) (fault : JudgeFault) → AreAnswered unit → IsFirstFault unit fault → ⊥
+not-refused unit fault answers first =
+    let within = slice_get_within unit first.place first.directive first.here in
+    let here = All-get_or IsJudgeable unit first.place first.directive within (answered-judgeable unit answers) in
+    judgeable-stands first.directive fault (subst IsJudgeable (get_or_from_slice_get unit first.place first.directive first.directive first.here) here) first.refused
+
+-- so the judge has no fault to tell but want of memory
+pub memory-alone : (unit : List Directive) (fault : JudgeFault) → AreAnswered unit → IsJudgeFault unit fault → fault ≡ faults.NoMemory
+memory-alone unit (faults.Sere number) answers is = absurd (not-refused unit (faults.Sere number) answers is)
+memory-alone unit (faults.Automaton number) answers is = absurd (not-refused unit (faults.Automaton number) answers is)
+memory-alone unit faults.NoMemory answers is = refl

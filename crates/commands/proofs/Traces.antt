@@ -1,5 +1,5 @@
 -- The netlists that are read, and the texts over them, have recordings of their runs.
-use Rattle.std.proofs.Common.{◌≡◌, refl, sym, ℕ, ◌≤◌, List, Option, None, Some, arith}
+use Rattle.std.proofs.Common.{◌≡◌, refl, sym, ℕ, ◌≤◌, Bool, List, Option, None, Some, arith}
 use Rattle.std.specs.Prelude.{All}
 use Rattle.blif_model.specs.Rules.{signal_limit}
 use Rattle.command_line.specs.Evidences.{Wanted}
@@ -33,13 +33,13 @@ pub has-traces : (design : Design) → IsSound design → All IsPlain design.nam
 has-traces design sound plain few = record { words = has-words design sound plain; signals = omega (arith, few) }
 
 -- recordings that the words ask for
-traceable-by : (design : Design) (directives : List Directive) (loops : ℕ) (prefix : Option (List ℕ)) → HasTraces design
+traceable-by : (design : Design) (directives : List Directive) (loops : ℕ) (buses : Bool) (prefix : Option (List ℕ)) → HasTraces design
     → All (λ directive. formula_size (formula_of directive.formula) ≤ 4096) directives → loops ≤ 16
-    → AreTraceable design directives (recordings_in (record { cert = None; vcd = prefix; loops = loops }))
-traceable-by design directives loops None traces small few = tt
-traceable-by design directives loops (Some prefix) traces small few = record { traces = traces; small = small; few = few }
+    → AreTraceable design directives (recordings_in (record { cert = None; vcd = prefix; loops = loops; buses = buses }))
+traceable-by design directives loops buses None traces small few = tt
+traceable-by design directives loops buses (Some prefix) traces small few = record { traces = traces; small = small; few = few }
 
 pub traceable : (design : Design) (directives : List Directive) (wanted : Wanted) → HasTraces design
     → All (λ directive. formula_size (formula_of directive.formula) ≤ 4096) directives → wanted.loops ≤ 16
     → AreTraceable design directives (recordings_in wanted)
-traceable design directives wanted traces small few = traceable-by design directives wanted.loops wanted.vcd traces small few
+traceable design directives wanted traces small few = traceable-by design directives wanted.loops wanted.buses wanted.vcd traces small few

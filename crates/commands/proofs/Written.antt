@@ -12,6 +12,7 @@ use Rattle.command_line.specs.Evidences.{Wanted}
 use Rattle.command_line.specs.declared.Limits.{Limits}
 use Rattle.findings.specs.Asked.{asked}
 use Rattle.findings.specs.Entries.{AreEntries, IsEntry, IsPassedText}
+use Rattle.findings.specs.Recordings.{Form}
 use Rattle.findings.specs.declared.entry.FindingEntry.{FindingEntry}
 use Rattle.netlist.specs.Design.{Design}
 use Rattle.prover.specs.declared.options.Options.{Options}
@@ -57,7 +58,7 @@ module _ (unit netlist : List ℕ) (files later : Contents) (units : later unit 
 
 -- one of the findings
 
-entry-at : (design : Design) (unit : List Directive) (options : Options) (wanted : Option (List ℕ × ℕ)) (some : List Directive) (entries : List FindingEntry) (place : ℕ) (entry : FindingEntry)
+entry-at : (design : Design) (unit : List Directive) (options : Options) (wanted : Option Form) (some : List Directive) (entries : List FindingEntry) (place : ℕ) (entry : FindingEntry)
     → AreEntries design unit options wanted some entries → slice_get entries place ≡ Some entry → (a : Directive) × IsEntry design unit options wanted a entry
 entry-at design unit options wanted some [] place entry are is = absurd (let wrong : None ≡ Some entry = is in cc)
 entry-at design unit options wanted [] (e ∷ es) place entry are is = absurd are
@@ -98,7 +99,7 @@ of-content unit netlist certificate i j number text result same passed few (inr 
 -- the text is that of a certificate by which some finding is proved, of a window or of clauses
 module _ (unit netlist certificate : List ℕ) (limits : Limits) (wanted : Wanted) (files later : Contents) (found : Found) (place : ℕ) (entry : FindingEntry) (text : List ℕ)
     (here : slice_get found.findings place ≡ Some entry)
-    (proves : (design : Design) (directives : List Directive) (options : Options) (recordings : Option (List ℕ × ℕ)) (directive : Directive)
+    (proves : (design : Design) (directives : List Directive) (options : Options) (recordings : Option Form) (directive : Directive)
     → IsEntry design directives options recordings directive entry → IsPassedText design directives entry.number text)
     (units : later unit ≡ files unit) (netlists : later netlist ≡ files netlist) (written : later certificate ≡ Some text)
     (few : length text ≤ file_limit) where

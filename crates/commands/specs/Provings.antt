@@ -4,6 +4,7 @@ use Rattle.command_line.specs.Evidences.{Wanted}
 use Rattle.command_line.specs.declared.Limits.{Limits}
 use Rattle.findings.specs.Columns.{AreColumns}
 use Rattle.findings.specs.Entries.{AreFindings}
+use Rattle.findings.specs.Recordings.{Form}
 use Rattle.findings.specs.Sizes.{AreWithin, IsFirstRefused}
 use Rattle.findings.specs.declared.sizes.SizeFault.{SizeFault}
 use Rattle.findings.specs.declared.sizes.SizeFault.TheVariants as sizes
@@ -31,8 +32,8 @@ size_fault unit netlist sizes.UnrollTooLarge = fault_in netlist (whole reasons.U
 size_fault unit netlist sizes.NoMemory = of_none reasons.NoMemory
 
 -- which recordings are wanted
-abbrev pub recordings_in : Wanted → Option (List ℕ × ℕ)
-recordings_in wanted = option_map (λ (prefix : List ℕ). (prefix, wanted.loops)) wanted.vcd
+abbrev pub recordings_in : Wanted → Option Form
+recordings_in wanted = option_map (λ (prefix : List ℕ). ((prefix, wanted.buses), wanted.loops)) wanted.vcd
 
 -- what is found out of the directives of a text that are asked, and the names of the signals whose values are shown of a run
 pub record IsFound (design : Design) (limits : Limits) (wanted : Wanted) (directives : List Directive) (found : Found) : Type 0 where

@@ -1,6 +1,6 @@
 -- The files that a run writes: the certificates of what it proved, and the recordings of runs that violate assertions or
 -- meet covers.
-use Rattle.std.specs.Prelude.{◌≡◌, ◌⊎◌, ℕ, List, [], ◌∷◌, ◌++◌, map, Option, None, Some, Result, Ok, Err, codes, decimal}
+use Rattle.std.specs.Prelude.{◌≡◌, ◌⊎◌, ℕ, false, List, [], ◌∷◌, ◌++◌, map, Option, None, Some, Result, Ok, Err, codes, decimal}
 use Rattle.std.specs.List.{flat_map}
 use Rattle.cert_theory.specs.Printed.{cert_text, inductive_text}
 use Rattle.cert_theory.specs.declared.header.Version.TheVariants.{Two}
@@ -70,7 +70,7 @@ files_of_outcome wanted (Replayed answer samples verdicts) = []
 
 -- the files that a command is to leave
 abbrev no_files : Wanted
-no_files = record { cert = None; vcd = None; loops = 1 }
+no_files = record { cert = None; vcd = None; loops = 1; buses = false }
 
 abbrev pub wanted_of : Meaning → Wanted
 wanted_of (wave unit recording unknown points) = no_files

@@ -2,7 +2,7 @@ ghost use Rattle.std.specs.Prelude.{◌≡◌, ◌++◌, None, OnOk};
 ghost use Rattle.commands.specs.Text.{cert_answer, checked_line, reason_words};
 
 use crate::outcome::CheckedCert;
-use crate::report::add_head;
+use crate::printing::add_head;
 use cert_check::{CertAnswer, CertReason};
 use psl_base::{NoMemory, add_bytes, add_number};
 

@@ -12,8 +12,8 @@ ghost use Rattle.psl_base.specs.Saves.{SavesAll, SavesPart, file_of};
 
 use crate::faults::of_none;
 use crate::outcome::{Fault, Outcome, Report};
+use crate::printing::fault_line;
 use crate::reason::Reason;
-use crate::report::fault_line;
 use crate::rows::row_of;
 use cert_check::CertAnswer;
 use findings::FindingEntry;

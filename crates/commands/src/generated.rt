@@ -1,5 +1,5 @@
-ghost use Rattle.std.specs.Prelude.{◌≡◌, ◌≤◌, length, codes, IfOk, IfErr, Ok, Some};
-ghost use Rattle.psl_base.specs.Files.{content_of};
+ghost use Rattle.std.specs.Prelude.{◌≡◌, ◌≤◌, length, IfOk, IfErr, Ok};
+ghost use Rattle.psl_sugar.specs.Budget.{GivesFormula};
 ghost use Rattle.commands.specs.Faults.{of_none};
 ghost use Rattle.commands.specs.declared.reason.Reason.{Reason};
 ghost use Rattle.commands.specs.Generated.{AreMade, AreAnswered, GeneratedStage, IsMade, answered, value_of};
@@ -7,13 +7,13 @@ ghost use Rattle.vcd_writer.specs.Made.{made_text};
 ghost use Rattle.vcd_reader.specs.Rules.{sample_limit};
 
 use crate::outcome::{Fault, Outcome};
-use psl_base::{Bytes, File, Files, MemShelf, NoMemory, Numbers, Place, Text};
+use psl_base::{Bytes, NoMemory, Place};
 use psl_sugar::{MeasuredBool, MeasuredFl, Strength, SugarFault};
 use psl_tree::{Atom, Directive, Edge, Kind, Unit};
 use std::alloc::Global;
-use vcd_reader::{Recording, Unknown, read_vcd};
-use vcd_writer::make_recording;
-use wave_judge::{Verdicts, judge};
+use vcd_reader::{Recording, Unknown, read_faultless};
+use vcd_writer::{make_recording, short_law};
+use wave_judge::{JudgeFault, Verdicts, judge};
 
 /// Makes a recording from a seed and judges `assert always (req -> next! ack);` on it: `gen SEED SAMPLES`.
 pub fn generate(alloc: Global, seed: u32, samples: u32) -> Result<Outcome, Fault>
@@ -37,35 +37,22 @@ fn judge_made(alloc: Global, seed: u32, samples: u32) -> Result<(u64, Verdicts),
     let directives = answered_unit(alloc)?;
     match judge(alloc, &directives, &recording) {
         Ok(verdicts) => Ok((bytes, verdicts)),
-        // The automaton is small: memory alone can be wanted.
-        Err(_) => Err(NoMemory),
+        Err(JudgeFault::NoMemory) => Err(NoMemory),
+        // The one formula has no sequence, and few obligations.
+        Err(JudgeFault::Sere(_)) => unreachable!(),
+        Err(JudgeFault::Automaton(_)) => unreachable!(),
     }
 }
 
-/// Reads a made recording from a shelf in memory.
+/// What the text of a made recording says.
 fn read_made(alloc: Global, text: Bytes, seed: u32, samples: u32) -> Result<Recording, NoMemory>
     requires text { text ≡ made_text seed samples }
     requires few { samples ≤ sample_limit }
     ensures { IfOk result (IsMade seed samples) }
 {
-    let mut shelf = shelf_of(alloc, text)?;
-    match read_vcd(alloc, &mut shelf, "made.vcd", Unknown::Zero) {
-        Ok(recording) => Ok(recording),
-        // The text has no fault, and no call of the shelf is listed to fail: memory alone is left.
-        Err(_) => Err(NoMemory),
-    }
-}
-
-/// A shelf in memory that holds the made recording.
-fn shelf_of(alloc: Global, text: Bytes) -> Result<MemShelf, NoMemory>
-    ensures { IfOk result (λ shelf. content_of shelf.store.files (codes "made.vcd") ≡ Some text) }
-{
-    let mut files = Files::new(alloc);
-    files.push(File {
-        name: Text::from_slice(alloc, b"made.vcd")?,
-        content: text,
-    })?;
-    MemShelf::new(alloc, &files, 0, 0, &Numbers::new(alloc))
+    short_law();
+    let recording = read_faultless(alloc, text, Unknown::Zero)?;
+    Ok(recording)
 }
 
 /// `assert always (req -> next! ack);` over the signals of the made recording.
@@ -73,10 +60,7 @@ fn answered_unit(alloc: Global) -> Result<Unit, NoMemory>
     ensures { IfOk result (λ unit. AreAnswered unit) }
 {
     let mut unit = Unit::new(alloc);
-    // The formula is small: memory alone can be wanted.
-    let Ok(formula) = answered(alloc) else {
-        return Err(NoMemory);
-    };
+    let formula = answered(alloc)?;
     unit.push(Directive {
         number: 1,
         kind: Kind::Assert,
@@ -88,8 +72,19 @@ fn answered_unit(alloc: Global) -> Result<Unit, NoMemory>
 }
 
 /// `always (req -> next! ack)`
-fn answered(alloc: Global) -> Result<MeasuredFl, SugarFault>
+fn answered(alloc: Global) -> Result<MeasuredFl, NoMemory>
     ensures { IfOk result (λ formula. formula ≡ answered) }
+{
+    match built(alloc) {
+        Ok(formula) => Ok(formula),
+        Err(SugarFault::NoMemory) => Err(NoMemory),
+        Err(SugarFault::TooLarge) => unreachable!(),
+    }
+}
+
+/// The same, where it might be too large.
+fn built(alloc: Global) -> Result<MeasuredFl, SugarFault>
+    ensures { GivesFormula result answered }
 {
     let request = MeasuredFl::now(MeasuredBool::test(value_of(0)))?;
     let answer = MeasuredFl::now(MeasuredBool::test(value_of(1)))?;

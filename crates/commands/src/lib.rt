@@ -1,5 +1,5 @@
 //! The commands of `pslc`: what the words after the program's name ask for is read, judged and printed by one
-//! call, `run`, whose clauses are what a run promises.
+//! call, `run`, whose clauses are what a run promises. `report` is the text of what a run found out.
 #![tactic(auto)]
 
 mod check;
@@ -11,10 +11,10 @@ mod generated;
 mod inputs;
 mod laws;
 mod outcome;
+mod printing;
 mod prove;
 mod reason;
 mod replayed;
-mod report;
 mod rows;
 mod saves;
 mod settled;
@@ -25,6 +25,7 @@ mod top;
 mod wave;
 
 pub use laws::{one_refusal, written_law};
-pub use outcome::{Fault, Line, Lines, Outcome, Report, Settled, Settlements};
+pub use outcome::{CheckedCert, Fault, Line, Lines, Outcome, Report, Settled, Settlements};
+pub use printing::report;
 pub use reason::Reason;
 pub use top::run;

@@ -114,6 +114,7 @@ fn recordings_of(evidence: Evidence<'_>) -> Option<Recordings<'_>>
         Some(prefix) => Some(Recordings {
             prefix,
             loops: evidence.loops,
+            buses: evidence.buses,
         }),
         None => None,
     }

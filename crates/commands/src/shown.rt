@@ -5,7 +5,7 @@ ghost use Rattle.commands.specs.Text.{depth_line, digit, entry_text, finding_tex
 ghost use Rattle.findings.specs.Columns.{HasColumns, ShowColumns, ShowsColumns};
 ghost use Rattle.netlist.specs.Valuations.{bit};
 
-use crate::report::{add_answers, add_head};
+use crate::printing::{add_answers, add_head};
 use findings::{FindingEntry, Recorded};
 use netlist::{Run, Valuations};
 use prover::Finding;

@@ -20,10 +20,10 @@ use crate::faults::of_none;
 use crate::finish::{Planned, finish};
 use crate::generated::generate;
 use crate::outcome::{Fault, Outcome, Report};
+use crate::printing::report;
 use crate::prove::{Found, Request, prove};
 use crate::reason::Reason;
 use crate::replayed::replay_files;
-use crate::report::report;
 use crate::saves::saves_of;
 use crate::show::{show, show_netlist};
 use crate::wave::{unknown_of, wave};
@@ -55,8 +55,8 @@ pub fn run<F: Shelf, O: Sink, E: Sink>(
     // Words that are no command are told so, whatever the files tell, unless that cannot be written.
     ensures no_command { IsNoCommand (map string_bytes words.now) → (result.fault ≡ Some (of_none Reason.Usage)) ⊎ ((result.fault ≡ Some (of_none Reason.WriteFault)) ⊎ (result.fault ≡ Some (of_none Reason.NoMemory))) }
 
-    // A fault of a file names one that the words name, and one of reading is of the last that was asked for, without
-    // a place. A signal is named only where one is missing.
+    // A fault of a file names one that the words name. One of reading has no place, and after it no other file is selected
+    // than the one that it names. A signal is named only where one is missing.
     ensures named { IfSome result.fault (IsNamed (map string_bytes words.now)) }
     ensures unread { IfSome result.fault (IsUnread (F.state files.new)) }
 
@@ -189,6 +189,7 @@ fn wanted_of(command: Command<'_>) -> Evidence<'_>
             cert: None,
             vcd: None,
             loops: 1,
+            buses: false,
         },
     }
 }

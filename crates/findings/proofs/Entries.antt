@@ -3,6 +3,7 @@ use Rattle.std.proofs.Common.{◌≡◌, ap, subst, sym, ◌∙◌, ℕ, ◌+◌
 use Rattle.std.specs.Prelude.{slice_index_or}
 use Rattle.std.proofs.lemmas.List.{append-nil}
 use Rattle.std.proofs.lemmas.List.Elements.{filter_more}
+use Rattle.findings.specs.Recordings.{Form}
 use Rattle.netlist.specs.Design.{Design}
 use Rattle.owed.specs.Owed.{is_asked}
 use Rattle.prover.specs.declared.options.Options.{Options}
@@ -11,7 +12,7 @@ use Rattle.findings.specs.Asked.{asked}
 use Rattle.findings.specs.Entries.{AreEntries, IsEntry}
 use Rattle.findings.specs.declared.entry.FindingEntry.{FindingEntry}
 
-module _ (design : Design) (unit : List Directive) (options : Options) (covers : Truth) (wanted : Option (List ℕ × ℕ)) where
+module _ (design : Design) (unit : List Directive) (options : Options) (covers : Truth) (wanted : Option Form) where
   entries-more : (ds : List Directive) (es : List FindingEntry) (d : Directive) (e : FindingEntry)
       → AreEntries design unit options wanted ds es → IsEntry design unit options wanted d e
       → AreEntries design unit options wanted (ds ++ d ∷ []) (es ++ e ∷ [])

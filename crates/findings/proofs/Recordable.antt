@@ -23,7 +23,7 @@ use Rattle.psl_tree.specs.declared.directive.Kind.TheVariants.{Assert, Assume, C
 use Rattle.vcd_reader.specs.Rules.{sample_limit}
 use Rattle.wave_judge.specs.Faults.{IsJudgeable}
 use Rattle.findings.proofs.Paths.{along-made}
-use Rattle.findings.specs.Recordings.{along, unlooped, CanRecord, IsRunRecordable, Recordable}
+use Rattle.findings.specs.Recordings.{Form, along, unlooped, CanRecord, IsRunRecordable, Recordable}
 use Rattle.findings.specs.Traceable.{AreTraceable, IsTraceable}
 
 -- a formula that is small enough under assumptions is so alone
@@ -87,11 +87,11 @@ can-record task loops run provable depth traceable shortest =
       judgeable = can-judge task provable;
     }
 
-run-recordable : (task : Task) (wanted : Option (List ℕ × ℕ)) (run : Run) → IsProvable task → task.options.depth ≤ 1000
+run-recordable : (task : Task) (wanted : Option Form) (run : Run) → IsProvable task → task.options.depth ≤ 1000
     → AreTraceable task.netlist.now (task.directive.now ∷ []) wanted
     → IsShortest task.netlist.now task.unit.now task.directive.now task.options.depth run → IsRunRecordable task wanted run
 run-recordable task None run provable depth traceable shortest = tt
-run-recordable task (Some (prefix, loops)) run provable depth traceable shortest = can-record task loops run provable depth traceable shortest
+run-recordable task (Some (naming, loops)) run provable depth traceable shortest = can-record task loops run provable depth traceable shortest
 
 -- a path, which is short, is recorded without a loop
 can-record-path : (task : Task) (loops : ℕ) (path : List (List Bool)) → IsProvable task → task.options.depth ≤ 1000
@@ -109,14 +109,14 @@ can-record-path task loops path provable depth traceable held = record {
   judgeable = can-judge task provable;
 }
 
-path-recordable : (task : Task) (wanted : Option (List ℕ × ℕ)) (path : List (List Bool)) → IsProvable task → task.options.depth ≤ 1000
+path-recordable : (task : Task) (wanted : Option Form) (path : List (List Bool)) → IsProvable task → task.options.depth ≤ 1000
     → AreTraceable task.netlist.now (task.directive.now ∷ []) wanted
     → IsHeldPath task.netlist.now task.unit.now task.directive.now task.options.depth path
     → IsRunRecordable task (unlooped wanted) (along path)
 path-recordable task None path provable depth traceable held = tt
-path-recordable task (Some (prefix, loops)) path provable depth traceable held = can-record-path task loops path provable depth traceable held
+path-recordable task (Some (naming, loops)) path provable depth traceable held = can-record-path task loops path provable depth traceable held
 
-pub recordable : (task : Task) (wanted : Option (List ℕ × ℕ)) (finding : Finding) → IsProvable task → task.options.depth ≤ 1000
+pub recordable : (task : Task) (wanted : Option Form) (finding : Finding) → IsProvable task → task.options.depth ≤ 1000
     → AreTraceable task.netlist.now (task.directive.now ∷ []) wanted
     → IsFinding task.netlist.now task.unit.now task.directive.now task.options finding → Recordable task wanted finding
 recordable task wanted (findings.Violated run) provable depth traceable is = run-recordable task wanted run provable depth traceable is
@@ -141,10 +141,10 @@ one-small unit items place d same lt here small =
     All-cons (λ (e : Directive). formula_size (formula_of e.formula) ≤ MOST_CONSTRUCTORS) d [] at
     (All-nil (λ (e : Directive). formula_size (formula_of e.formula) ≤ MOST_CONSTRUCTORS))
 
-pub one-traceable : (design : Design) (wanted : Option (List ℕ × ℕ)) (unit items : List Directive) (place : ℕ) (d : Directive) → items ≡ unit
+pub one-traceable : (design : Design) (wanted : Option Form) (unit items : List Directive) (place : ℕ) (d : Directive) → items ≡ unit
     → place < length items → d ≡ slice_index_or items place d → AreTraceable design unit wanted → AreTraceable design (d ∷ []) wanted
 one-traceable design None unit items place d same lt here traceable = tt
-one-traceable design (Some (prefix, loops)) unit items place d same lt here traceable = record {
+one-traceable design (Some (naming, loops)) unit items place d same lt here traceable = record {
   traces = traceable.traces;
   small = one-small unit items place d same lt here traceable.small;
   few = traceable.few;

@@ -6,6 +6,7 @@ use Rattle.std.proofs.lemmas.List.{get_or-map, length-map}
 use Rattle.std.proofs.lemmas.List.Elements.{All-cons, All-get_or, All-nil}
 use Rattle.std.proofs.lemmas.List.Folds.{find_at}
 use Rattle.std.proofs.lemmas.Option.{get_or_from_slice_get, slice_get_within}
+use Rattle.findings.specs.Recordings.{Form}
 use Rattle.netlist.proofs.Walking.{run-made}
 use Rattle.netlist.specs.Design.{Design, free_of}
 use Rattle.netlist.specs.Runs.{IsRun}
@@ -44,7 +45,7 @@ columns-within design columns sound are place column lt =
         ∙ ap (λ (os : List (Option Name)). get_or os place None) are
         ∙ get_or-map (first_name design.names) (free_of design) place 0 None (omega (arith, long))
 
-module _ (design : Design) (unit : List Directive) (options : Options) (wanted : Option (List ℕ × ℕ)) (columns : List Name) (within : All (λ column. column.signal < design.signals) columns) where
+module _ (design : Design) (unit : List Directive) (options : Options) (wanted : Option Form) (columns : List Name) (within : All (λ column. column.signal < design.signals) columns) where
   has-columns : (valuation : List Bool) → IsValuation design valuation → HasColumns columns valuation
   has-columns valuation is place column lt = subst (λ n. (get_or columns place column).signal < n) (sym is.size) (within place column lt)
 
@@ -74,7 +75,7 @@ module _ (design : Design) (unit : List Directive) (options : Options) (wanted :
   entries-show (a ∷ ds) (e ∷ es) h =
       All-cons (λ e. ShowsColumns columns e.finding) e es (finding-shows a e.finding h.0.finding) (entries-show ds es h.1)
 
-pub all-shown : (design : Design) (unit : List Directive) (options : Options) (covers : Bool) (wanted : Option (List ℕ × ℕ)) (columns : List Name) (entries : List FindingEntry)
+pub all-shown : (design : Design) (unit : List Directive) (options : Options) (covers : Bool) (wanted : Option Form) (columns : List Name) (entries : List FindingEntry)
     → IsSound design → AreColumns design columns → AreFindings design unit options covers wanted entries → ShowColumns columns entries
 all-shown design unit options covers wanted columns entries sound are h =
     entries-show design unit options wanted columns (columns-within design columns sound are) (asked covers unit) entries h

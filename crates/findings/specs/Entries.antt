@@ -16,7 +16,7 @@ use Rattle.prover.specs.declared.finding.Finding.TheVariants.{Proved, ProvedReac
 use Rattle.prover.specs.declared.options.Options.{Options}
 use Rattle.psl_tree.specs.declared.directive.Directive.{Directive}
 use Rattle.findings.specs.Asked.{asked}
-use Rattle.findings.specs.Recordings.{IsRecorded}
+use Rattle.findings.specs.Recordings.{Form, IsRecorded}
 use Rattle.findings.specs.declared.entry.FindingEntry.{FindingEntry}
 
 -- A text is passed for the directive of a number: no line of it is refused. Nor does it pass a limit: it is checked, unless
@@ -31,7 +31,7 @@ IsPassedFor design unit number certificate = (version : Version) → IsPassedTex
 
 -- the finding of a directive of the text, with its evidence; where it is proved, the certificate is passed, be it of a
 -- window or of clauses
-pub record IsEntry (design : Design) (unit : List Directive) (options : Options) (wanted : Option (List ℕ × ℕ)) (directive : Directive)
+pub record IsEntry (design : Design) (unit : List Directive) (options : Options) (wanted : Option Form) (directive : Directive)
     (entry : FindingEntry) : Type 0 where
   pub kind : entry.kind ≡ directive.kind
   pub number : entry.number ≡ directive.number
@@ -44,12 +44,12 @@ pub record IsEntry (design : Design) (unit : List Directive) (options : Options)
       → IsPassedText design unit entry.number (inductive_text certificate)
 
 -- one for each of some directives, in order
-abbrev pub AreEntries : Design → List Directive → Options → Option (List ℕ × ℕ) → List Directive → List FindingEntry → Type 0
+abbrev pub AreEntries : Design → List Directive → Options → Option Form → List Directive → List FindingEntry → Type 0
 AreEntries design unit options wanted [] [] = Unit {0}
 AreEntries design unit options wanted (directive ∷ directives) (entry ∷ entries) =
     IsEntry design unit options wanted directive entry × AreEntries design unit options wanted directives entries
 AreEntries design unit options wanted _ _ = ⊥
 
 -- one for each directive of the text that is asked
-abbrev pub AreFindings : Design → List Directive → Options → Truth → Option (List ℕ × ℕ) → List FindingEntry → Type 0
+abbrev pub AreFindings : Design → List Directive → Options → Truth → Option Form → List FindingEntry → Type 0
 AreFindings design unit options covers wanted entries = AreEntries design unit options wanted (asked covers unit) entries

@@ -1,5 +1,6 @@
 -- Which netlists and texts have recordings of their runs.
 use Rattle.std.specs.Prelude.{◌≤◌, ℕ, List, Option, None, Some, All}
+use Rattle.findings.specs.Recordings.{Form}
 use Rattle.netlist.specs.Design.{Design}
 use Rattle.psl_tree.specs.Counts.{formula_size}
 use Rattle.psl_tree.specs.Trees.{formula_of}
@@ -22,6 +23,6 @@ pub record IsTraceable (design : Design) (directives : List Directive) (loops : 
   pub few : loops ≤ 16
 
 -- the same where recordings are wanted
-abbrev pub AreTraceable : Design → List Directive → Option (List ℕ × ℕ) → Type 0
+abbrev pub AreTraceable : Design → List Directive → Option Form → Type 0
 AreTraceable design directives None = Unit {0}
-AreTraceable design directives (Some (prefix, loops)) = IsTraceable design directives loops
+AreTraceable design directives (Some (naming, loops)) = IsTraceable design directives loops

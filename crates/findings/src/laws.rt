@@ -10,7 +10,7 @@ ghost use Rattle.cert_theory.specs.declared.certificate.Certificate.{Certificate
 ghost use Rattle.cert_theory.specs.declared.certificate.InductiveCert.{InductiveCert};
 ghost use Rattle.cert_theory.specs.declared.header.Version.{Version};
 ghost use Rattle.findings.specs.Entries.{IsEntry};
-ghost use Rattle.findings.specs.Recordings.{along};
+ghost use Rattle.findings.specs.Recordings.{Form, along};
 ghost use Rattle.findings.specs.declared.entry.FindingEntry.{FindingEntry};
 ghost use Rattle.netlist.specs.Design.{Design};
 ghost use Rattle.netlist.specs.Runs.{word};
@@ -25,13 +25,13 @@ ghost use Rattle.psl_tree.specs.declared.directive.Directive.{Directive};
 /// the same text, number and netlist, it answers that it is passed, unless memory is refused. A certificate of a window has
 /// a text in either version, and one of clauses has one text. What is said of its result is what `check_cert` says of it.
 pub fn passed_law()
-    ensures passed { (design : Design) (unit : List Directive) (options : Options) (wanted : Option (List ℕ × ℕ)) (directive : Directive)
+    ensures passed { (design : Design) (unit : List Directive) (options : Options) (wanted : Option Form) (directive : Directive)
         (entry : FindingEntry) (certificate : Certificate) (version : Version) (result : Result CertAnswer CertFault)
         → IsEntry design unit options wanted directive entry → entry.finding ≡ Proved certificate
         → IfOk result (IsAnswer (asked_of unit entry.number) (queries_of design unit entry.number) (cert_text version certificate))
         → IfErr result (IsFault design unit entry.number (cert_text version certificate))
         → (result ≡ Ok CertAnswer.Passed) ⊎ (result ≡ Err CertFault.NoMemory) }
-    ensures passed_reach { (design : Design) (unit : List Directive) (options : Options) (wanted : Option (List ℕ × ℕ)) (directive : Directive)
+    ensures passed_reach { (design : Design) (unit : List Directive) (options : Options) (wanted : Option Form) (directive : Directive)
         (entry : FindingEntry) (certificate : InductiveCert) (result : Result CertAnswer CertFault)
         → IsEntry design unit options wanted directive entry → entry.finding ≡ ProvedReach certificate
         → IfOk result (IsAnswer (asked_of unit entry.number) (queries_of design unit entry.number) (inductive_text certificate))

@@ -1,10 +1,13 @@
 ghost use Rattle.std.specs.Prelude.{◌≡◌, ◌<◌, length, IfOk};
-ghost use Rattle.findings.specs.Recordings.{along, CanRecord, IsRecorded, IsRecordedRun, Recordable, recording_name, wanted_of};
+ghost use Rattle.findings.specs.Recordings.{along, CanRecord, IsRecorded, IsRecordedRun, Recordable, recorded_text, recording_name, wanted_of};
+ghost use Rattle.netlist.specs.Runs.{IsMade};
+ghost use Rattle.trace.specs.Trace.{trace_text};
 
 use netlist::{Run, Valuations};
 use prover::{Finding, Task};
 use psl_base::{Bits, Bytes, FILE_LIMIT, NoMemory, Text, add_bytes, add_number};
 use std::alloc::Global;
+use trace_buses::write_buses;
 use trace_judge::{JudgedTrace, Traced, judge_trace};
 use wave_judge::Verdict;
 
@@ -15,6 +18,8 @@ pub struct Recordings<'a> {
     pub prefix: &'a str,
     /// How often the loop of a run is written.
     pub loops: u32,
+    /// Whether each bus of the netlist's first names is one vector.
+    pub buses: bool,
 }
 
 /// The recording of a run that violates an assertion or meets a cover, or of its first valuations where it holds its inputs behind them.
@@ -55,6 +60,7 @@ pub(crate) fn recorded_of(
             let unlooped = Recordings {
                 prefix: recordings.prefix,
                 loops: 0,
+                buses: recordings.buses,
             };
             let recorded = recording_of(alloc, task, unlooped, &along(alloc, path)?)?;
             Ok(Some(recorded))
@@ -76,7 +82,7 @@ fn recording_of(
     run: &Run,
 ) -> Result<Recorded, NoMemory>
     requires { CanRecord task recordings.loops run.now }
-    ensures { IfOk result (IsRecordedRun task.entry.netlist.now task.entry.directive.now (recordings.entry.prefix.now, recordings.entry.loops) run.now) }
+    ensures { IfOk result (IsRecordedRun task.entry.netlist.now task.entry.directive.now ((recordings.entry.prefix.now, recordings.entry.buses), recordings.entry.loops) run.now) }
 {
     let traced = Traced {
         netlist: task.netlist,
@@ -91,6 +97,7 @@ fn recording_of(
                 verdict,
             } = judged;
             let name = recording_name(alloc, recordings.prefix, task.directive.number)?;
+            let text = text_of(alloc, traced, recordings.buses, text)?;
             Ok(Recorded::Judged {
                 name,
                 samples,
@@ -99,6 +106,19 @@ fn recording_of(
             })
         }
         None => Ok(Recorded::TooLong),
+    }
+}
+
+/// The text of a recording: the trace as it was judged, or the one in which each bus is one vector.
+fn text_of(alloc: Global, traced: Traced<'_>, buses: bool, trace: Bytes) -> Result<Bytes, NoMemory>
+    requires made { IsMade traced.netlist.now traced.run.now }
+    requires trace { trace ≡ trace_text traced.netlist.now traced.run.now traced.loops }
+    ensures { IfOk result (λ text. text ≡ recorded_text traced.entry.netlist.now traced.entry.run.now traced.entry.loops buses) }
+{
+    if buses {
+        write_buses(alloc, traced.netlist, traced.run, traced.loops)
+    } else {
+        Ok(trace)
     }
 }
 

@@ -3,5 +3,5 @@ mod First
 mod InRange
 mod Lowest
 mod Missing
-mod Paths
+pub mod Paths
 mod Sample

@@ -34,6 +34,7 @@ use Rattle.replay.specs.declared.answer.ReplayFault.TheVariants as faults
 use Rattle.trace.proofs.Letters.{around, around-next, early, trace-bit, turned}
 use Rattle.trace.specs.Printed.{printed}
 use Rattle.trace.specs.Trace.{count_of, first_text, name_in, trace_names, trace_sampled, valuation_in}
+use Rattle.vcd_reader.specs.Sampled.{Sampled}
 use Rattle.vcd_reader.specs.declared.unknown.Unknown.TheVariants.{Zero}
 use Rattle.vcd_writer.specs.Lines.{letters_of}
 
@@ -67,7 +68,15 @@ one-passes {A} p f number first (suc count) from below passes only =
         (λ t. let same : other ≡ number = only other (omega (arith, after)) (omega (arith, within)) t in omega (arith, same, here, after))))
         ∙ ap (λ (n : ℕ). f n ∷ []) (sym here)
 
--- ---- each signal is found in the trace
+-- ---- recordings that have each signal
+
+-- each signal is a bit of the recording, which has the values of the run
+pub record Follows (design : Design) (run : Run) (loops : ℕ) (recording : Sampled) : Type 0 where
+  pub count : length recording.samples ≡ count_of run loops
+  pub each : (signal : ℕ) → signal < design.signals → (found : Bit) × (recorded design recording signal ≡ Some found)
+      × ((sample : ℕ) → sample < count_of run loops → value_of recording sample (Some found) ≡ bit (valuation_in run sample) signal)
+
+-- a trace does where names are plain
 
 module _ (design : Design) (run : Run) (loops : ℕ) (plain : HasPlainNames design) where
   named-self : (signal : ℕ) → signal < design.signals → is_named (first_text design.names signal) (name_in design.names signal) ≡ true
@@ -84,21 +93,30 @@ module _ (design : Design) (run : Run) (loops : ℕ) (plain : HasPlainNames desi
       (one-passes (is_named text) (name_in design.names) signal 0 design.signals (omega arith) (omega (arith, within)) (named-self signal within)
       (λ other after below named. named-only signal within other (omega (arith, below)) named))
 
-  none-missing : (signals : List ℕ) → All (λ signal. signal < design.signals) signals → find (λ signal. is_none (recorded design (trace_sampled Zero design run loops) signal)) signals ≡ None
+pub trace-follows : (design : Design) (run : Run) (loops : ℕ) → HasPlainNames design → Follows design run loops (trace_sampled Zero design run loops)
+trace-follows design run loops plain = record {
+  count = length-map-range_with_len (λ (n : ℕ). letters_of (valuation_in run n)) 0 (count_of run loops);
+  each = λ signal within. (only_bit signal, recorded-is design run loops plain signal within, λ sample here. trace-bit design run loops sample signal here);
+}
+
+-- ---- what such a recording says
+
+module _ (design : Design) (run : Run) (loops : ℕ) (recording : Sampled) (follows : Follows design run loops recording) where
+  none-missing : (signals : List ℕ) → All (λ signal. signal < design.signals) signals → find (λ signal. is_none (recorded design recording signal)) signals ≡ None
   none-missing [] within = refl
   none-missing (signal ∷ signals) within =
-      ap (λ (o : Option Bit). cond (is_none o) (Some signal) (find (λ (s : ℕ). is_none (recorded design (trace_sampled Zero design run loops) s)) signals)) (recorded-is signal (All-head (λ (s : ℕ). s < design.signals) signal signals within))
+      ap (λ (o : Option Bit). cond (is_none o) (Some signal) (find (λ (s : ℕ). is_none (recorded design recording s)) signals)) ((follows.each signal (All-head (λ (s : ℕ). s < design.signals) signal signals within)).1)
       ∙ none-missing signals (All-tail (λ (s : ℕ). s < design.signals) signal signals within)
 
-  value-is : (sample signal : ℕ) → sample < count_of run loops → signal < design.signals → value_at design (trace_sampled Zero design run loops) sample signal ≡ bit (valuation_in run sample) signal
-  value-is sample signal here within = ap (value_of (trace_sampled Zero design run loops) sample) (recorded-is signal within) ∙ trace-bit design run loops sample signal here
+  value-is : (sample signal : ℕ) → sample < count_of run loops → signal < design.signals → value_at design recording sample signal ≡ bit (valuation_in run sample) signal
+  value-is sample signal here within = (let found = follows.each signal within in ap (value_of recording sample) found.1 ∙ found.2 sample here)
 
   values-are : (sample : ℕ) → sample < count_of run loops → (signals : List ℕ) → All (λ signal. signal < design.signals) signals
-      → values (valuation_in run sample) signals ≡ map (value_at design (trace_sampled Zero design run loops) sample) signals
+      → values (valuation_in run sample) signals ≡ map (value_at design recording sample) signals
   values-are sample here [] within = refl
   values-are sample here (signal ∷ signals) within =
       ap (λ (b : Bool). b ∷ values (valuation_in run sample) signals) (sym (value-is sample signal here (All-head (λ (s : ℕ). s < design.signals) signal signals within)))
-      ∙ ap (λ (bs : List Bool). value_at design (trace_sampled Zero design run loops) sample signal ∷ bs) (values-are sample here signals (All-tail (λ (s : ℕ). s < design.signals) signal signals within))
+      ∙ ap (λ (bs : List Bool). value_at design recording sample signal ∷ bs) (values-are sample here signals (All-tail (λ (s : ℕ). s < design.signals) signal signals within))
 
 -- ---- the valuations of a run for ever
 
@@ -122,11 +140,11 @@ step-in design run is place = by (cases_lt place (length run.stem))
         (subst (λ (v : List Bool). IsStep design (valuation_at run (length run.stem + turned run gap)) v) (ap (valuation_at run) later ∙ sym (around-next run gap is.loops) ∙ ap (valuation_in run) next)
         (is.steps (length run.stem + turned run gap) (omega (arith, turn, long))))
 
-pub trace-filled : (design : Design) (run : Run) (loops : ℕ) → HasPlainNames design → IsSound design → IsRun design run → (sample : ℕ) → sample < count_of run loops
-    → IsFilled design (free_at design (trace_sampled Zero design run loops) sample) (valuation_in run sample)
-trace-filled design run loops plain sound is sample here = record {
+filled : (design : Design) (run : Run) (loops : ℕ) (recording : Sampled) → Follows design run loops recording → IsSound design → IsRun design run → (sample : ℕ) → sample < count_of run loops
+    → IsFilled design (free_at design recording sample) (valuation_in run sample)
+filled design run loops recording follows sound is sample here = record {
   is = (step-in design run is sample).before;
-  has = values-are design run loops plain sample here (free_of design) (free-within design sound);
+  has = values-are design run loops recording follows sample here (free_of design) (free-within design sound);
 }
 
 -- ---- no signal leaves
@@ -155,71 +173,70 @@ none-leaves at first (suc count) stays =
     ap (λ (signals : List ℕ). first_of first (lowest None signals) (first_from at (first + 1) count)) (ap at (let e : first ≡ first + 0 = omega arith in e) ∙ stays 0 (omega arith))
     ∙ none-leaves at (first + 1) count (λ sample within. ap at (let e : first + 1 + sample ≡ first + suc sample = omega arith in e) ∙ stays (suc sample) (omega (arith, within)))
 
-module _ (design : Design) (run : Run) (loops : ℕ) (plain : HasPlainNames design) (sound : IsSound design) (is : IsRun design run)
+module _ (design : Design) (run : Run) (loops : ℕ) (recording : Sampled) (follows : Follows design run loops recording) (sound : IsSound design) (is : IsRun design run)
     (valuations : ℕ → List Bool) (are : (sample : ℕ) → sample < count_of run loops → valuations sample ≡ valuation_in run sample) where
   latch-stays : (sample : ℕ) → sample < count_of run loops → (place : ℕ) (other : Latch) → place < length design.latches
-      → latch_leaves design (trace_sampled Zero design run loops) valuations sample (get_or design.latches place other) ≡ false
+      → latch_leaves design recording valuations sample (get_or design.latches place other) ≡ false
   latch-stays zero here place other within =
       let latch = get_or design.latches place other in
       let low = latches-within design sound place other within in
       let first : bit (valuation_in run 0) latch.output ≡ bit (valuation_at run 0) latch.output = ap (λ (v : List Bool). bit v latch.output) (early run 0 (omega (arith, is.loops))) in
-      ap (differs_from latch.init) (value-is design run loops plain 0 latch.output here low ∙ first)
+      ap (differs_from latch.init) (value-is design run loops recording follows 0 latch.output here low ∙ first)
       ∙ begins latch.init (bit (valuation_at run 0) latch.output) (is.begins.latches place other within)
   latch-stays (suc sample) here place other within =
       let latch = get_or design.latches place other in
       let low = latches-within design sound place other within in
-      alike (value_at design (trace_sampled Zero design run loops) (suc sample) latch.output) (bit (valuations sample) latch.input)
-      (value-is design run loops plain (suc sample) latch.output here low
+      alike (value_at design recording (suc sample) latch.output) (bit (valuations sample) latch.input)
+      (value-is design run loops recording follows (suc sample) latch.output here low
       ∙ (step-in design run is sample).latches place other within
       ∙ ap (λ (v : List Bool). bit v latch.input) (sym (are sample (omega (arith, here)))))
 
   table-stays : (sample : ℕ) → sample < count_of run loops → (place : ℕ) (other : Table) → place < length design.tables
-      → table_leaves design (trace_sampled Zero design run loops) valuations sample (get_or design.tables place other) ≡ false
+      → table_leaves design recording valuations sample (get_or design.tables place other) ≡ false
   table-stays sample here place other within =
       let table = get_or design.tables place other in
       let low = outputs-within design sound place other within in
-      ap (output_leaves (trace_sampled Zero design run loops) (valuations sample) sample table.output) (recorded-is design run loops plain table.output low)
-      ∙ alike (value_of (trace_sampled Zero design run loops) sample (Some (only_bit table.output))) (bit (valuations sample) table.output)
-      (trace-bit design run loops sample table.output here ∙ ap (λ (v : List Bool). bit v table.output) (sym (are sample here)))
+      let found = follows.each table.output low in
+      ap (output_leaves recording (valuations sample) sample table.output) found.1
+      ∙ alike (value_of recording sample (Some found.0)) (bit (valuations sample) table.output)
+      (found.2 sample here ∙ ap (λ (v : List Bool). bit v table.output) (sym (are sample here)))
 
-  stay : (sample : ℕ) → sample < count_of run loops → leaving design (trace_sampled Zero design run loops) valuations sample ≡ []
+  stay : (sample : ℕ) → sample < count_of run loops → leaving design recording valuations sample ≡ []
   stay sample here =
-      ap (λ (ls : List Latch). map (λ (l : Latch). l.output) ls ++ map (λ (t : Table). t.output) (filter (table_leaves design (trace_sampled Zero design run loops) valuations sample) design.tables))
-      (none-kept (latch_leaves design (trace_sampled Zero design run loops) valuations sample) design.latches (λ place other within. latch-stays sample here place other within))
+      ap (λ (ls : List Latch). map (λ (l : Latch). l.output) ls ++ map (λ (t : Table). t.output) (filter (table_leaves design recording valuations sample) design.tables))
+      (none-kept (latch_leaves design recording valuations sample) design.latches (λ place other within. latch-stays sample here place other within))
       ∙ ap (λ (ts : List Table). map (λ (t : Table). t.output) ts)
-      (none-kept (table_leaves design (trace_sampled Zero design run loops) valuations sample) design.tables (λ place other within. table-stays sample here place other within))
+      (none-kept (table_leaves design recording valuations sample) design.tables (λ place other within. table-stays sample here place other within))
 
-  pub no-leave : leaves design (trace_sampled Zero design run loops) valuations ≡ None
+  pub no-leave : leaves design recording valuations ≡ None
   no-leave =
-      let count : length (trace_sampled Zero design run loops).samples ≡ count_of run loops = length-map-range_with_len (λ (n : ℕ). letters_of (valuation_in run n)) 0 (count_of run loops) in
-      ap (first_from (leaving design (trace_sampled Zero design run loops) valuations) 0) count
-      ∙ none-leaves (leaving design (trace_sampled Zero design run loops) valuations) 0 (count_of run loops)
-      (λ sample within. ap (leaving design (trace_sampled Zero design run loops) valuations) (let e : 0 + sample ≡ sample = omega arith in e) ∙ stay sample within)
+      ap (first_from (leaving design recording valuations) 0) follows.count
+      ∙ none-leaves (leaving design recording valuations) 0 (count_of run loops)
+      (λ sample within. ap (leaving design recording valuations) (let e : 0 + sample ≡ sample = omega arith in e) ∙ stay sample within)
 
--- ---- what is answered of a trace
+-- ---- what is answered of it
 
 abbrev OneValuation : Design → Type 0
 OneValuation design = (free left right : List Bool) → IsFilled design free left → IsFilled design free right → left ≡ right
 
-pub is-path : (design : Design) → IsSound design → OneValuation design → (run : Run) (loops : ℕ) → IsRun design run → HasPlainNames design
-    → (answer : Replay) → IsReplay design (trace_sampled Zero design run loops) answer → answer ≡ replays.Path
-is-path design sound one run loops is plain answer replay =
-    let recording = trace_sampled Zero design run loops in
-    let count : length recording.samples ≡ count_of run loops = length-map-range_with_len (λ (n : ℕ). letters_of (valuation_in run n)) 0 (count_of run loops) in
+pub is-path : (design : Design) → IsSound design → OneValuation design → (run : Run) (loops : ℕ) (recording : Sampled) → IsRun design run → Follows design run loops recording
+    → (answer : Replay) → IsReplay design recording answer → answer ≡ replays.Path
+is-path design sound one run loops recording is follows answer replay =
+    let count = follows.count in
     subst (λ (found : Option (ℕ × ℕ)). Tells design found answer)
     (first-one design recording replay.valuations replay.found (leaves design recording replay.valuations) replay.first (leaves-first design recording replay.valuations)
-    ∙ no-leave design run loops plain sound is replay.valuations (λ sample within.
-    one (free_at design recording sample) (replay.valuations sample) (valuation_in run sample) (replay.computed sample (omega (arith, count, within))) (trace-filled design run loops plain sound is sample within)))
+    ∙ no-leave design run loops recording follows sound is replay.valuations (λ sample within.
+    one (free_at design recording sample) (replay.valuations sample) (valuation_in run sample) (replay.computed sample (omega (arith, count, within))) (filled design run loops recording follows sound is sample within)))
     replay.tells
 
-pub not-missing : (design : Design) → IsSound design → (run : Run) (loops : ℕ) → HasPlainNames design → (fault : ReplayFault) → IsMissing design (trace_sampled Zero design run loops) fault → fault ≡ faults.NoMemory
-not-missing design sound run loops plain (faults.MissingSignal name) (signal, missing, is) =
-    let none : first_missing design (trace_sampled Zero design run loops) ≡ None = none-missing design run loops plain (free_of design) (free-within design sound) in
+pub not-missing : (design : Design) → IsSound design → (run : Run) (loops : ℕ) (recording : Sampled) → Follows design run loops recording → (fault : ReplayFault) → IsMissing design recording fault → fault ≡ faults.NoMemory
+not-missing design sound run loops recording follows (faults.MissingSignal name) (signal, missing, is) =
+    let none : first_missing design recording ≡ None = none-missing design run loops recording follows (free_of design) (free-within design sound) in
     let wrong : None ≡ Some signal = sym none ∙ missing in cc
-not-missing design sound run loops plain faults.NoMemory missing = refl
+not-missing design sound run loops recording follows faults.NoMemory missing = refl
 
-pub path-answered : (design : Design) → IsSound design → OneValuation design → (run : Run) (loops : ℕ) (result : Result Replay ReplayFault) → IsRun design run → HasPlainNames design
-    → IfOk result (IsReplay design (trace_sampled Zero design run loops)) → IfErr result (IsMissing design (trace_sampled Zero design run loops))
+pub path-answered : (design : Design) → IsSound design → OneValuation design → (run : Run) (loops : ℕ) (recording : Sampled) (result : Result Replay ReplayFault) → IsRun design run → Follows design run loops recording
+    → IfOk result (IsReplay design recording) → IfErr result (IsMissing design recording)
     → (result ≡ Ok replays.Path) ⊎ (result ≡ Err faults.NoMemory)
-path-answered design sound one run loops (Ok answer) is plain replay missing = inl (ap Ok (is-path design sound one run loops is plain answer replay))
-path-answered design sound one run loops (Err fault) is plain replay missing = inr (ap Err (not-missing design sound run loops plain fault missing))
+path-answered design sound one run loops recording (Ok answer) is follows replay missing = inl (ap Ok (is-path design sound one run loops recording is follows answer replay))
+path-answered design sound one run loops recording (Err fault) is follows replay missing = inr (ap Err (not-missing design sound run loops recording follows fault missing))

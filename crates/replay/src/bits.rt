@@ -10,7 +10,7 @@ ghost use Rattle.trace.specs.FirstPlaces.{TellsFirst};
 use netlist::{Latch, Netlist, soundness_law};
 use psl_base::NoMemory;
 use psl_layer_theory::Found;
-use psl_names::{NameIndex, look_up, split_index};
+use psl_names::{NameIndex, split_index};
 use psl_sugar::Bit;
 use std::alloc::Global;
 use trace::first_text;
@@ -40,10 +40,10 @@ pub(crate) fn bits_of(
 
 /// The bit that a text stands for among names: the only one of a signal, or else the one of a vector whose index stands
 /// behind the text.
-fn bit_named(names: &NameIndex, text: &[u8]) -> Option<Bit>
+pub fn bit_named(names: &NameIndex, text: &[u8]) -> Option<Bit>
     ensures { result ≡ bit_named names.now text.now }
 {
-    match look_up(names, text) {
+    match names.look_up(text) {
         Found::Nothing => bit_indexed(names, text),
         found => bit_found(found),
     }
@@ -68,7 +68,7 @@ fn bit_indexed(names: &NameIndex, text: &[u8]) -> Option<Bit>
     ensures { result ≡ bit_indexed names.now (indexed text.now) }
 {
     match split_index(text) {
-        Some(name) => bit_with_index(look_up(names, name.text), name.index),
+        Some(name) => bit_with_index(names.look_up(name.text), name.index),
         None => None,
     }
 }

@@ -9,5 +9,6 @@ mod replaying;
 mod values;
 
 pub use answer::{Replay, ReplayFault};
+pub use bits::bit_named;
 pub use laws::{examples_law, first_law, path_law};
 pub use replaying::replay;

@@ -94,3 +94,25 @@ pieces-added text one two three four new code name first second third fourth las
     ∙ ap (λ (t : List ℕ). t ++ codes " $end\n") (append_assoc text (start ++ code ++ codes " ") name)
     ∙ append_assoc text (start ++ code ++ codes " " ++ name) (codes " $end\n")
     ∙ ap (λ (t : List ℕ). text ++ t) (sym (append_assoc (start ++ code ++ codes " " ++ name) (codes " $end") (10 ∷ [])))
+
+-- ---- the declaration of a vector
+
+-- one piece more behind a text
+pub one-more : (text old front piece new : List ℕ) → old ≡ text ++ front → new ≡ old ++ piece → new ≡ text ++ (front ++ piece)
+one-more text old front piece new kept added = added ∙ ap (λ (all : List ℕ). all ++ piece) kept ∙ append_assoc text front piece
+
+pub vector-added : (text one two three four five six new size code name : List ℕ) → one ≡ text ++ codes "$var wire " → two ≡ one ++ size → three ≡ two ++ codes " " → four ≡ three ++ code
+    → five ≡ four ++ codes " " → six ≡ five ++ name → new ≡ six ++ codes " $end\n" → new ≡ text ++ line (codes "$var wire " ++ size ++ codes " " ++ code ++ codes " " ++ name ++ codes " $end")
+vector-added text one two three four five six new size code name first second third fourth fifth sixth last =
+    let to_size = codes "$var wire " ++ size in
+    let to_gap = to_size ++ codes " " in
+    let to_code = to_gap ++ code in
+    let to_next = to_code ++ codes " " in
+    let to_name = to_next ++ name in
+    one-more text six to_name (codes " $end\n") new
+    (one-more text five to_next name six
+    (one-more text four to_code (codes " ") five
+    (one-more text three to_gap code four
+    (one-more text two to_size (codes " ") three
+    (one-more text one (codes "$var wire ") size two first second) third) fourth) fifth) sixth) last
+    ∙ ap (λ (rest : List ℕ). text ++ rest) (sym (append_assoc to_name (codes " $end") (10 ∷ [])))

@@ -23,7 +23,7 @@ use Rattle.psl_tree.specs.declared.atom.Edge.TheVariants.{Value, Rise, Fall}
 use Rattle.psl_tree.specs.declared.letter.Letter.{Letter}
 use Rattle.psl_tree.specs.declared.letter.Letter.TheVariants.{Holds}
 use Rattle.psl_tree.specs.declared.name.Name.{Name}
-use Rattle.trace.proofs.Accepting.{in-loop, in-stem}
+use Rattle.trace.proofs.ForEver.{in-loop, in-stem}
 use Rattle.trace.specs.Letters.{letters_over}
 use Rattle.trace.specs.Trace.{count_of, trace_sampled, valuation_in}
 use Rattle.vcd_reader.specs.declared.unknown.Unknown.TheVariants.{Zero}

@@ -8,7 +8,7 @@ use Rattle.netlist.specs.Design.{Design}
 use Rattle.netlist.specs.Runs.{IsMade}
 use Rattle.netlist.specs.declared.run.Run.{Run}
 use Rattle.psl_tree.specs.declared.name.Name.{Name}
-use Rattle.trace.proofs.Accepting.{sized}
+use Rattle.trace.proofs.ForEver.{sized}
 use Rattle.trace.proofs.Growing.{flat-more}
 use Rattle.trace.specs.Codes.{code_of, codes_of}
 use Rattle.trace.specs.Lengths.{plus, values_size, within}

@@ -6,6 +6,8 @@ use Rattle.psl_tree.specs.declared.name.Name.{Name}
 use Rattle.trace.specs.Codes.{code_of}
 use Rattle.trace.specs.Printed.{printed}
 use Rattle.trace.specs.Trace.{trace_text}
+use Rattle.trace.specs.Vectors.{vectors_text}
+use Rattle.trace.specs.declared.vectors.Vector.{Vector}
 
 -- signals of these names, in order; what drives them is no part of a trace
 abbrev pub named_from : ℕ → List (List ℕ) → List Name
@@ -47,6 +49,15 @@ Begins =
     (record { stem = (false ∷ []) ∷ []; loop_part = (true ∷ []) ∷ [] }) 2
     ≡ codes "$var wire 1 ! p $end\n$enddefinitions $end\n#0\n0!\n#1\n1!\n#2\n1!\n"
 
+-- a bit, and a vector of four signals that are numbered from its lowest index on; the second sample has another value
+abbrev pub ring : List Vector
+ring = record { text = codes "up"; high = 0; low = 0; signals = 0 ∷ [] } ∷ record { text = codes "count"; high = 3; low = 0; signals = 4 ∷ 3 ∷ 2 ∷ 1 ∷ [] } ∷ []
+
+abbrev pub IsJoined : Type 0
+IsJoined =
+    vectors_text ring (looped ((true ∷ false ∷ true ∷ false ∷ true ∷ []) ∷ (false ∷ true ∷ true ∷ false ∷ false ∷ []) ∷ [])) 1
+    ≡ codes "$var wire 1 ! up $end\n$var wire 4 \" count [3:0] $end\n$enddefinitions $end\n#0\n1!\nb1010 \"\n#1\n0!\nb0011 \"\n"
+
 -- codes, the lowest digit first
 abbrev pub AreCoded : Type 0
 AreCoded = (code_of 0 ≡ codes "!") × (code_of 93 ≡ codes "~") × (code_of 94 ≡ codes "!\"") × (code_of 95 ≡ codes "\"\"") × (code_of 8835 ≡ codes "~~") × (code_of 8836 ≡ codes "!!\"")
@@ -66,6 +77,7 @@ pub record AreTraced : Type 0 where
   pub stays_low : StaysLow
   pub counts : Counts
   pub begins : Begins
+  pub joined : IsJoined
   pub coded : AreCoded
   pub marked : AreMarked
   pub plain : ArePlain

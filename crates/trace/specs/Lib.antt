@@ -5,4 +5,5 @@ pub mod Lengths
 pub mod Letters
 pub mod Printed
 pub mod Trace
+pub mod Vectors
 pub mod Words

@@ -4,7 +4,7 @@ ghost use Rattle.trace.specs.Codes.{code_of};
 use psl_base::NoMemory;
 
 /// Adds the code of a signal, by its number.
-pub(crate) fn add_code(text: &mut Vec<u8>, number: u32) -> Result<(), NoMemory>
+pub(crate) fn add_code(text: &mut Vec<u8>, number: u64) -> Result<(), NoMemory>
     ensures { OnOk result (text.new.items ≡ text.old.items ++ code_of number) }
 {
     let mut rest = number;

@@ -8,9 +8,11 @@ mod lengths;
 mod names;
 mod printed;
 mod valuations;
+mod vectors;
 mod writing;
 
-pub use laws::{examples_law, read_law, word_law};
+pub use laws::{examples_law, read_law, singles_law, vectors_law, word_law};
 pub use lengths::trace_length;
 pub use names::{first_places, first_text};
+pub use vectors::{Vector, Vectors, vector_names, write_vectors};
 pub use writing::write_trace;

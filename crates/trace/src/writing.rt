@@ -77,7 +77,7 @@ fn add_declaration(text: &mut Vec<u8>, name: &[u8], signal: u32) -> Result<(), N
     ensures { OnOk result (text.new.items ≡ text.old.items ++ declaration_of name.now signal) }
 {
     add_bytes(text, b"$var wire 1 ")?;
-    add_code(text, signal)?;
+    add_code(text, signal as u64)?;
     add_bytes(text, b" ")?;
     add_printed(text, name)?;
     add_bytes(text, b" $end\n")?;
@@ -115,7 +115,7 @@ fn add_value(text: &mut Vec<u8>, value: bool, signal: u32) -> Result<(), NoMemor
     ensures { OnOk result (text.new.items ≡ text.old.items ++ line (digit value ∷ code_of signal)) }
 {
     text.push(if value { b'1' } else { b'0' })?;
-    add_code(text, signal)?;
+    add_code(text, signal as u64)?;
     text.push(b'\n')?;
     Ok(())
 }

@@ -1,11 +1,9 @@
 -- The trace is read as what it says, and the atoms of a formula over the names of the netlist are those of the trace.
-use Rattle.std.proofs.Common.{◌≡◌, refl, sym, ◌∙◌, ap, List, ℕ, Some, Ok}
-use Rattle.std.specs.Prelude.{Result}
+use Rattle.std.proofs.Common.{◌≡◌, sym, ◌∙◌, ap, List, ℕ, Ok}
+use Rattle.std.specs.Prelude.{IsOk, Result, is_ok}
 use Rattle.netlist.specs.Design.{Design}
 use Rattle.netlist.specs.Sound.{IsSound}
 use Rattle.netlist.specs.declared.run.Run.{Run}
-use Rattle.psl_base.specs.Files.{content_of}
-use Rattle.psl_base.specs.MemShelfState.{MemoryShelf, shelf_state}
 use Rattle.psl_tree.specs.Atoms.{AtomsOfBoolean, AtomsOfFormula, AtomsOfSequence}
 use Rattle.psl_tree.specs.Names.{AtomInRange}
 use Rattle.psl_tree.specs.Trees.{Boolean, Sequence, Formula}
@@ -19,22 +17,22 @@ use Rattle.vcd_reader.specs.declared.fault.VcdFault.{VcdFault}
 use Rattle.vcd_reader.specs.declared.unknown.Unknown.TheVariants.{Zero}
 use Rattle.vcd_reader.specs.Meaning.{reading}
 use Rattle.vcd_reader.specs.Sampled.{Sampled}
-use Rattle.vcd_reader.specs.Told.{Says}
 
-same-some : (a b : List ℕ) → Some a ≡ Some b → a ≡ b
-same-some a b e = cc
+-- what the trace says
+pub trace-says : (text : List ℕ) (design : Design) (run : Run) (loops : ℕ) → text ≡ trace_text design run loops → IsReadable design run loops
+    → reading Zero text ≡ Ok (trace_sampled Zero design run loops)
+trace-says text design run loops is readable =
+    ap (reading Zero) is ∙ trace-read Zero design run loops readable.is readable.words readable.signals readable.samples
 
-same-read : (a b : Sampled) (r : Result Sampled VcdFault) → r ≡ Ok a → r ≡ Ok b → a ≡ b
-same-read a b r p q = let e : Ok a ≡ Ok b = sym p ∙ q in cc
+-- a trace has no fault
+pub trace-faultless : (text : List ℕ) (design : Design) (run : Run) (loops : ℕ) → text ≡ trace_text design run loops → IsReadable design run loops → IsOk (reading Zero text)
+trace-faultless text design run loops is readable = ap (λ (r : Result Sampled VcdFault). is_ok r) (trace-says text design run loops is readable)
 
--- what is read of a shelf that holds the trace
-pub read-trace : (shelf : MemoryShelf) (name text : List ℕ) (design : Design) (run : Run) (loops : ℕ) (recording : Sampled) → content_of shelf.store.files name ≡ Some text
-    → text ≡ trace_text design run loops → IsReadable design run loops → Says Zero (shelf_state shelf) name (Ok recording) → recording ≡ trace_sampled Zero design run loops
-read-trace shelf name text design run loops recording holds is readable says =
-    let found = says (content_of shelf.store.files) refl in
-    let same : found.0 ≡ text = same-some found.0 text (sym found.1 ∙ holds) in
-    same-read recording (trace_sampled Zero design run loops) (reading Zero (trace_text design run loops))
-    (ap (reading Zero) (sym (same ∙ is)) ∙ found.3) (trace-read Zero design run loops readable.is readable.words readable.signals readable.samples)
+-- it is read as what it says
+pub read-trace : (text : List ℕ) (design : Design) (run : Run) (loops : ℕ) (recording : Sampled) → text ≡ trace_text design run loops → IsReadable design run loops
+    → reading Zero text ≡ Ok recording → recording ≡ trace_sampled Zero design run loops
+read-trace text design run loops recording is readable read =
+    let e : Ok recording ≡ Ok (trace_sampled Zero design run loops) = sym read ∙ trace-says text design run loops is readable in cc
 
 -- ---- atoms that have more
 

@@ -1,5 +1,6 @@
 ghost use Rattle.std.specs.Prelude.{◌≡◌, ◌≤◌, length, nat_lt, IfOk};
 ghost use Rattle.netlist.specs.Runs.{IsMade};
+ghost use Rattle.psl_base.specs.Places.{file_limit};
 ghost use Rattle.psl_tree.specs.Atoms.{AtomsOfFormula};
 ghost use Rattle.psl_tree.specs.Counts.{formula_size};
 ghost use Rattle.psl_tree.specs.Names.{AtomInRange};
@@ -40,7 +41,8 @@ pub struct JudgedTrace {
 
 /// The trace of a run, where it has at most so many bytes, and what it says of a directive over the names of the netlist:
 /// the verdict on the first letters of the run's word, as many as the trace has samples. A path of valuations is judged as a
-/// stem whose loop is written no time. None where the trace has more bytes; it is not built then. It takes time that grows
+/// stem whose loop is written no time. None where the trace has more bytes; it is not built then. Asked for are at most as many
+/// bytes as a file may have. It takes time that grows
 /// as the trace's length and as the number of its samples times the size of the formula.
 ///
 /// # Errors
@@ -55,6 +57,7 @@ pub fn judge_trace(
     requires in_range { AtomsOfFormula (AtomInRange traced.netlist.now.names) (formula_of directive.now.formula) }
     requires small { formula_size (formula_of directive.now.formula) ≤ MOST_CONSTRUCTORS }
     requires judgeable { IsJudgeable directive.now }
+    requires limit { most ≤ file_limit }
     ensures { IfOk result (IsJudgedUpTo most traced.entry.netlist.now traced.entry.run.now traced.entry.loops directive.now) }
 {
     if is_longer(alloc, traced, most)? {
@@ -73,12 +76,13 @@ fn is_longer(alloc: Global, traced: Traced<'_>, most: u64) -> Result<bool, NoMem
     Ok(length.is_none())
 }
 
-/// The same of any length.
+/// The same of a trace that is no longer than a file may be.
 fn judged(alloc: Global, traced: Traced<'_>, directive: &Directive) -> Result<JudgedTrace, NoMemory>
     requires readable { IsReadable traced.netlist.now traced.run.now traced.loops }
     requires in_range { AtomsOfFormula (AtomInRange traced.netlist.now.names) (formula_of directive.now.formula) }
     requires small { formula_size (formula_of directive.now.formula) ≤ MOST_CONSTRUCTORS }
     requires judgeable { IsJudgeable directive.now }
+    requires short { length (trace_text traced.netlist.now traced.run.now traced.loops) ≤ file_limit }
     ensures { IfOk result (IsJudged traced.entry.netlist.now traced.entry.run.now traced.entry.loops directive.now) }
 {
     soundness_law(traced.netlist);

@@ -1,4 +1,4 @@
-use Rattle.command_line.proofs.Plain.{plain_both, plain_check, plain_covers, plain_depth, plain_gen, plain_netlist, plain_options, plain_points, plain_prove, plain_reach, plain_recordings, plain_replay, plain_show, plain_unknown, plain_wave, show_behind, wave_behind}
+use Rattle.command_line.proofs.Plain.{plain_both, plain_buses, plain_check, plain_covers, plain_depth, plain_gen, plain_netlist, plain_options, plain_points, plain_prove, plain_reach, plain_recordings, plain_replay, plain_show, plain_unknown, plain_wave, show_behind, wave_behind}
 use Rattle.command_line.proofs.plain_words.Goals as goal
 
 pub returns : goal.returns
@@ -15,6 +15,7 @@ returns c = record {
   covers = plain_covers;
   options = plain_options;
   recordings = plain_recordings;
+  buses = plain_buses;
   replay = plain_replay;
   check = plain_check;
   wave_behind = wave_behind;

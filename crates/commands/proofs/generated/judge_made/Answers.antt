@@ -1,7 +1,8 @@
-use Rattle.std.proofs.Common.{ap, ◌∙◌, ℕ, List, length}
-use Rattle.commands.proofs.Generating.{answered-in-range, answered-small, made-verdicts}
+use Rattle.std.proofs.Common.{◌≡◌, ap, sym, ◌∙◌, ℕ, List, length}
+use Rattle.commands.proofs.Generating.{answered-in-range, answered-small, made-verdicts, memory-alone}
 use Rattle.commands.proofs.generated.judge_made.Goals as goal
 use Rattle.vcd_reader.specs.Sampled.{Sampled}
+use Rattle.wave_judge.specs.declared.fault.JudgeFault.TheVariants.{Automaton, NoMemory, Sere}
 
 pub judge-requires-clause-in_range : goal.judge-requires-clause-in_range
 judge-requires-clause-in_range c =
@@ -17,3 +18,13 @@ returns-in-Ok-clause-verdicts c =
 
 pub returns-in-Ok-clause-bytes : goal.returns-in-Ok-clause-bytes
 returns-in-Ok-clause-bytes c = c.len-bytes.ensures ∙ ap (λ (bytes : List ℕ). length bytes) c.in_ok-text.ensures
+
+pub unreachable-requires : goal.unreachable-requires
+unreachable-requires c =
+    let memory = memory-alone c.in_ok-directives.directives c.in-Err-Sere.field-0 c.in_ok-directives.ensures c.in-Err-Sere.ensures.fault in
+    let wrong : Sere c.in-Err-Sere.field-0-0 ≡ NoMemory = sym c.in-Err-Sere.field-0-is ∙ memory in cc
+
+pub unreachable-requires-in-Err-Automaton : goal.unreachable-requires-in-Err-Automaton
+unreachable-requires-in-Err-Automaton c =
+    let memory = memory-alone c.in_ok-directives.directives c.in-Err-Automaton.field-0 c.in_ok-directives.ensures c.in-Err-Automaton.ensures.fault in
+    let wrong : Automaton c.in-Err-Automaton.field-0-0 ≡ NoMemory = sym c.in-Err-Automaton.field-0-is ∙ memory in cc

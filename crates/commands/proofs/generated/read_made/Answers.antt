@@ -1,10 +1,10 @@
-use Rattle.std.proofs.Common.{codes}
-use Rattle.commands.proofs.Generating.{read-made}
+use Rattle.commands.proofs.Generating.{made-faultless, read-made}
 use Rattle.commands.proofs.generated.read_made.Goals as goal
 
-pub returns-in-Ok : goal.returns-in-Ok
-returns-in-Ok c = record {
-  sampled =
-      read-made c.in_ok-shelf.shelf (codes "made.vcd") c.args.text c.args.seed c.args.samples c.in-Ok.recording c.in_ok-shelf.ensures c.requires.text c.requires.few
-      c.in-Ok.ensures.sampled;
+pub read_faultless-requires-clause-faultless : goal.read_faultless-requires-clause-faultless
+read_faultless-requires-clause-faultless c = made-faultless c.args.text c.args.seed c.args.samples c.requires.text c.requires.few
+
+pub returns : goal.returns
+returns c = record {
+  sampled = read-made c.args.text c.args.seed c.args.samples c.in_ok-recording.recording c.requires.text c.requires.few c.in_ok-recording.ensures;
 }

@@ -16,6 +16,7 @@ returns c = record {
     decimal_digit 7 (omega arith),
   ) refl;
   begins = rw (decimal_digit 0 (omega arith), decimal_digit 1 (omega arith), decimal_digit 2 (omega arith)) refl;
+  joined = rw (decimal_digit 0 (omega arith), decimal_digit 1 (omega arith), decimal_digit 3 (omega arith), decimal_digit 4 (omega arith)) refl;
   coded = (refl, refl, refl, refl, refl, refl);
   marked = (refl, refl, refl, refl, refl);
   plain = (refl, refl, refl, refl, refl);

@@ -1,5 +1,5 @@
 use Rattle.std.proofs.Common.{ap, sym, ◌∙◌, ◌++◌, ℕ, Bool, List, length}
-use Rattle.trace.proofs.Accepting.{sized}
+use Rattle.trace.proofs.ForEver.{sized}
 use Rattle.trace.proofs.Growing.{sampled-more}
 use Rattle.trace.proofs.writing.add_samples.Goals as goal
 use Rattle.trace.specs.Codes.{codes_of}

@@ -1,0 +1,5 @@
+mod Following
+mod Joined
+mod Letters
+mod Ranges
+mod Spanning

@@ -1,0 +1,4 @@
+pub mod Buses
+pub mod Examples
+pub mod Letters
+pub mod Spans
