@@ -29,6 +29,8 @@ pub fn solve(alloc: Global, cnf: &Cnf, steps: u64) -> Result<Answer, NoMemory>
 
 /// The same, where some literals are decided before all others, in this order, as long as their variables have no value.
 /// Where a formula asks one question after another, so the answer to each is learned before the next one comes up.
+/// Literals of variables that the formula does not have are left out, and after 200 conflicts for each literal all are decided
+/// as others are.
 ///
 /// # Errors
 ///
