@@ -1,8 +1,9 @@
 -- The loops that find classes, and the merged automaton.
-use Rattle.std.proofs.Common.{◌≡◌, inl, inr, refl, sym, ap, ◌∙◌, subst, ℕ, zero, suc, ◌+◌, ◌-◌, ◌^◌, ◌≤◌, ◌<◌, Bool as Truth, true, false, if◌then◌else◌, List, [], ◌∷◌, ◌++◌, map, length, get_or, slice_index, arith}
+use Rattle.std.proofs.Common.{◌≡◌, inl, inr, refl, sym, ap, ◌∙◌, subst, ℕ, zero, suc, ◌+◌, ◌-◌, ◌≤◌, ◌<◌, Bool as Truth, true, false, if◌then◌else◌, List, [], ◌∷◌, ◌++◌, map, length, get_or, slice_index, arith}
 use Rattle.std.specs.Prelude.{IsTrue, ◌&&◌, ◌==◌}
 use Rattle.std.proofs.lemmas.Bool.{both_ways, and_parts, cases_lt, eq-eqb}
 use Rattle.std.proofs.lemmas.List.{length-map, get_or_default}
+use Rattle.psl_tree.specs.declared.counts.TheConstants.{MOST_OBLIGATIONS}
 use Rattle.sere_nfa.specs.Marking.{is_marked}
 use Rattle.alternating_theory.specs.Laws.{NamesOf}
 use Rattle.alternating_theory.specs.Merged.{class_in, first_from, supposed, is_like, is_first, classes_upto, joined, merged, same_positive, same_obligation}
@@ -220,8 +221,8 @@ module _ (os : List code_obligation.Obligation) (start : ℕ) (names-of : NamesO
       pair i j l m u v = ap (λ (n : ℕ). automaton_from n l) u ∙ ap (λ (k : List Obligation). automaton_from j k) v
 
   -- so it is whole
-  pub merged-whole : (first : ℕ) (found : List code_obligation.Obligation) → length os < 2 ^ 32 → record { start = first; obligations = obligations_of_code found } ≡ merged whole
-      → (first < length found) × ObligationsWithin 0 (length found) found × (length found < 2 ^ 32)
+  pub merged-whole : (first : ℕ) (found : List code_obligation.Obligation) → length os ≤ MOST_OBLIGATIONS → record { start = first; obligations = obligations_of_code found } ≡ merged whole
+      → (first < length found) × ObligationsWithin 0 (length found) found × (length found ≤ MOST_OBLIGATIONS)
   merged-whole first found room e =
       let keeps = merging_keeps whole names-of (class_in (classes_upto plain start)) in
       let long : length (obligations_of_code found) ≡ length found = length-map found obligation_of in

@@ -1,9 +1,10 @@
 -- The loops that give new numbers and keep what is marked, and the trimmed automaton.
-use Rattle.std.proofs.Common.{◌≡◌, inl, inr, ◌∙◌, ℕ, zero, suc, ◌+◌, ◌^◌, ◌≤◌, ◌<◌, Bool as Truth, true, false, if◌then◌else◌, List, [], ◌∷◌, ◌++◌, map, length, get_or, take, refl, ap, sym, subst, append_assoc, append-nil, arith, slice_index}
+use Rattle.std.proofs.Common.{◌≡◌, inl, inr, ◌∙◌, ℕ, zero, suc, ◌+◌, ◌≤◌, ◌<◌, Bool as Truth, true, false, if◌then◌else◌, List, [], ◌∷◌, ◌++◌, map, length, get_or, take, refl, ap, sym, subst, append_assoc, append-nil, arith, slice_index}
 use Rattle.std.specs.List.{AllByRecursion}
 use Rattle.std.proofs.lemmas.Bool.{cases_lt}
 use Rattle.std.proofs.lemmas.List.Elements.{All-from_recursion}
 use Rattle.std.proofs.lemmas.List.{map_push, map_more, length-map, length-take-le, get_or_default}
+use Rattle.psl_tree.specs.declared.counts.TheConstants.{MOST_OBLIGATIONS}
 use Rattle.sere_nfa.specs.Marking.{is_marked}
 use Rattle.alternating_theory.specs.Obligations.{Obligation, Automaton, obligation_at}
 use Rattle.alternating_theory.specs.Positive.{Positive, Const, Holds, Owed, And, Or, OwesWithin, renumbered}
@@ -176,9 +177,9 @@ module _ (os : List code_obligation.Obligation) (start : ℕ) (within : Obligati
       ∙ ap (λ (l : List Truth). map (λ o. renumbered_obligation (λ number. slice_index names number) o) (kept (is_marked l) (obligations_of_code os))) e')
 
   -- so it is whole
-  pub trimmed-whole : (first : ℕ) (found : List code_obligation.Obligation) → length os < 2 ^ 32
+  pub trimmed-whole : (first : ℕ) (found : List code_obligation.Obligation) → length os ≤ MOST_OBLIGATIONS
       → record { start = first; obligations = obligations_of_code found } ≡ trimmed (obligations_of_code os) start
-      → (first < length found) × ObligationsWithin 0 (length found) found × (length found < 2 ^ 32)
+      → (first < length found) × ObligationsWithin 0 (length found) found × (length found ≤ MOST_OBLIGATIONS)
   trimmed-whole first found room e =
       let end : length (obligations_of_code os) ≡ start + 1 = omega (arith, as-long) in
       let long : length (obligations_of_code found) ≡ length found = length-map found obligation_of in

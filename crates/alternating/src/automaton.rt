@@ -77,10 +77,11 @@ impl Alternating {
         self.obligations.len() as u32
     }
 
-    /// The obligation that is owed at the first place, by its number.
+    /// The obligation that is owed at the first place, by its number. There are at most 2,048 of them.
     pub fn start(&self) -> u32
         ensures shown { result ≡ self.now.start }
         ensures below { result < length self.now.obligations }
+        ensures few { length self.now.obligations ≤ MOST_OBLIGATIONS }
     {
         self.start
     }
@@ -260,7 +261,7 @@ fn unmerged(alloc: Global, f: &Fl) -> Result<Alternating, NoMemory>
 // Of obligations that ask the same the first, in one pass.
 fn merged(alloc: Global, obligations: &[Obligation], start: u32) -> Result<Alternating, NoMemory>
     requires names { NamesOf (record { start = start; obligations = obligations_of_code obligations.now }) }
-    requires room { length obligations.now < 2 ^ 32 }
+    requires room { length obligations.now ≤ MOST_OBLIGATIONS }
     ensures { IfOk result (λ automaton. automaton ≡ merged (record { start = start; obligations = obligations_of_code obligations.now })) }
 {
     let classes = classes_of(alloc, obligations, start)?;
@@ -278,7 +279,7 @@ fn merged(alloc: Global, obligations: &[Obligation], start: u32) -> Result<Alter
 fn trimmed(alloc: Global, obligations: &[Obligation], start: u32) -> Result<Alternating, NoMemory>
     requires within { ObligationsWithin 0 start obligations.now }
     requires last { length obligations.now ≡ start + 1 }
-    requires room { length obligations.now < 2 ^ 32 }
+    requires room { length obligations.now ≤ MOST_OBLIGATIONS }
     ensures { IfOk result (λ automaton. automaton ≡ trimmed (obligations_of_code obligations.now) start) }
 {
     let marks = reached_marks(alloc, obligations, start)?;

@@ -8,7 +8,6 @@ ghost use Rattle.gates_nodes.specs.Nodes.{variables_of};
 ghost use Rattle.gates_theory.specs.Sizes.{IsTooLarge};
 ghost use Rattle.netlist.specs.Design.{free_of};
 ghost use Rattle.netlist.specs.Valuations.{bit};
-ghost use Rattle.psl_tree.specs.declared.counts.TheConstants.{MOST_OBLIGATIONS};
 ghost use Rattle.run_terms.specs.Automata.{TestsSignals};
 ghost use Rattle.run_terms.specs.Formulas.{HasModel};
 ghost use Rattle.run_terms.specs.Sizes.{formula_bulk as search_bulk};
@@ -22,7 +21,7 @@ ghost use Rattle.bounded.specs.Searches.{asked_of, search_clauses, search_variab
 use crate::beginning::add_first;
 use crate::closing::add_closings;
 use crate::counting::{bits_of, number_width, starts_of};
-use crate::facts::{automaton_law, formula_is_few};
+use crate::facts::{automaton_law, formula_is_few, obligations_are_few};
 use crate::framing::{Framed, Frames, search_frames};
 use crate::free::{free_signals, kept_of};
 use crate::obligations::add_obligations;
@@ -171,15 +170,14 @@ pub fn ordered_search(
     ensures models { IfOk result (λ ordered. HasModel ordered.formula.variables ordered.formula.clauses ↔ SomeFound netlist.now violation.now n) }
     ensures fits { IfOk result (λ ordered. IsTooLarge (search_variables netlist.now violation.now n)
         (search_clauses netlist.now violation.now n) → ⊥) }
-    ensures words { IfOk result (λ ordered. length violation.now.obligations ≤ MOST_OBLIGATIONS
-        → clause_words ordered.formula.clauses ≤ 1000 * suc n * suc n * search_bulk netlist.now violation.now) }
-    ensures few { IfOk result (λ ordered. length violation.now.obligations ≤ MOST_OBLIGATIONS
-        → ordered.formula.variables ≤ 1000 * suc n * suc n * search_bulk netlist.now violation.now) }
+    ensures words { IfOk result (λ ordered. clause_words ordered.formula.clauses ≤ 1000 * suc n * suc n * search_bulk netlist.now violation.now) }
+    ensures few { IfOk result (λ ordered. ordered.formula.variables ≤ 1000 * suc n * suc n * search_bulk netlist.now violation.now) }
     ensures large { IfErr result (λ fault. fault ≡ CnfFault.TooLarge
         → IsTooLarge (search_variables netlist.now violation.now n) (search_clauses netlist.now violation.now n)) }
 {
     soundness_law(netlist);
     automaton_law(violation);
+    obligations_are_few(violation);
     let Framed {
         mut builder,
         frames,
@@ -213,10 +211,8 @@ pub fn search_formula(
     ensures models { IfOk result (λ cnf. HasModel cnf.variables cnf.clauses ↔ SomeFound netlist.now violation.now n) }
     ensures fits { IfOk result (λ cnf. IsTooLarge (search_variables netlist.now violation.now n)
         (search_clauses netlist.now violation.now n) → ⊥) }
-    ensures words { IfOk result (λ cnf. length violation.now.obligations ≤ MOST_OBLIGATIONS
-        → clause_words cnf.clauses ≤ 1000 * suc n * suc n * search_bulk netlist.now violation.now) }
-    ensures few { IfOk result (λ cnf. length violation.now.obligations ≤ MOST_OBLIGATIONS
-        → cnf.variables ≤ 1000 * suc n * suc n * search_bulk netlist.now violation.now) }
+    ensures words { IfOk result (λ cnf. clause_words cnf.clauses ≤ 1000 * suc n * suc n * search_bulk netlist.now violation.now) }
+    ensures few { IfOk result (λ cnf. cnf.variables ≤ 1000 * suc n * suc n * search_bulk netlist.now violation.now) }
     ensures large { IfErr result (λ fault. fault ≡ CnfFault.TooLarge
         → IsTooLarge (search_variables netlist.now violation.now n) (search_clauses netlist.now violation.now n)) }
 {

@@ -27,3 +27,17 @@ trimmed-requires-clause-last c =
     let settled = c.in_ok-obligations.ensures ∙ ap (λ (l : List code_pending.Pending). pendings_of l) added in
     let many : length part.rest.items ≡ c.len-start.result = (let a = c.len-start.ensures in let d = c.in_ok-first.rest-is in cc) in
     omega (arith, many, ap (λ (l : List code_obligation.Obligation). length l) c.as_slice.ensures.value, part-many part.rest.items part.start c.in_ok-obligations.obligations.items settled)
+
+pub trimmed-requires-clause-room : goal.trimmed-requires-clause-room
+trimmed-requires-clause-room c =
+    let part : code_part.Part = c.in_ok-first.field-0 in
+    let added : c.add.new.obligations.items ≡ part.rest.items ++ part.start ∷ [] =
+    (let a = c.in_ok-add.ensures in let b = c.in_ok-first.first-is in let d = c.in_ok-first.rest-is in cc) in
+    let settled = c.in_ok-obligations.ensures ∙ ap (λ (l : List code_pending.Pending). pendings_of l) added in
+    omega (
+      arith,
+      ap (λ (l : List code_obligation.Obligation). length l) c.as_slice.ensures.value,
+      part-many part.rest.items part.start c.in_ok-obligations.obligations.items settled,
+      c.in_ok-first.ensures.count,
+      c.requires.room,
+    )

@@ -79,7 +79,7 @@ returns-clause-words c =
     let places = c.in_ok-places.places in
     let makes = c.in_ok-clauses.ensures.builder ∙ ap (λ (m : Making). with_nodes m (asked_of d places.automaton.now places.last).nodes) made in
     final-words d a on n places.automaton.now places.last c.in_ok-places.ensures.automaton c.in_ok-places.ensures.last c.asked_clauses.new.builder c.in_ok-clauses.clauses makes c.in_ok-clauses.ensures.clauses
-    c.in_ok-cnf.cnf.clauses c.in_ok-cnf.ensures.clauses
+    c.in_ok-cnf.cnf.clauses c.in_ok-cnf.ensures.clauses c.obligations_are_few.ensures
 
 pub returns-clause-few : goal.returns-clause-few
 returns-clause-few c =
@@ -92,4 +92,4 @@ returns-clause-few c =
     let places = c.in_ok-places.places in
     let makes = c.in_ok-clauses.ensures.builder ∙ ap (λ (m : Making). with_nodes m (asked_of d places.automaton.now places.last).nodes) made in
     final-few d a on n places.automaton.now places.last c.in_ok-places.ensures.automaton c.in_ok-places.ensures.last c.asked_clauses.new.builder c.in_ok-clauses.clauses makes c.in_ok-clauses.ensures.clauses
-    c.in_ok-cnf.cnf.variables c.in_ok-cnf.ensures.variables
+    c.in_ok-cnf.cnf.variables c.in_ok-cnf.ensures.variables c.obligations_are_few.ensures

@@ -1,4 +1,5 @@
-use Rattle.std.proofs.Common.{◌≡◌, ap, ◌∙◌, subst, sym, ℕ, ◌<◌, ◌^◌, List, map}
+use Rattle.std.proofs.Common.{◌≡◌, ap, ◌∙◌, subst, sym, ℕ, ◌<◌, ◌≤◌, List, map}
+use Rattle.psl_tree.specs.declared.counts.TheConstants.{MOST_OBLIGATIONS}
 use Rattle.alternating_theory.specs.Construction.{opposite_obligation}
 use Rattle.alternating.specs.Views.{obligations_of_code, ObligationsWithin}
 use Rattle.alternating.specs.declared.obligation.Obligation as code_obligation
@@ -15,5 +16,5 @@ invariant_of-result c =
     record {
       start_below = subst (λ (n : ℕ). c.self.inside.start < n) (sym many) c.self.invariant.start_below;
       owed_below = subst (λ (n : ℕ). ObligationsWithin 0 n new) (sym many) (duals-within 0 _ old new made c.self.invariant.owed_below);
-      few = subst (λ (n : ℕ). n < 2 ^ 32) (sym many) c.self.invariant.few;
+      few = subst (λ (n : ℕ). n ≤ MOST_OBLIGATIONS) (sym many) c.self.invariant.few;
     }
