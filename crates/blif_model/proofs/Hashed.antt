@@ -1,113 +1,215 @@
--- Names that are looked up by their hashes, with one more.
-use Rattle.std.proofs.Common.{◌≡◌, ℕ, ◌+◌, ◌<◌, Bool, true, false, cond, List, [], ◌∷◌, ◌++◌, length, get_or, Option, None, Some, is_none, refl, sym, ap, ◌∙◌, arith, length-append}
-use Rattle.std.proofs.lemmas.Bool.Decides.{Decides-eqb}
-use Rattle.std.proofs.lemmas.List.{get_or_append_left, get_or_push}
+-- Names that are found in slots, with one more.
+use Rattle.std.proofs.Common.{◌≡◌, ℕ, ◌+◌, ◌<◌, ◌≤◌, ◌⊎◌, Bool, true, false, cond, List, [], ◌∷◌, ◌++◌, length, get_or, set, Option, None, Some, inl, inr, refl, sym, ap, subst, ◌∙◌, ⊎_elim, arith, length-append, length-set}
+use Rattle.std.proofs.lemmas.Bool.{cases_eq, cases_lt}
+use Rattle.std.proofs.lemmas.List.{get_or_append_left, get_or_push, get_or-set_same, get_or-set_other}
 use Rattle.std.proofs.lemmas.Slice.Eq.{bytes_eq-Decides}
 use Rattle.std.specs.BTreeMap.{BTreeMap}
-use Rattle.std.specs.Prelude.{◌==◌}
 use Rattle.std.specs.Str.{bytes_eq}
 use denote.Ref.{Bor}
-use Rattle.blif_model.specs.Hashes.{Finds, first_of, found_by, hash_of, other_of}
+use Rattle.blif_model.specs.Hashes.{slot_at, start_of, end_of, other_of, AreDistinct, AreTaken, Finds, IsPlaceOf, IsSeated, Seats}
 use Rattle.blif_model.specs.Names.{is_new, place_of}
-use Rattle.blif_model.proofs.Places.{place_of-push}
+use Rattle.blif_model.proofs.Places.{place_of-new, place_of-within, none_from}
+use Rattle.blif_model.proofs.Knowing.{position-stays}
+use Rattle.blif_model.proofs.Saying.{text-placed}
 
-none-of : (o : Option ℕ) → is_none o ≡ true → o ≡ None
-none-of None new = refl
-none-of (Some number) new = cc
+-- the slots of a name in front of a place are those of other names
+abbrev pub AreOthers : List (List ℕ) → List ℕ → List ℕ → ℕ → Type 0
+AreOthers names slots name end =
+    (place number : ℕ) → start_of (length slots) name ≤ place → place < end → slot_at slots place ≡ number + 1 → bytes_eq (get_or names number []) name ≡ false
 
-some-below : (b : Bool) (count number : ℕ) (old : Option ℕ) → cond b (Some count) old ≡ Some number → (old ≡ Some number → number < count) → number < count + 1
-some-below true count number old is below = let same : count ≡ number = cc in omega arith
-some-below false count number old is below = omega (arith, below is)
+-- a name's own slot is at a place or behind it
+record IsBehind (slots name : List ℕ) (number end : ℕ) : Type 0 where
+  pub place : ℕ
+  pub from : end ≤ place
+  pub own : IsPlaceOf slots name (number + 1) place
 
-none-before : (b : Bool) (count : ℕ) (old : Option ℕ) → cond b (Some count) old ≡ None → old ≡ None
-none-before true count old is = cc
-none-before false count old is = is
+module _ (names : List (List ℕ)) (slots : List ℕ) (others : BTreeMap (Bor (List ℕ)) ℕ) (name : List ℕ) where
+  -- the name of a slot is found
+  pub in-slot : (place number : ℕ) → Finds names slots others → slot_at slots place ≡ number + 1 → bytes_eq (get_or names number []) name ≡ true
+      → Some number ≡ place_of names name
+  in-slot place number finds is same =
+      sym (ap (place_of names) (sym ((bytes_eq-Decides (get_or names number []) name).0 same)) ∙ finds.distinct number (omega (arith, finds.seats.within place, is)))
 
--- what is found of another name
-found-as : (names : List (List ℕ)) (name : List ℕ) (first other : Option ℕ) (count : ℕ) → (first ≡ None → ⊥) → found_by names name first other ≡ None
-    → found_by names name first (Some count) ≡ Some count
-found-as names name None other count some none = absurd (some refl)
-found-as names name (Some number) other count some none = by_test (bytes_eq (get_or names number []) name) none
-  where
-    by_test : (b : Bool) → cond b (Some number) other ≡ None → cond b (Some number) (Some count) ≡ Some count
-    by_test true is = cc
-    by_test false is = refl
+  -- where each slot in front of a place has another name, a name has its own slot behind it, or is among the others
+  own-behind : (end number : ℕ) → Finds names slots others → AreOthers names slots name end → place_of names name ≡ Some number
+      → IsBehind slots name number end ⊎ (AreTaken slots name (end_of (length slots) name) × (other_of others name ≡ Some number))
+  own-behind end number finds differ there =
+      let is : get_or names number [] ≡ name = text-placed names name number there in
+      let seated : IsSeated slots others name number =
+      subst (λ text. IsSeated slots others text number) is (finds.seats.each number (place_of-within names name number there)) in
+      ⊎_elim
+      (λ at. ⊎_elim
+      (λ front. absurd (let other : bytes_eq (get_or names number []) name ≡ false = differ at.0 number at.1.after front at.1.holds in
+      let same : bytes_eq (get_or names number []) name ≡ true = (bytes_eq-Decides (get_or names number []) name).1 is in cc))
+      (λ behind. inl (record { place = at.0; from = behind; own = at.1 }))
+      (cases_lt at.0 end))
+      (λ full. inr full)
+      seated
 
--- the first name of a hash is another one
-pub behind-first : (names : List (List ℕ)) (name : List ℕ) (first other : Option ℕ) (number : ℕ) → first ≡ Some number
-    → bytes_eq (get_or names number []) name ≡ false → found_by names name first other ≡ other
-behind-first names name first other number is differ =
-    ap (λ there. found_by names name there other) is ∙ ap (λ same. cond same (Some number) other) differ
+  -- a name whose first slots are those of others, up to an empty one, is none of the names
+  pub at-empty : (place : ℕ) → Finds names slots others → AreOthers names slots name place → start_of (length slots) name ≤ place
+      → place < end_of (length slots) name → slot_at slots place ≡ 0 → None ≡ place_of names name
+  at-empty place finds differ after before empty = by_found (place_of names name) refl
+    where
+      by_found : (found : Option ℕ) → place_of names name ≡ found → None ≡ found
+      by_found None is = refl
+      by_found (Some number) is = absurd
+          (⊎_elim
+          (λ own. ⊎_elim
+          (λ front. omega (arith, own.own.taken place after front, empty))
+          (λ behind. let same : own.place ≡ place = omega (arith, own.from) in omega (arith, own.own.holds, ap (slot_at slots) same, empty))
+          (cases_lt place own.place))
+          (λ full. omega (arith, full.0 place after before, empty))
+          (own-behind place number finds differ is))
 
+  -- a name all of whose slots are those of others
+  pub behind-all : Finds names slots others → AreOthers names slots name (end_of (length slots) name) → other_of others name ≡ place_of names name
+  behind-all finds differ = by_found (place_of names name) (other_of others name) refl refl
+    where
+      by_found : (found other : Option ℕ) → place_of names name ≡ found → other_of others name ≡ other → other ≡ found
+      by_found None None is there = refl
+      by_found None (Some number) is there = absurd (let own : place_of names name ≡ Some number = finds.seats.right name number there in cc)
+      by_found (Some number) other is there =
+          ⊎_elim
+          (λ own. absurd (omega (arith, own.own.before, own.from)))
+          (λ full. sym there ∙ full.1)
+          (own-behind (end_of (length slots) name) number finds differ is)
+
+-- slots of which those stay that are taken
+module _ (slots more : List ℕ) (text : List ℕ) where
+  taken-stay : length more ≡ length slots → ((place : ℕ) → 0 < slot_at slots place → slot_at more place ≡ slot_at slots place)
+      → (end : ℕ) → AreTaken slots text end → AreTaken more text end
+  taken-stay long stay end taken = λ place after before.
+      let there : 0 < slot_at slots place = taken place (omega (arith, after, ap (λ size. start_of size text) long)) before in
+      omega (arith, there, stay place there)
+
+  full-stay : length more ≡ length slots → ((place : ℕ) → 0 < slot_at slots place → slot_at more place ≡ slot_at slots place)
+      → AreTaken slots text (end_of (length slots) text) → AreTaken more text (end_of (length more) text)
+  full-stay long stay taken =
+      subst (λ size. AreTaken more text (end_of size text)) (sym long) (taken-stay long stay (end_of (length slots) text) taken)
+
+  place-stays : length more ≡ length slots → ((place : ℕ) → 0 < slot_at slots place → slot_at more place ≡ slot_at slots place)
+      → (number place : ℕ) → IsPlaceOf slots text (number + 1) place → IsPlaceOf more text (number + 1) place
+  place-stays long stay number place is = record {
+    after = omega (arith, is.after, ap (λ size. start_of size text) long);
+    before = subst (λ size. place < end_of size text) (sym long) is.before;
+    holds = stay place (omega (arith, is.holds)) ∙ is.holds;
+    taken = taken-stay long stay place is.taken;
+  }
+
+module _ (names : List (List ℕ)) (number : ℕ) (slots : List ℕ) (others : BTreeMap (Bor (List ℕ)) ℕ) (name : List ℕ) where
+  -- the next name is in the first empty one of its slots
+  pub seated-slot : (place : ℕ) → Seats names number slots others → get_or names number [] ≡ name → IsPlaceOf slots name 0 place
+      → Seats names (number + 1) (set slots place (number + 1)) others
+  seated-slot place seats is free = record {
+    within = λ other. ⊎_elim
+        (λ same. omega (arith, ap (slot_at more) same, own))
+        (λ differ. omega (arith, get_or-set_other slots place other (number + 1) 0 differ, seats.within other))
+        (cases_eq other place);
+    each = λ other below. ⊎_elim
+        (λ same. subst (λ n. IsSeated more others (get_or names n []) n) (sym same)
+        (subst (λ text. IsSeated more others text number) (sym is) (inl (place, last))))
+        (λ differ. stays other (seats.each other (omega (arith, below, differ))))
+        (cases_eq other number);
+    right = seats.right;
+  }
+    where
+      more : List ℕ
+      more = set slots place (number + 1)
+
+      long : length more ≡ length slots
+      long = length-set slots place (number + 1)
+
+      own : slot_at more place ≡ number + 1
+      own = get_or-set_same slots place (number + 1) 0 (omega (arith, free.before))
+
+      stay : (other : ℕ) → 0 < slot_at slots other → slot_at more other ≡ slot_at slots other
+      stay other there = get_or-set_other slots place other (number + 1) 0 (λ same. omega (arith, there, ap (slot_at slots) same, free.holds))
+
+      last : IsPlaceOf more name (number + 1) place
+      last = record {
+        after = omega (arith, free.after, ap (λ size. start_of size name) long);
+        before = subst (λ size. place < end_of size name) (sym long) free.before;
+        holds = own;
+        taken = taken-stay slots more name long stay place free.taken;
+      }
+
+      stays : (other : ℕ) → IsSeated slots others (get_or names other []) other → IsSeated more others (get_or names other []) other
+      stays other seated = ⊎_elim
+          (λ at. inl (at.0, place-stays slots more (get_or names other []) long stay other at.0 at.1))
+          (λ full. inr (full-stay slots more (get_or names other []) long stay full.0, full.1))
+          seated
+
+  -- the next name is among the others
+  pub seated-other : (more : BTreeMap (Bor (List ℕ)) ℕ) → Seats names number slots others → get_or names number [] ≡ name
+      → place_of names name ≡ Some number → AreTaken slots name (end_of (length slots) name)
+      → ((text : List ℕ) → other_of more text ≡ cond (bytes_eq name text) (Some number) (other_of others text))
+      → Seats names (number + 1) slots more
+  seated-other more seats is own taken updates = record {
+    within = λ place. omega (arith, seats.within place);
+    each = λ other below. ⊎_elim
+        (λ same. subst (λ n. IsSeated slots more (get_or names n []) n) (sym same)
+        (subst (λ text. IsSeated slots more text number) (sym is) (inr (taken, last))))
+        (λ differ. stays other (seats.each other (omega (arith, below, differ))))
+        (cases_eq other number);
+    right = λ text found there. by_test text found (bytes_eq name text) refl (sym (updates text) ∙ there);
+  }
+    where
+      last : other_of more name ≡ Some number
+      last = updates name ∙ ap (λ b. cond b (Some number) (other_of others name)) ((bytes_eq-Decides name name).1 refl)
+
+      kept : (text : List ℕ) (other : ℕ) (b : Bool) → bytes_eq name text ≡ b → other_of others text ≡ Some other
+          → cond b (Some number) (other_of others text) ≡ Some other
+      kept text other true same there = sym own ∙ ap (place_of names) ((bytes_eq-Decides name text).0 same) ∙ seats.right text other there
+      kept text other false differ there = there
+
+      stays : (other : ℕ) → IsSeated slots others (get_or names other []) other → IsSeated slots more (get_or names other []) other
+      stays other seated = ⊎_elim
+          (λ at. inl at)
+          (λ full. inr (full.0, updates (get_or names other []) ∙ kept (get_or names other []) other (bytes_eq name (get_or names other [])) refl full.1))
+          seated
+
+      by_test : (text : List ℕ) (found : ℕ) (b : Bool) → bytes_eq name text ≡ b → cond b (Some number) (other_of others text) ≡ Some found
+          → place_of names text ≡ Some found
+      by_test text found true same there = ap (place_of names) (sym ((bytes_eq-Decides name text).0 same)) ∙ own ∙ there
+      by_test text found false differ there = seats.right text found there
+
+-- a list of names with one more
 module _ (names : List (List ℕ)) (name : List ℕ) where
-  grown : length (names ++ name ∷ []) ≡ length names + 1
-  grown = length-append names (name ∷ [])
+  stays-there : (text : List ℕ) (number : ℕ) → place_of names text ≡ Some number → place_of (names ++ name ∷ []) text ≡ Some number
+  stays-there text number there = position-stays (λ other. bytes_eq text other) 0 number names (name ∷ []) there
 
-  -- the names before the last one stay
-  stays : (text : List ℕ) (first other : Option ℕ) → ((number : ℕ) → first ≡ Some number → number < length names)
-      → found_by (names ++ name ∷ []) text first other ≡ found_by names text first other
-  stays text None other within = refl
-  stays text (Some number) other within =
-      ap (λ there. cond (bytes_eq there text) (Some number) other) (get_or_append_left names (name ∷ []) [] number (within number refl))
+  pub distinct-more : AreDistinct names → is_new names name ≡ true → AreDistinct (names ++ name ∷ [])
+  distinct-more distinct new = λ number below. ⊎_elim
+      (λ front. ap (place_of (names ++ name ∷ [])) (get_or_append_left names (name ∷ []) [] number front)
+      ∙ stays-there (get_or names number []) number (distinct number front))
+      (λ behind. let last : number ≡ length names = omega (arith, below, length-append names (name ∷ [])) in
+      ap (place_of (names ++ name ∷ [])) (get_or_push names name [] number (sym last))
+      ∙ place_of-new names name number last (none_from (place_of names name) new))
+      (cases_lt number (length names))
 
-  -- a name is the first one of its hash
-  module _ (hashes more : BTreeMap ℕ ℕ) (others : BTreeMap (Bor (List ℕ)) ℕ) where
-    pub first-more : Finds names hashes others → is_new names name ≡ true → first_of hashes (hash_of name) ≡ None
-        → ((hash : ℕ) → first_of more hash ≡ cond (hash_of name == hash) (Some (length names)) (first_of hashes hash))
-        → Finds (names ++ name ∷ []) more others
-    first-more finds new free updates = record {
-      within = λ hash number there.
-          omega (arith, grown, some-below (hash_of name == hash) (length names) number (first_of hashes hash) (sym (updates hash) ∙ there) (finds.within hash number));
-      behind = λ text none.
-          finds.behind text (none-before (hash_of name == hash_of text) (length names) (first_of hashes (hash_of text)) (sym (updates (hash_of text)) ∙ none));
-      each = λ text.
-          ap (λ first. found_by (names ++ name ∷ []) text first (other_of others text)) (updates (hash_of text))
-          ∙ by_test text (hash_of name == hash_of text) refl;
-    }
-      where
-        by_test : (text : List ℕ) (b : Bool) → (hash_of name == hash_of text) ≡ b
-            → found_by (names ++ name ∷ []) text (cond b (Some (length names)) (first_of hashes (hash_of text))) (other_of others text) ≡ place_of (names ++ name ∷ []) text
-        by_test text true is =
-            let none : first_of hashes (hash_of text) ≡ None = ap (first_of hashes) (sym ((Decides-eqb (hash_of name) (hash_of text)).0 is)) ∙ free in
-            let old : place_of names text ≡ None = sym (finds.each text) ∙ ap (λ first. found_by names text first (other_of others text)) none in
-            ap (λ there. cond (bytes_eq there text) (Some (length names)) (other_of others text)) (get_or_push names name [] (length names) refl)
-            ∙ ap (λ other. cond (bytes_eq name text) (Some (length names)) other) (finds.behind text none ∙ sym old)
-            ∙ place_of-push names name text (length names) refl new
-        by_test text false is =
-            stays text (first_of hashes (hash_of text)) (other_of others text) (finds.within (hash_of text)) ∙ finds.each text
-            ∙ apart text (bytes_eq name text) refl is
-          where
-            apart : (text : List ℕ) (b : Bool) → bytes_eq name text ≡ b → (hash_of name == hash_of text) ≡ false → place_of names text ≡ place_of (names ++ name ∷ []) text
-            apart text true same differ =
-                absurd (let equal : (hash_of name == hash_of text) ≡ true = (Decides-eqb (hash_of name) (hash_of text)).1 (ap hash_of ((bytes_eq-Decides name text).0 same)) in cc)
-            apart text false other differ =
-                sym (ap (λ b. cond b (Some (length names)) (place_of names text)) other) ∙ place_of-push names name text (length names) refl new
+  pub seats-more : (slots : List ℕ) (others : BTreeMap (Bor (List ℕ)) ℕ) → Seats names (length names) slots others
+      → Seats (names ++ name ∷ []) (length names) slots others
+  seats-more slots others seats = record {
+    within = seats.within;
+    each = λ number below. subst (λ text. IsSeated slots others text number)
+        (sym (get_or_append_left names (name ∷ []) [] number below)) (seats.each number below);
+    right = λ text number there. stays-there text number (seats.right text number there);
+  }
 
-  -- a name comes behind another one of its hash
-  module _ (hashes : BTreeMap ℕ ℕ) (others more : BTreeMap (Bor (List ℕ)) ℕ) where
-    pub other-more : Finds names hashes others → is_new names name ≡ true → (first_of hashes (hash_of name) ≡ None → ⊥)
-        → ((text : List ℕ) → other_of more text ≡ cond (bytes_eq name text) (Some (length names)) (other_of others text))
-        → Finds (names ++ name ∷ []) hashes more
-    other-more finds new taken updates = record {
-      within = λ hash number there. omega (arith, grown, finds.within hash number there);
-      behind = λ text none. updates text ∙ by_none text none (bytes_eq name text) refl;
-      each = λ text.
-          stays text (first_of hashes (hash_of text)) (other_of more text) (finds.within (hash_of text))
-          ∙ ap (found_by names text (first_of hashes (hash_of text))) (updates text) ∙ by_test text (bytes_eq name text) refl
-          ∙ place_of-push names name text (length names) refl new;
-    }
-      where
-        by_none : (text : List ℕ) → first_of hashes (hash_of text) ≡ None → (b : Bool) → bytes_eq name text ≡ b
-            → cond b (Some (length names)) (other_of others text) ≡ None
-        by_none text none true same = absurd (taken (ap (λ t. first_of hashes (hash_of t)) ((bytes_eq-Decides name text).0 same) ∙ none))
-        by_none text none false other = finds.behind text none
-
-        by_test : (text : List ℕ) (b : Bool) → bytes_eq name text ≡ b
-            → found_by names text (first_of hashes (hash_of text)) (cond b (Some (length names)) (other_of others text)) ≡ cond (bytes_eq name text) (Some (length names)) (place_of names text)
-        by_test text true same =
-            let is : name ≡ text = (bytes_eq-Decides name text).0 same in
-            let none : place_of names text ≡ None = ap (place_of names) (sym is) ∙ none-of (place_of names name) new in
-            found-as names text (first_of hashes (hash_of text)) (other_of others text) (length names)
-            (λ free. taken (ap (λ t. first_of hashes (hash_of t)) is ∙ free)) (finds.each text ∙ none)
-            ∙ sym (ap (λ b. cond b (Some (length names)) (place_of names text)) same)
-        by_test text false other = finds.each text ∙ sym (ap (λ b. cond b (Some (length names)) (place_of names text)) other)
+  -- the next name of the list is seated
+  pub finds-more : (slots more : List ℕ) (others and : BTreeMap (Bor (List ℕ)) ℕ) (number : ℕ) → Finds names slots others → is_new names name ≡ true
+      → number ≡ length names
+      → (Seats (names ++ name ∷ []) number slots others → get_or (names ++ name ∷ []) number [] ≡ name → place_of (names ++ name ∷ []) name ≡ Some number
+      → Seats (names ++ name ∷ []) (number + 1) more and)
+      → Finds (names ++ name ∷ []) more and
+  finds-more slots more others and number finds new at seated =
+      let long : number + 1 ≡ length (names ++ name ∷ []) = omega (arith, at, length-append names (name ∷ [])) in
+      record {
+        distinct = distinct-more finds.distinct new;
+        seats = subst (λ n. Seats (names ++ name ∷ []) n more and) long
+            (seated
+            (subst (λ n. Seats (names ++ name ∷ []) n slots others) (sym at) (seats-more slots others finds.seats))
+            (get_or_push names name [] number (sym at))
+            (place_of-new names name number at (none_from (place_of names name) new)));
+      }

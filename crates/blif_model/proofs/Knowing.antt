@@ -39,7 +39,7 @@ by-head : (b : Bool) (i n : ℕ) (old new : Option ℕ) → cond b (Some i) old 
 by-head true i n old new found next = found
 by-head false i n old new found next = next found
 
-position-stays : (test : List ℕ → Bool) (i n : ℕ) (xs ys : List (List ℕ)) → position_from test i xs ≡ Some n → position_from test i (xs ++ ys) ≡ Some n
+pub position-stays : (test : List ℕ → Bool) (i n : ℕ) (xs ys : List (List ℕ)) → position_from test i xs ≡ Some n → position_from test i (xs ++ ys) ≡ Some n
 position-stays test i n [] ys found = cc
 position-stays test i n (x ∷ xs) ys found = by-head (test x) i n (position_from test (i + 1) xs) (position_from test (i + 1) (xs ++ ys)) found (position-stays test (i + 1) n xs ys)
 

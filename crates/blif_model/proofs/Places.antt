@@ -23,7 +23,7 @@ position_from-passing test i n (y ∷ ys) x at passes none =
     by_head (test y) i (position_from test (i + 1) ys) (position_from test (i + 1) (ys ++ x ∷ [])) (Some n) none
     (position_from-passing test (i + 1) n ys x (omega arith) passes)
 
-none_from : (o : Option ℕ) → is_none o ≡ true → o ≡ None
+pub none_from : (o : Option ℕ) → is_none o ≡ true → o ≡ None
 none_from None _ = refl
 none_from (Some n) e = cc
 

@@ -1,10 +1,11 @@
--- How names are looked up: by their hashes, and those that share the hash of an earlier one by their bytes.
-use Rattle.std.specs.Prelude.{◌≡◌, ℕ, ◌+◌, ◌*◌, ◌%◌, ◌^◌, ◌<◌, cond, List, [], fold, length, slice_index_or, Option, None, Some}
+-- How names are looked up: each is in a slot behind the place of its hash, and where none of these slots was empty among
+-- the others, by its bytes.
+use Rattle.std.specs.Prelude.{◌≡◌, ℕ, ◌+◌, ◌-◌, ◌*◌, ◌/◌, ◌%◌, ◌^◌, ◌<◌, ◌≤◌, ◌⊎◌, min, List, [], fold, length, slice_index_or, Option, Some}
 use Rattle.std.specs.BTreeMap.{BTreeMap, get_by}
 use Rattle.std.specs.Cmp.Lexicographic.{slice_cmp}
 use Rattle.std.specs.Ordering.{nat_cmp}
-use Rattle.std.specs.Str.{bytes_eq}
 use denote.Ref.{Bor}
+use Rattle.blif_model.specs.declared.names.TheConstants.{PROBES, SPREAD}
 use Rattle.blif_model.specs.Names.{place_of}
 
 -- the hash of a name
@@ -14,20 +15,48 @@ with_byte hash byte = (hash * 257 % 2 ^ 64 + byte) % 2 ^ 64
 unfoldable pub hash_of : List ℕ → ℕ
 hash_of name = fold with_byte 0 name
 
--- the number of the first name that has a hash, and of one of the others
-abbrev pub first_of : BTreeMap ℕ ℕ → ℕ → Option ℕ
-first_of hashes hash = get_by (nat_cmp hash) hashes
+-- the first slot of a name among so many: its hash, spread over all slots behind which enough of them are
+unfoldable pub start_of : ℕ → List ℕ → ℕ
+start_of size name = hash_of name * SPREAD % 2 ^ 64 * (size - (PROBES - 1)) / 2 ^ 64
 
+-- where the slots of a name end
+abbrev pub end_of : ℕ → List ℕ → ℕ
+end_of size name = min (start_of size name + PROBES) size
+
+-- what a slot holds: 0 where it is empty, else one more than the number of its name
+abbrev pub slot_at : List ℕ → ℕ → ℕ
+slot_at slots place = slice_index_or slots place 0
+
+-- the slots of a name in front of a place are taken
+abbrev pub AreTaken : List ℕ → List ℕ → ℕ → Type 0
+AreTaken slots name end = (place : ℕ) → start_of (length slots) name ≤ place → place < end → 0 < slot_at slots place
+
+-- a place is one of a name's, and the first of these that has no other name
+pub record IsPlaceOf (slots : List ℕ) (name : List ℕ) (content place : ℕ) : Type 0 where
+  pub after : start_of (length slots) name ≤ place
+  pub before : place < end_of (length slots) name
+  pub holds : slot_at slots place ≡ content
+  pub taken : AreTaken slots name place
+
+-- the number of a name among those for which no slot was empty
 abbrev pub other_of : BTreeMap (Bor (List ℕ)) ℕ → List ℕ → Option ℕ
 other_of others name = get_by (λ key. slice_cmp nat_cmp name key.now) others
 
--- the number of a name, by that of the first one of its hash, and by that among the others
-abbrev pub found_by : List (List ℕ) → List ℕ → Option ℕ → Option ℕ → Option ℕ
-found_by names name None other = None
-found_by names name (Some number) other = cond (bytes_eq (slice_index_or names number []) name) (Some number) other
+-- a name is found to have a number: in a slot, or among the others, where all of its slots are taken
+abbrev pub IsSeated : List ℕ → BTreeMap (Bor (List ℕ)) ℕ → List ℕ → ℕ → Type 0
+IsSeated slots others name number = ((place : ℕ) × IsPlaceOf slots name (number + 1) place)
+    ⊎ (AreTaken slots name (end_of (length slots) name) × (other_of others name ≡ Some number))
 
--- so the number of each name is found, and of each that is none of the names that there is none
-pub record Finds (names : List (List ℕ)) (hashes : BTreeMap ℕ ℕ) (others : BTreeMap (Bor (List ℕ)) ℕ) : Type 0 where
-  pub within : (hash number : ℕ) → first_of hashes hash ≡ Some number → number < length names
-  pub behind : (name : List ℕ) → first_of hashes (hash_of name) ≡ None → other_of others name ≡ None
-  pub each : (name : List ℕ) → found_by names name (first_of hashes (hash_of name)) (other_of others name) ≡ place_of names name
+-- so each of the first names of a list is found to have its number, and nothing else is found
+pub record Seats (names : List (List ℕ)) (count : ℕ) (slots : List ℕ) (others : BTreeMap (Bor (List ℕ)) ℕ) : Type 0 where
+  pub within : (place : ℕ) → slot_at slots place ≤ count
+  pub each : (number : ℕ) → number < count → IsSeated slots others (slice_index_or names number []) number
+  pub right : (name : List ℕ) (number : ℕ) → other_of others name ≡ Some number → place_of names name ≡ Some number
+
+-- no two names are equal
+abbrev pub AreDistinct : List (List ℕ) → Type 0
+AreDistinct names = (number : ℕ) → number < length names → place_of names (slice_index_or names number []) ≡ Some number
+
+pub record Finds (names : List (List ℕ)) (slots : List ℕ) (others : BTreeMap (Bor (List ℕ)) ℕ) : Type 0 where
+  pub distinct : AreDistinct names
+  pub seats : Seats names (length names) slots others
