@@ -15,13 +15,13 @@ use Rattle.blif_hierarchy.specs.declared.cost.Cost.{Cost}
 use Rattle.blif_hierarchy.specs.Drivers.{IsInForm}
 use Rattle.blif_hierarchy.specs.First.{IsClosed}
 use Rattle.blif_hierarchy.specs.declared.cost.Scale.{Scale}
-use Rattle.blif_hierarchy.specs.Sums.{placements_of, own_count, signals_below, instances_below, size_below, instance_size, signals_with, instances_with, size_with, signal_count, IsOver, IsPast, IsFirstPast, FindsPast}
+use Rattle.blif_hierarchy.specs.Sums.{placements_of, own_count, signals_below, instances_below, size_below, instance_size, signals_with, instances_with, size_with, signal_count, IsOver, IsPast, IsFirstWith, FindsPast}
 use Rattle.blif_hierarchy.specs.Sums.{no_cost, capped, cost_below, with_placement, cost_after, is_over, past_from, HasCosts, AreInForm}
 use Rattle.blif_hierarchy.proofs.Depths.{placement-among}
 use Rattle.blif_hierarchy.proofs.Fitting.{own-is}
 
 -- sums that are capped
-capped-sum : (a own b cap : ℕ) → min (min a cap + own + min b cap) cap ≡ min (a + (own + b)) cap
+pub capped-sum : (a own b cap : ℕ) → min (min a cap + own + min b cap) cap ≡ min (a + (own + b)) cap
 capped-sum a own b cap = grind arith
 
 same-cost : (signals signals' instances instances' size size' : ℕ) → signals ≡ signals' → instances ≡ instances' → size ≡ size'
@@ -114,14 +114,14 @@ module _ (Line : Type 0) (models : List (Model Line)) (scale : Scale) (levels : 
           ∙ same-capped scale _ _ _ _ _ _ one other third;
     }
 
-last_or : (n m : ℕ) → n < suc m → (n < m) ⊎ (n ≡ m)
+pub last_or : (n m : ℕ) → n < suc m → (n < m) ⊎ (n ≡ m)
 last_or n m less = grind arith
 
 small_or : (n m : ℕ) → (n ≤ m) ⊎ (m < n)
 small_or n m = grind arith
 
 -- one more of a list is taken
-take-next : {X : Type 0} (k : ℕ) (xs : List X) (x : X) (rest : List X) → drop k xs ≡ x ∷ rest → (take (suc k) xs ≡ take k xs ++ x ∷ []) × (drop (suc k) xs ≡ rest) × (k < length xs)
+pub take-next : {X : Type 0} (k : ℕ) (xs : List X) (x : X) (rest : List X) → drop k xs ≡ x ∷ rest → (take (suc k) xs ≡ take k xs ++ x ∷ []) × (drop (suc k) xs ≡ rest) × (k < length xs)
 take-next zero [] x rest is = cc
 take-next zero (y ∷ xs) x rest is =
     let first : y ≡ x = cc in
@@ -133,10 +133,10 @@ take-next (suc k) (y ∷ xs) x rest is =
     (ap (λ zs. y ∷ zs) next.0, next.1, omega (arith, next.2))
 
 -- what is counted up to one more than is allowed passes a limit where the number does
-lt-min : (limit n : ℕ) → nat_lt limit (min n (limit + 1)) ≡ true → limit < n
+pub lt-min : (limit n : ℕ) → nat_lt limit (min n (limit + 1)) ≡ true → limit < n
 lt-min limit n is = let less = ltb-true limit (min n (limit + 1)) is in grind (arith, less)
 
-min-lt : (limit n : ℕ) → limit < n → nat_lt limit (min n (limit + 1)) ≡ true
+pub min-lt : (limit n : ℕ) → limit < n → nat_lt limit (min n (limit + 1)) ≡ true
 min-lt limit n less = lt-ltb limit (min n (limit + 1)) (grind (arith, less))
 
 or-true : (a b : Bool) → (a || b) ≡ true → (a ≡ true) ⊎ (b ≡ true)
@@ -222,7 +222,7 @@ module _ (Line : Type 0) (models : List (Model Line)) (scale : Scale) (costs : L
           → (((earlier : ℕ) → earlier < suc k → IsPast models scale earlier → ⊥) → FindsPast models scale (past_from models scale costs next (number + 1) rest))
           → FindsPast models scale (cond test (Some number) (past_from models scale costs next (number + 1) rest))
       by_test k number placement rest at lt none true is next later =
-          subst (λ n. IsFirstPast models scale n) (sym at)
+          subst (λ n. IsFirstWith (length placements) (IsPast models scale) n) (sym at)
           (record { there = lt; past = passes scale (signals_with models (suc k)) (instances_with models (suc k)) (size_with models scale.starts (suc k)) is; first = none })
       by_test k number placement rest at lt none false is next later =
           later (λ earlier less past. ⊎_elim (λ before. none earlier before past)

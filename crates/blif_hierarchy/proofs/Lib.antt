@@ -7,6 +7,7 @@ pub mod Driving
 pub mod Few
 pub mod Fitting
 pub mod Halving
+pub mod Lengths
 pub mod Once
 pub mod Owning
 pub mod Parting

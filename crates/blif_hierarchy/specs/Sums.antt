@@ -54,11 +54,27 @@ abbrev pub instances_with : {Line : Type 0} → List (Model Line) → ℕ → �
 instances_with models count =
     sum_by (λ placement. 1 + instances_below models (DEEPEST - 1) placement.model) (take count (placements_of models 0))
 
--- how much an instance of a model takes: the bytes of its lines, by where the lines of each model begin and those of the
--- last one end, and so many more for each of its names
+-- how many bytes the lines of a model have, by where those of each begin and those of the last one end
+abbrev pub line_bytes : List ℕ → ℕ → ℕ
+line_bytes starts model = slice_index starts (suc model) - slice_index starts model
+
+-- those of the instances below one of a model, down to so many levels
+abbrev pub bytes_below : {Line : Type 0} → List (Model Line) → List ℕ → ℕ → ℕ → ℕ
+bytes_below models starts zero model = 0
+bytes_below models starts (suc levels) model =
+    sum_by (λ placement. line_bytes starts placement.model + bytes_below models starts levels placement.model)
+    (placements_of models model)
+
+-- those of the top, with so many of its placements
+abbrev pub bytes_with : {Line : Type 0} → List (Model Line) → List ℕ → ℕ → ℕ
+bytes_with models starts count =
+    line_bytes starts 0
+    + sum_by (λ placement. line_bytes starts placement.model + bytes_below models starts (DEEPEST - 1) placement.model)
+    (take count (placements_of models 0))
+
+-- how much an instance of a model takes: the bytes of its lines, and so many more for each of its names
 abbrev pub instance_size : {Line : Type 0} → List (Model Line) → List ℕ → ℕ → ℕ
-instance_size models starts model =
-    slice_index starts (suc model) - slice_index starts model + NAME_SIZE * names_of models model
+instance_size models starts model = line_bytes starts model + NAME_SIZE * names_of models model
 
 -- and the instances below one of a model, down to so many levels
 abbrev pub size_below : {Line : Type 0} → List (Model Line) → List ℕ → ℕ → ℕ → ℕ
@@ -84,16 +100,28 @@ abbrev pub IsPast : {Line : Type 0} → List (Model Line) → Scale → ℕ → 
 IsPast models scale k =
     IsOver scale (signals_with models (suc k)) (instances_with models (suc k)) (size_with models scale.starts (suc k))
 
--- and it is the first such one
-pub record IsFirstPast {Line : Type 0} (models : List (Model Line)) (scale : Scale) (k : ℕ) : Type 0 where
-  pub there : k < length (placements_of models 0)
-  pub past : IsPast models scale k
-  pub first : (earlier : ℕ) → earlier < k → IsPast models scale earlier → ⊥
+-- and so it is with the lines alone
+abbrev pub IsLong : {Line : Type 0} → List (Model Line) → Scale → ℕ → Type 0
+IsLong models scale k = scale.size < bytes_with models scale.starts (suc k)
+
+-- of so many placements of the top, one is the first with which something is so
+pub record IsFirstWith (count : ℕ) (Holds : ℕ → Type 0) (k : ℕ) : Type 0 where
+  pub there : k < count
+  pub past : Holds k
+  pub first : (earlier : ℕ) → earlier < k → Holds earlier → ⊥
+
+-- the first such one, or that there is none
+abbrev pub FindsWith : ℕ → (ℕ → Type 0) → Option ℕ → Type 0
+FindsWith count Holds None = (k : ℕ) → k < count → Holds k → ⊥
+FindsWith count Holds (Some k) = IsFirstWith count Holds k
 
 -- the first placement of the top that passes a limit, or that there is none
 abbrev pub FindsPast : {Line : Type 0} → List (Model Line) → Scale → Option ℕ → Type 0
-FindsPast models scale None = (k : ℕ) → k < length (placements_of models 0) → IsPast models scale k → ⊥
-FindsPast models scale (Some k) = IsFirstPast models scale k
+FindsPast models scale found = FindsWith (length (placements_of models 0)) (IsPast models scale) found
+
+-- and that of lines alone
+abbrev pub FindsLong : {Line : Type 0} → List (Model Line) → Scale → Option ℕ → Type 0
+FindsLong models scale found = FindsWith (length (placements_of models 0)) (IsLong models scale) found
 
 -- each placement is in form
 abbrev pub AreInForm : {Line : Type 0} → List (Model Line) → Type 0
@@ -153,3 +181,24 @@ pub record HasCosts {Line : Type 0} (models : List (Model Line)) (scale : Scale)
   pub size : length costs ≡ length models
   pub each : (model : ℕ) → model < length models
       → slice_index_or costs model no_cost ≡ cost_below models scale levels model
+
+-- how lines alone are summed: what is below an instance of each model, down to so many levels
+abbrev pub HasBytes : {Line : Type 0} → List (Model Line) → Scale → ℕ → List ℕ → Type 0
+HasBytes models scale levels below =
+    (model : ℕ) → slice_index below model ≡ min (bytes_below models scale.starts levels model) (scale.size + 1)
+
+-- with one placement more
+abbrev pub with_lines : Scale → List ℕ → ℕ → Placement → ℕ
+with_lines scale below sum placement =
+    min (sum + line_bytes scale.starts placement.model + slice_index below placement.model) (scale.size + 1)
+
+-- of all placements of a model
+abbrev pub bytes_after : {Line : Type 0} → Scale → List ℕ → Model Line → ℕ
+bytes_after scale below model = fold (with_lines scale below) 0 (placements_in model.items)
+
+-- the number of the first placement with which they are too long, from a sum and a number on
+abbrev pub long_from : Scale → List ℕ → ℕ → ℕ → List Placement → Option ℕ
+long_from scale below sum number [] = None
+long_from scale below sum number (placement ∷ placements) =
+    let next = with_lines scale below sum placement in
+    cond (nat_lt scale.size next) (Some number) (long_from scale below next (number + 1) placements)

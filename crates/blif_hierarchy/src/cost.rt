@@ -4,7 +4,7 @@ ghost use Rattle.blif_flattening.specs.Hierarchy.{placements_in};
 ghost use Rattle.blif_flattening.specs.Instances.{names_of};
 ghost use Rattle.blif_hierarchy.specs.First.{IsClosed};
 ghost use Rattle.blif_hierarchy.specs.Sums.{no_cost, capped, with_placement, cost_after, cost_alone, past_from, is_over};
-ghost use Rattle.blif_hierarchy.specs.Sums.{HasCosts, AreInForm, FindsPast, FitsWords, instance_size, signal_count};
+ghost use Rattle.blif_hierarchy.specs.Sums.{HasCosts, AreInForm, FindsPast, FitsWords, instance_size, line_bytes, signal_count};
 
 use blif_flattening::{DEEPEST, Item, Model, Placement};
 use psl_base::{Items, NoMemory, Numbers};
@@ -185,10 +185,17 @@ fn instance_size<L>(models: &Items<Model<L>>, scale: &Scale, model: u32) -> u64
     ensures is { result ≡ instance_size models.now scale.now.starts model }
     ensures few { result < 2 ^ 40 }
 {
+    let bytes = line_bytes(scale, model);
+    u64::from(bytes) + u64::from(NAME_SIZE) * u64::from(name_count(models, model))
+}
+
+// How many bytes the lines of a model have.
+pub(crate) fn line_bytes(scale: &Scale, model: u32) -> u32
+    ensures { result ≡ line_bytes scale.now.starts model }
+{
     let starts = scale.starts.as_slice();
     let end = number_at(starts, model as usize + 1);
-    let bytes = end.saturating_sub(number_at(starts, model as usize));
-    u64::from(bytes) + u64::from(NAME_SIZE) * u64::from(name_count(models, model))
+    end.saturating_sub(number_at(starts, model as usize))
 }
 
 // Numbers counted up to one more than is allowed.
@@ -235,7 +242,7 @@ fn name_count<L>(models: &Items<Model<L>>, model: u32) -> u32
 }
 
 // The number at a place of a list, 0 past its end.
-fn number_at(numbers: &[u32], place: usize) -> u32
+pub(crate) fn number_at(numbers: &[u32], place: usize) -> u32
     ensures { result ≡ slice_index numbers.now place }
 {
     match numbers.get(place) {

@@ -6,12 +6,14 @@
 mod cost;
 mod depth;
 mod laws;
+mod lines;
 mod place;
 mod recursion;
 
 pub use cost::{NAME_SIZE, Scale, first_too_large};
 pub use depth::first_too_deep;
 pub use laws::hierarchy_law;
+pub use lines::first_too_long;
 pub use place::PlacementAt;
 pub use psl_base::NoMemory;
 pub use recursion::first_recursive;

@@ -1,3 +1,4 @@
+pub mod Bare
 pub mod Closed
 pub mod Connecting
 pub mod Drivers
@@ -8,6 +9,7 @@ pub mod Freeing
 pub mod Gathering
 pub mod Indexes
 pub mod Offering
+pub mod Outlined
 pub mod Sets
 pub mod Unknowing
 pub mod Weaving

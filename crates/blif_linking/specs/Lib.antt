@@ -1,5 +1,6 @@
 pub mod Actuals
 pub mod Bad
+pub mod Bare
 pub mod Connected
 pub mod Driving
 pub mod Examples

@@ -12,6 +12,7 @@ use Rattle.blif_hierarchy.specs.First.{Finds}
 use Rattle.blif_hierarchy.specs.Order.{IsRecursive}
 use Rattle.blif_hierarchy.specs.Sums.{FindsPast}
 use Rattle.blif_flat.specs.Flat.{Models, flat_design, flat_outputs}
+use Rattle.blif_hierarchy.proofs.Lengths.{none-long}
 use Rattle.blif_model.specs.declared.fault.BlifFault.{BlifFault}
 use Rattle.blif_model.specs.declared.fault.BlifFault.TheVariants.{UnknownModel, BadConnection, ModelRecursion, TooDeep, DrivenBySubckt, Undriven, TooLarge, CombinationalCycle}
 use Rattle.blif_model.specs.Files.{models_of}
@@ -19,10 +20,10 @@ use Rattle.blif_linking.specs.Linked.{IsHierarchy, linked, linked_texts}
 use Rattle.blif_linking.specs.Names.{Parts, first_bad, first_driven, first_undriven, first_unknown}
 use Rattle.blif_linking.specs.Sizes.{scale_of}
 use Rattle.blif_laws.proofs.Hierarchies.{one-hierarchy}
-use Rattle.blif_reader.specs.Faults.{FromBad, FromDeep, FromDriven, FromLarge, FromRecursion, FromUndriven, IsCycleFault, IsModelsFault, in_top, place_in, title_place, titles_in}
+use Rattle.blif_reader.specs.Faults.{FromBad, FromDeep, FromDriven, FromLarge, FromLong, FromRecursion, FromUndriven, IsCycleFault, IsModelsFault, SeeksLong, in_top, place_in, title_place, titles_in}
 use Rattle.blif_reader.specs.Meaning.{IsNetlist, IsReading, IsWholeFault}
 use Rattle.blif_reader.proofs.Asking.{FaultOr, IsOne, one-asked, one-found, one-sought, rest-asked, rest-sought, some-asked, some-sought, then-asked, then-sought}
-use Rattle.blif_reader.proofs.Seeking.{deep-some, past-one, past-some, recursive-some}
+use Rattle.blif_reader.proofs.Seeking.{deep-some, long-one, long-some, past-one, past-some, recursive-some}
 
 pub none-in : (found : Option PlacedToken) → place_in found ≡ None → found ≡ None
 none-in None is = refl
@@ -48,6 +49,10 @@ fit-of text models texts is = record {
   driven = is.driven;
   few = subst (λ (ms : Models). FindsPast ms (scale_of text is.parts) None) is.models_are is.few;
 }
+
+-- then lines are not too long, as with names they take no less
+pub short-of : (text : List ℕ) (parts : Parts) → IsFit text parts → SeeksLong (linked parts) (scale_of text parts) None
+short-of text parts fit = λ are. none-long (linked parts) (scale_of text parts) fit.few
 
 pub hierarchy-of : (text : List ℕ) (parts : Parts) → models_of text ≡ Ok parts → IsFit text parts → IsHierarchy text (linked parts) (linked_texts parts)
 hierarchy-of text parts said fit = record {
@@ -80,7 +85,8 @@ module _ (text : List ℕ) (parts : Parts) where
 
   models-some : models_of text ≡ Ok parts → FaultOr (IsModelsFault text parts) Good
   models-some said =
-      some-asked UnknownModel (place_in (first_unknown parts)) (FromBad text parts) Good (λ known.
+      some-asked UnknownModel (place_in (first_unknown parts)) (FromLong text parts) Good (λ known.
+      some-sought TooLarge (SeeksLong (linked parts) (scale_of text parts)) (λ k. title_place text (titles_in parts) (in_top k)) (FromBad text parts) Good (long-some (linked parts) (scale_of text parts)) (λ short.
       some-asked BadConnection (place_in (first_bad parts)) (FromRecursion text parts) Good (λ connected.
       some-sought ModelRecursion (Finds (IsRecursive (linked parts))) (title_place text (titles_in parts)) (FromDeep text parts) Good (recursive-some (linked parts)) (λ finite.
       some-sought TooDeep (Finds (IsTooDeep (linked parts))) (title_place text (titles_in parts)) (FromDriven text parts) Good (deep-some (linked parts)) (λ shallow.
@@ -95,7 +101,7 @@ module _ (text : List ℕ) (parts : Parts) where
         apart = none-in (first_driven parts) apart;
         driven = none-in (first_undriven parts) driven;
         few = few;
-      }))))))))
+      })))))))))
 
   one-cycle : IsOne (IsCycleFault text parts)
   one-cycle one other first second =
@@ -104,20 +110,22 @@ module _ (text : List ℕ) (parts : Parts) where
 
   pub one-models : IsOne (IsModelsFault text parts)
   one-models =
-      one-asked UnknownModel (place_in (first_unknown parts)) (FromBad text parts)
+      one-asked UnknownModel (place_in (first_unknown parts)) (FromLong text parts)
+      (one-sought TooLarge (SeeksLong (linked parts) (scale_of text parts)) (λ k. title_place text (titles_in parts) (in_top k)) (FromBad text parts) (long-one (linked parts) (scale_of text parts))
       (one-asked BadConnection (place_in (first_bad parts)) (FromRecursion text parts)
       (one-sought ModelRecursion (Finds (IsRecursive (linked parts))) (title_place text (titles_in parts)) (FromDeep text parts) (one-found (IsRecursive (linked parts)))
       (one-sought TooDeep (Finds (IsTooDeep (linked parts))) (title_place text (titles_in parts)) (FromDriven text parts) (one-found (IsTooDeep (linked parts)))
       (one-asked DrivenBySubckt (place_in (first_driven parts)) (FromUndriven text parts)
       (one-asked Undriven (place_in (first_undriven parts)) (FromLarge text parts)
       (one-sought TooLarge (FindsPast (linked parts) (scale_of text parts)) (λ k. title_place text (titles_in parts) (in_top k)) (IsCycleFault text parts) (past-one (linked parts) (scale_of text parts))
-      one-cycle))))))
+      one-cycle)))))))
 
   module _ (fault : BlifFault) where
     -- where models fit together, the fault is that of a cycle
     cycle-left : IsFit text parts → IsModelsFault text parts fault → IsCycleFault text parts fault
     cycle-left fit is =
-        let bad = rest-asked UnknownModel (place_in (first_unknown parts)) (FromBad text parts) fault (ap place_in fit.known) is in
+        let long = rest-asked UnknownModel (place_in (first_unknown parts)) (FromLong text parts) fault (ap place_in fit.known) is in
+        let bad = rest-sought TooLarge (SeeksLong (linked parts) (scale_of text parts)) (λ k. title_place text (titles_in parts) (in_top k)) (FromBad text parts) fault (long-one (linked parts) (scale_of text parts)) (short-of text parts fit) long in
         let recursion = rest-asked BadConnection (place_in (first_bad parts)) (FromRecursion text parts) fault (ap place_in fit.connected) bad in
         let deep = rest-sought ModelRecursion (Finds (IsRecursive (linked parts))) (title_place text (titles_in parts)) (FromDeep text parts) fault (one-found (IsRecursive (linked parts))) fit.finite recursion in
         let driven = rest-sought TooDeep (Finds (IsTooDeep (linked parts))) (title_place text (titles_in parts)) (FromDriven text parts) fault (one-found (IsTooDeep (linked parts))) fit.shallow deep in
@@ -126,39 +134,45 @@ module _ (text : List ℕ) (parts : Parts) where
         rest-sought TooLarge (FindsPast (linked parts) (scale_of text parts)) (λ k. title_place text (titles_in parts) (in_top k)) (IsCycleFault text parts) fault (past-one (linked parts) (scale_of text parts)) fit.few large
 
     -- rules that find nothing
-    pub after-known : first_unknown parts ≡ None → FromBad text parts fault → IsModelsFault text parts fault
-    after-known known rest = then-asked UnknownModel (place_in (first_unknown parts)) (FromBad text parts) fault (ap place_in known) rest
+    pub after-known : first_unknown parts ≡ None → FromLong text parts fault → IsModelsFault text parts fault
+    after-known known rest = then-asked UnknownModel (place_in (first_unknown parts)) (FromLong text parts) fault (ap place_in known) rest
 
-    pub after-connected : first_unknown parts ≡ None → first_bad parts ≡ None → FromRecursion text parts fault → IsModelsFault text parts fault
-    after-connected known connected rest =
-        after-known known (then-asked BadConnection (place_in (first_bad parts)) (FromRecursion text parts) fault (ap place_in connected) rest)
+    module _ (known : first_unknown parts ≡ None) (short : SeeksLong (linked parts) (scale_of text parts) None) where
+      pub after-short : FromBad text parts fault → IsModelsFault text parts fault
+      after-short rest =
+          after-known known
+          (then-sought TooLarge (SeeksLong (linked parts) (scale_of text parts)) (λ k. title_place text (titles_in parts) (in_top k)) (FromBad text parts) fault short rest)
 
-    pub after-finite : first_unknown parts ≡ None → first_bad parts ≡ None → Finds (IsRecursive (linked parts)) None → FromDeep text parts fault → IsModelsFault text parts fault
-    after-finite known connected finite rest =
-        after-connected known connected
-        (then-sought ModelRecursion (Finds (IsRecursive (linked parts))) (title_place text (titles_in parts)) (FromDeep text parts) fault finite rest)
+      pub after-connected : first_bad parts ≡ None → FromRecursion text parts fault → IsModelsFault text parts fault
+      after-connected connected rest =
+          after-short (then-asked BadConnection (place_in (first_bad parts)) (FromRecursion text parts) fault (ap place_in connected) rest)
 
-    pub after-shallow : first_unknown parts ≡ None → first_bad parts ≡ None → Finds (IsRecursive (linked parts)) None → Finds (IsTooDeep (linked parts)) None
-        → FromDriven text parts fault → IsModelsFault text parts fault
-    after-shallow known connected finite shallow rest =
-        after-finite known connected finite
-        (then-sought TooDeep (Finds (IsTooDeep (linked parts))) (title_place text (titles_in parts)) (FromDriven text parts) fault shallow rest)
+      pub after-finite : first_bad parts ≡ None → Finds (IsRecursive (linked parts)) None → FromDeep text parts fault → IsModelsFault text parts fault
+      after-finite connected finite rest =
+          after-connected connected
+          (then-sought ModelRecursion (Finds (IsRecursive (linked parts))) (title_place text (titles_in parts)) (FromDeep text parts) fault finite rest)
 
-    pub after-apart : first_unknown parts ≡ None → first_bad parts ≡ None → Finds (IsRecursive (linked parts)) None → Finds (IsTooDeep (linked parts)) None
-        → first_driven parts ≡ None → FromUndriven text parts fault → IsModelsFault text parts fault
-    after-apart known connected finite shallow apart rest =
-        after-shallow known connected finite shallow
-        (then-asked DrivenBySubckt (place_in (first_driven parts)) (FromUndriven text parts) fault (ap place_in apart) rest)
+      pub after-shallow : first_bad parts ≡ None → Finds (IsRecursive (linked parts)) None → Finds (IsTooDeep (linked parts)) None
+          → FromDriven text parts fault → IsModelsFault text parts fault
+      after-shallow connected finite shallow rest =
+          after-finite connected finite
+          (then-sought TooDeep (Finds (IsTooDeep (linked parts))) (title_place text (titles_in parts)) (FromDriven text parts) fault shallow rest)
 
-    pub after-driven : first_unknown parts ≡ None → first_bad parts ≡ None → Finds (IsRecursive (linked parts)) None → Finds (IsTooDeep (linked parts)) None
-        → first_driven parts ≡ None → first_undriven parts ≡ None → FromLarge text parts fault → IsModelsFault text parts fault
-    after-driven known connected finite shallow apart driven rest =
-        after-apart known connected finite shallow apart
-        (then-asked Undriven (place_in (first_undriven parts)) (FromLarge text parts) fault (ap place_in driven) rest)
+      pub after-apart : first_bad parts ≡ None → Finds (IsRecursive (linked parts)) None → Finds (IsTooDeep (linked parts)) None
+          → first_driven parts ≡ None → FromUndriven text parts fault → IsModelsFault text parts fault
+      after-apart connected finite shallow apart rest =
+          after-shallow connected finite shallow
+          (then-asked DrivenBySubckt (place_in (first_driven parts)) (FromUndriven text parts) fault (ap place_in apart) rest)
+
+      pub after-driven : first_bad parts ≡ None → Finds (IsRecursive (linked parts)) None → Finds (IsTooDeep (linked parts)) None
+          → first_driven parts ≡ None → first_undriven parts ≡ None → FromLarge text parts fault → IsModelsFault text parts fault
+      after-driven connected finite shallow apart driven rest =
+          after-apart connected finite shallow apart
+          (then-asked Undriven (place_in (first_undriven parts)) (FromLarge text parts) fault (ap place_in driven) rest)
 
     pub after-fit : IsFit text parts → IsCycleFault text parts fault → IsModelsFault text parts fault
     after-fit fit rest =
-        after-driven fit.known fit.connected fit.finite fit.shallow fit.apart fit.driven
+        after-driven fit.known (short-of text parts fit) fit.connected fit.finite fit.shallow fit.apart fit.driven
         (then-sought TooLarge (FindsPast (linked parts) (scale_of text parts)) (λ k. title_place text (titles_in parts) (in_top k)) (IsCycleFault text parts) fault fit.few rest)
 
 abbrev Some-reading : List ℕ → Type 0

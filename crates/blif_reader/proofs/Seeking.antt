@@ -13,13 +13,40 @@ use Rattle.blif_hierarchy.specs.Depth.{depth_of, IsTooDeep}
 use Rattle.blif_hierarchy.specs.First.{Finds}
 use Rattle.blif_hierarchy.specs.Order.{model_graph, IsRecursive}
 use Rattle.blif_hierarchy.specs.declared.cost.Scale.{Scale}
-use Rattle.blif_hierarchy.specs.Sums.{FindsPast, instances_with, IsPast, placements_of, signals_with, size_with}
+use Rattle.blif_hierarchy.specs.Sums.{bytes_with, FindsLong, FindsPast, FindsWith, instances_with, IsLong, IsPast, placements_of, signals_with, size_with}
+use Rattle.blif_flat.specs.Flat.{Models}
+use Rattle.blif_reader.specs.Faults.{AreFinite, SeeksLong}
 use Rattle.blif_reader.proofs.Asking.{some-found}
 
 get-below : {X : Type 0} (xs : List X) (i : ℕ) (x : X) → slice_get xs i ≡ Some x → i < length xs
 get-below [] i x is = absurd (none-some x is)
 get-below (y ∷ xs) zero x is = omega arith
 get-below (y ∷ xs) (suc i) x is = omega (arith, get-below xs i x is)
+
+-- of so many placements of the top there is one first at the most of which something is so
+with-one : (Holds : ℕ → Type 0) (count : ℕ) (a b : Option ℕ) → FindsWith count Holds a → FindsWith count Holds b → a ≡ b
+with-one Holds count None None first second = refl
+with-one Holds count None (Some k) first second = absurd (first k second.there second.past)
+with-one Holds count (Some k) None first second = absurd (second k first.there first.past)
+with-one Holds count (Some k) (Some j) first second =
+    ⊎_elim (λ below. absurd (second.first k below first.past))
+    (λ upper. ⊎_elim (λ below. absurd (first.first j below second.past)) (λ lower. ap Some (let same : k ≡ j = omega arith in same)) (cases_lt j k))
+    (cases_lt k j)
+
+-- and where it is decided of each, there is one, or none
+module _ (Holds : ℕ → Type 0) (decided : (k : ℕ) → Decided (Holds k)) where
+  first_with : (count : ℕ) → ((k : ℕ) → k < count → Holds k → ⊥) ⊎ ((k : ℕ) × (k < count) × Holds k × ((j : ℕ) → j < k → Holds j → ⊥))
+  first_with zero = inl (λ k lt is. omega arith)
+  first_with (suc count) =
+      ⊎_elim
+      (λ none. ⊎_elim (λ here. inr (count, omega arith, here, none))
+      (λ not_here. inl (λ k lt is. ⊎_elim (λ below. none k below is)
+      (λ after. let last : k ≡ count = omega arith in not_here (subst Holds last is)) (cases_lt k count)))
+      (decided count))
+      (λ found. inr (found.0, omega (arith, found.1), found.2, found.3)) (first_with count)
+
+  with-some : (count : ℕ) → (found : Option ℕ) × FindsWith count Holds found
+  with-some count = ⊎_elim (λ none. (None, none)) (λ found. (Some found.0, record { there = found.1; past = found.2; first = found.3 })) (first_with count)
 
 module _ {Line : Type 0} (models : List (Model Line)) where
   -- a placement is there, or not
@@ -89,27 +116,43 @@ module _ {Line : Type 0} (models : List (Model Line)) where
       (cases_lt scale.count (instances_with models (suc k))))
       (cases_lt scale.count (signals_with models (suc k)))
 
-  first_past : (scale : Scale) (count : ℕ) → ((k : ℕ) → k < count → IsPast models scale k → ⊥)
-      ⊎ ((k : ℕ) × (k < count) × IsPast models scale k × ((j : ℕ) → j < k → IsPast models scale j → ⊥))
-  first_past scale zero = inl (λ k lt is. omega arith)
-  first_past scale (suc count) =
-      ⊎_elim
-      (λ none. ⊎_elim (λ here. inr (count, omega arith, here, none))
-      (λ not_here. inl (λ k lt is. ⊎_elim (λ below. none k below is)
-      (λ after. let last : k ≡ count = omega arith in not_here (subst (IsPast models scale) last is)) (cases_lt k count)))
-      (past scale count))
-      (λ found. inr (found.0, omega (arith, found.1), found.2, found.3)) (first_past scale count)
-
   pub past-some : (scale : Scale) → (found : Option ℕ) × FindsPast models scale found
-  past-some scale =
-      ⊎_elim (λ none. (None, none)) (λ found. (Some found.0, record { there = found.1; past = found.2; first = found.3 }))
-      (first_past scale (length (placements_of models 0)))
+  past-some scale = with-some (IsPast models scale) (past scale) (length (placements_of models 0))
 
   pub past-one : (scale : Scale) (a b : Option ℕ) → FindsPast models scale a → FindsPast models scale b → a ≡ b
-  past-one scale None None first second = refl
-  past-one scale None (Some k) first second = absurd (first k second.there second.past)
-  past-one scale (Some k) None first second = absurd (second k first.there first.past)
-  past-one scale (Some k) (Some j) first second =
-      ⊎_elim (λ below. absurd (second.first k below first.past))
-      (λ upper. ⊎_elim (λ below. absurd (first.first j below second.past)) (λ lower. ap Some (let same : k ≡ j = omega arith in same)) (cases_lt j k))
-      (cases_lt k j)
+  past-one scale a b first second = with-one (IsPast models scale) (length (placements_of models 0)) a b first second
+
+  -- and that with which lines alone are too long
+  long : (scale : Scale) (k : ℕ) → Decided (IsLong models scale k)
+  long scale k = ⊎_elim (λ more. inl more) (λ few. inr (λ is. omega (arith, few, is))) (cases_lt scale.size (bytes_with models scale.starts (suc k)))
+
+  found-long : (scale : Scale) → (found : Option ℕ) × FindsLong models scale found
+  found-long scale = with-some (IsLong models scale) (long scale) (length (placements_of models 0))
+
+none_found : (Holds : ℕ → ℕ → Type 0) (found : Option PlacementAt) → Finds Holds found → Decided (Finds Holds None)
+none_found Holds None finds = inl finds
+none_found Holds (Some at) finds = inr (λ none. none at.model at.placement finds.holds)
+
+module _ (models : Models) where
+  -- models contain themselves or are too deep, or they do not and are not
+  finite : Decided (AreFinite models)
+  finite =
+      ⊎_elim
+      (λ never. ⊎_elim (λ low. inl (record { finite = never; shallow = low })) (λ deep. inr (λ are. deep are.shallow))
+      (none_found (IsTooDeep models) (deep-some models).0 (deep-some models).1))
+      (λ back. inr (λ are. back are.finite))
+      (none_found (IsRecursive models) (recursive-some models).0 (recursive-some models).1)
+
+  -- the first placement of the top with which lines are too long, where they do not
+  pub long-some : (scale : Scale) → (found : Option ℕ) × SeeksLong models scale found
+  long-some scale = ⊎_elim (λ are. by_found (found-long models scale).0 (found-long models scale).1 are) (λ not. (None, λ are. absurd (not are))) finite
+    where
+      by_found : (found : Option ℕ) → FindsLong models scale found → AreFinite models → (found : Option ℕ) × SeeksLong models scale found
+      by_found None finds are = (None, λ again. finds)
+      by_found (Some k) finds are = (Some k, (are, finds))
+
+  pub long-one : (scale : Scale) (a b : Option ℕ) → SeeksLong models scale a → SeeksLong models scale b → a ≡ b
+  long-one scale None None first second = refl
+  long-one scale None (Some k) first second = absurd (first second.0 k second.1.there second.1.past)
+  long-one scale (Some k) None first second = absurd (second first.0 k first.1.there first.1.past)
+  long-one scale (Some k) (Some j) first second = with-one (IsLong models scale) (length (placements_of models 0)) (Some k) (Some j) first.1 second.1

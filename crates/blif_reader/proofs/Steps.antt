@@ -19,7 +19,7 @@ use Rattle.blif_hierarchy.specs.Depth.{IsTooDeep}
 use Rattle.blif_hierarchy.specs.First.{Finds, IsClosed}
 use Rattle.blif_hierarchy.specs.Order.{IsRecursive}
 use Rattle.blif_hierarchy.specs.declared.cost.Scale.{Scale}
-use Rattle.blif_hierarchy.specs.Sums.{AreInForm, FindsPast, FitsWords}
+use Rattle.blif_hierarchy.specs.Sums.{AreInForm, FindsLong, FindsPast, FitsWords}
 use Rattle.blif_flat.specs.Flat.{Models, flat_design, flat_outputs, AreSound}
 use Rattle.blif_flat.specs.Inputs.{design_in}
 use Rattle.blif_flat.specs.Lines.{mentions_of}
@@ -35,19 +35,22 @@ use Rattle.blif_model.specs.Models.{Model}
 use Rattle.blif_model.specs.Rules.{signal_limit}
 use Rattle.blif_model.specs.Scanning.{word_of}
 use Rattle.blif_model.proofs.Held.{models-few}
+use Rattle.blif_linking.specs.Bare.{bare, bare_model}
 use Rattle.blif_linking.specs.Linked.{IsHierarchy, linked, linked_model}
 use Rattle.blif_linking.specs.Names.{Parts, first_bad, first_driven, first_undriven, first_unknown}
 use Rattle.blif_linking.specs.Sizes.{scale_of, start_of, starts_of}
 use Rattle.blif_linking.specs.declared.linking.LinkedModels.{LinkedModels}
+use Rattle.blif_linking.proofs.Bare.{finds-long}
 use Rattle.blif_laws.specs.Plain.{IsPlain}
 use Rattle.blif_laws.proofs.Bounds.{few-signals}
 use Rattle.blif_laws.proofs.Hierarchies.{are-sound, flat-sound, names-are-plain, placements-closed, placements-formed, signals-few, tables-few}
 use Rattle.blif_reader.specs.declared.kept.Kept.{Kept}
-use Rattle.blif_reader.specs.Faults.{FromBad, FromDeep, FromDriven, FromLarge, FromRecursion, FromUndriven, IsCycleFault, in_top, place_in, title_at, title_place, titles_in, titles_of}
-use Rattle.blif_reader.specs.Kept.{IsFlat, IsLinked, line_titles, model_titles, scale_in, span_place, start_at, starts_in, title_span}
+use Rattle.blif_reader.specs.declared.shape.Shape.{Shape}
+use Rattle.blif_reader.specs.Faults.{FromBad, FromDeep, FromDriven, FromLarge, FromLong, FromRecursion, FromUndriven, IsCycleFault, SeeksLong, in_top, place_in, title_at, title_place, titles_in, titles_of}
+use Rattle.blif_reader.specs.Kept.{IsFlat, IsKnown, IsLinked, IsShape, LooksLong, line_titles, model_titles, scale_in, span_place, start_at, starts_in, title_span}
 use Rattle.blif_reader.specs.Meaning.{IsWholeFault}
 use Rattle.blif_reader.proofs.Asking.{here-asked, here-sought}
-use Rattle.blif_reader.proofs.Readings.{IsFit, after-apart, after-connected, after-driven, after-finite, after-fit, after-known, after-shallow, fit-of, hierarchy-of, none-in, tables-of}
+use Rattle.blif_reader.proofs.Readings.{IsFit, after-apart, after-connected, after-driven, after-finite, after-fit, after-known, after-shallow, after-short, fit-of, hierarchy-of, none-in, tables-of}
 
 -- the names of models in `.subckt`s, by spans and by words
 title_is : (whole : List ℕ) (line : PlacementLine) → title_at (placing_in whole line) ≡ (title_span line).at
@@ -111,23 +114,60 @@ module _ (whole : List ℕ) (parts : Parts) (said : models_of whole ≡ Ok parts
       record {
         parts = parts;
         said = said;
-        first = here-asked UnknownModel (place_in (first_unknown parts)) (FromBad whole parts) (place_at whole word.at) (UnknownModel place) first (ap UnknownModel at);
+        first = here-asked UnknownModel (place_in (first_unknown parts)) (FromLong whole parts) (place_at whole word.at) (UnknownModel place) first (ap UnknownModel at);
       }
 
-  pub bad-fault : (found : Option Span) (word : Span) (place : Place) → first_unknown parts ≡ None → option_map (word_of whole) found ≡ first_bad parts → found ≡ Some word
+  pub long-fault : (shape : Shape) (k : ℕ) (place : Place) → first_unknown parts ≡ None → IsShape whole parts shape → shape.long ≡ Some k
+      → place ≡ title_place whole shape.titles (in_top k) → IsWholeFault whole (TooLarge place)
+  long-fault shape k place known is some at =
+      let long : SeeksLong (linked parts) (scale_of whole parts) (Some k) = subst (λ (f : Option ℕ). SeeksLong (linked parts) (scale_of whole parts) f) some is.long_is in
+      let titled : place ≡ title_place whole (titles_in parts) (in_top k) = at ∙ ap (λ (titles : List (List ℕ)). title_place whole titles (in_top k)) is.titles_are in
+      record {
+        parts = parts;
+        said = said;
+        first = after-known whole parts (TooLarge place) known
+            (here-sought TooLarge (SeeksLong (linked parts) (scale_of whole parts)) (λ n. title_place whole (titles_in parts) (in_top n)) (FromBad whole parts) k (TooLarge place)
+            long (ap TooLarge titled));
+      }
+
+  pub short-shape : (shape : Shape) → IsShape whole parts shape → shape.long ≡ None → SeeksLong (linked parts) (scale_of whole parts) None
+  short-shape shape is none = subst (λ (f : Option ℕ). SeeksLong (linked parts) (scale_of whole parts) f) none is.long_is
+
+  pub bad-fault : (found : Option Span) (word : Span) (place : Place) → first_unknown parts ≡ None → SeeksLong (linked parts) (scale_of whole parts) None → option_map (word_of whole) found ≡ first_bad parts → found ≡ Some word
       → place ≡ place_at whole word.at → IsWholeFault whole (BadConnection place)
-  bad-fault found word place known same is at =
+  bad-fault found word place known short same is at =
       let first : place_in (first_bad parts) ≡ Some (place_at whole word.at) =
       ap place_in (sym same) ∙ ap (λ (f : Option Span). place_in (option_map (word_of whole) f)) is in
       record {
         parts = parts;
         said = said;
-        first = after-known whole parts (BadConnection place) known
+        first = after-short whole parts (BadConnection place) known short
             (here-asked BadConnection (place_in (first_bad parts)) (FromRecursion whole parts) (place_at whole word.at) (BadConnection place) first (ap BadConnection at));
       }
 
 pub none-found : (whole : List ℕ) (found : Option Span) (first : Option PlacedToken) → option_map (word_of whole) found ≡ first → found ≡ None → first ≡ None
 none-found whole found first same none = sym same ∙ ap (λ (f : Option Span). option_map (word_of whole) f) none
+
+-- by the outline of models
+module _ (whole : List ℕ) (text : FileText) (known : IsKnown whole text) (models : Models) (is : models ≡ bare (linked known.parts)) where
+  pub outline-few : length whole ≤ file_limit → length models < 2 ^ 32
+  outline-few room =
+      let parts : Parts = known.parts in
+      let same = ap length is in
+      let bared = length-map (linked parts) bare_model in
+      let size = length-map parts (linked_model parts) in
+      let few = models-few whole parts known.read.0 in
+      omega (arith, same, bared, size, few, room)
+
+pub looked-long : (models : Models) (scale : Scale) (recursive deep : Option PlacementAt) (found : Option ℕ) → Finds (IsRecursive models) recursive → Finds (IsTooDeep models) deep
+    → LooksLong (bare models) scale recursive deep found → SeeksLong models scale found
+looked-long models scale None None found never low looks = by_found found (finds-long models scale found looks)
+  where
+    by_found : (found : Option ℕ) → FindsLong models scale found → SeeksLong models scale found
+    by_found None finds = λ are. finds
+    by_found (Some k) finds = (record { finite = never; shallow = low }, finds)
+looked-long models scale None (Some at) found never far looks = subst (λ (f : Option ℕ). SeeksLong models scale f) (sym looks) (λ are. absurd (are.shallow at.model at.placement far.holds))
+looked-long models scale (Some at) deep found back far looks = subst (λ (f : Option ℕ). SeeksLong models scale f) (sym looks) (λ are. absurd (are.finite at.model at.placement back.holds))
 
 -- of linked models
 module _ (whole : List ℕ) (all : LinkedModels) (kept : Kept) (is : IsLinked whole all kept) where
@@ -137,59 +177,45 @@ module _ (whole : List ℕ) (all : LinkedModels) (kept : Kept) (is : IsLinked wh
   pub linked-form : AreInForm all.models
   linked-form = subst AreInForm (sym is.models_are) (placements-formed is.parts is.known is.connected)
 
-  pub linked-few : length whole ≤ file_limit → length all.models < 2 ^ 32
-  linked-few room =
-      let same = ap length is.models_are in
-      let size = length-map is.parts (linked_model is.parts) in
-      let few = models-few whole is.parts is.said in
-      omega (arith, same, size, few, room)
+  titled : (at : PlacementAt) (place : Place) → place ≡ title_place whole kept.shape.titles at → place ≡ title_place whole (titles_in is.parts) at
+  titled at place same = same ∙ ap (λ (titles : List (List ℕ)). title_place whole titles at) is.keeps.shape_is.titles_are
 
-  titled : (at : PlacementAt) (place : Place) → place ≡ title_place whole kept.titles at → place ≡ title_place whole (titles_in is.parts) at
-  titled at place same = same ∙ ap (λ (titles : List (List ℕ)). title_place whole titles at) is.keeps.titles_are
-
-  recursion_of : (found : Option PlacementAt) → Finds (IsRecursive all.models) found → Finds (IsRecursive (linked is.parts)) found
-  recursion_of found finds = subst (λ (ms : Models). Finds (IsRecursive ms) found) is.models_are finds
-
-  depth_of : (found : Option PlacementAt) → Finds (IsTooDeep all.models) found → Finds (IsTooDeep (linked is.parts)) found
-  depth_of found finds = subst (λ (ms : Models). Finds (IsTooDeep ms) found) is.models_are finds
-
-  past_of : (found : Option ℕ) → FindsPast all.models kept.scale found → FindsPast (linked is.parts) (scale_of whole is.parts) found
+  past_of : (found : Option ℕ) → FindsPast all.models kept.shape.scale found → FindsPast (linked is.parts) (scale_of whole is.parts) found
   past_of found finds =
-      subst (λ (scale : Scale). FindsPast (linked is.parts) scale found) is.keeps.scale_is
-      (subst (λ (ms : Models). FindsPast ms kept.scale found) is.models_are finds)
+      subst (λ (scale : Scale). FindsPast (linked is.parts) scale found) is.keeps.shape_is.scale_is
+      (subst (λ (ms : Models). FindsPast ms kept.shape.scale found) is.models_are finds)
 
-  pub linked-words : FitsWords kept.scale
-  linked-words = subst FitsWords (sym is.keeps.scale_is) (omega arith, omega arith)
+  pub linked-words : FitsWords kept.shape.scale
+  linked-words = subst FitsWords (sym is.keeps.shape_is.scale_is) (omega arith, omega arith)
 
-  pub recursion-fault : (found : Option PlacementAt) (at : PlacementAt) (place : Place) → Finds (IsRecursive all.models) found → found ≡ Some at
-      → place ≡ title_place whole kept.titles at → IsWholeFault whole (ModelRecursion place)
-  recursion-fault found at place finds some same = record {
+  pub recursion-fault : (at : PlacementAt) (place : Place) → kept.shape.recursive ≡ Some at → place ≡ title_place whole kept.shape.titles at
+      → IsWholeFault whole (ModelRecursion place)
+  recursion-fault at place some same = record {
     parts = is.parts;
     said = is.said;
-    first = after-connected whole is.parts (ModelRecursion place) is.known is.connected
+    first = after-connected whole is.parts (ModelRecursion place) is.known is.short is.connected
         (here-sought ModelRecursion (Finds (IsRecursive (linked is.parts))) (title_place whole (titles_in is.parts)) (FromDeep whole is.parts) at (ModelRecursion place)
-        (recursion_of (Some at) (subst (λ (f : Option PlacementAt). Finds (IsRecursive all.models) f) some finds)) (ap ModelRecursion (titled at place same)));
+        (subst (λ (f : Option PlacementAt). Finds (IsRecursive (linked is.parts)) f) some is.keeps.shape_is.recursive_is) (ap ModelRecursion (titled at place same)));
   }
 
   -- nothing contains itself
-  module _ (back : Option PlacementAt) (sought : Finds (IsRecursive all.models) back) (finite : back ≡ None) where
+  module _ (finite : kept.shape.recursive ≡ None) where
     never : Finds (IsRecursive (linked is.parts)) None
-    never = recursion_of None (subst (λ (f : Option PlacementAt). Finds (IsRecursive all.models) f) finite sought)
+    never = subst (λ (f : Option PlacementAt). Finds (IsRecursive (linked is.parts)) f) finite is.keeps.shape_is.recursive_is
 
-    pub deep-fault : (found : Option PlacementAt) (at : PlacementAt) (place : Place) → Finds (IsTooDeep all.models) found → found ≡ Some at
-        → place ≡ title_place whole kept.titles at → IsWholeFault whole (TooDeep place)
-    deep-fault found at place finds some same = record {
+    pub deep-fault : (at : PlacementAt) (place : Place) → kept.shape.deep ≡ Some at → place ≡ title_place whole kept.shape.titles at → IsWholeFault whole (TooDeep place)
+    deep-fault at place some same = record {
       parts = is.parts;
       said = is.said;
-      first = after-finite whole is.parts (TooDeep place) is.known is.connected never
+      first = after-finite whole is.parts (TooDeep place) is.known is.short is.connected never
           (here-sought TooDeep (Finds (IsTooDeep (linked is.parts))) (title_place whole (titles_in is.parts)) (FromDriven whole is.parts) at (TooDeep place)
-          (depth_of (Some at) (subst (λ (f : Option PlacementAt). Finds (IsTooDeep all.models) f) some finds)) (ap TooDeep (titled at place same)));
+          (subst (λ (f : Option PlacementAt). Finds (IsTooDeep (linked is.parts)) f) some is.keeps.shape_is.deep_is) (ap TooDeep (titled at place same)));
     }
 
     -- and nothing is too deep
-    module _ (far : Option PlacementAt) (looked : Finds (IsTooDeep all.models) far) (shallow : far ≡ None) where
+    module _ (shallow : kept.shape.deep ≡ None) where
       low : Finds (IsTooDeep (linked is.parts)) None
-      low = depth_of None (subst (λ (f : Option PlacementAt). Finds (IsTooDeep all.models) f) shallow looked)
+      low = subst (λ (f : Option PlacementAt). Finds (IsTooDeep (linked is.parts)) f) shallow is.keeps.shape_is.deep_is
 
       pub driven-fault : (word : Span) (place : Place) → kept.driven ≡ Some word → place ≡ place_at whole word.at → IsWholeFault whole (DrivenBySubckt place)
       driven-fault word place some same =
@@ -197,7 +223,7 @@ module _ (whole : List ℕ) (all : LinkedModels) (kept : Kept) (is : IsLinked wh
           record {
             parts = is.parts;
             said = is.said;
-            first = after-shallow whole is.parts (DrivenBySubckt place) is.known is.connected never low
+            first = after-shallow whole is.parts (DrivenBySubckt place) is.known is.short is.connected never low
                 (here-asked DrivenBySubckt (place_in (first_driven is.parts)) (FromUndriven whole is.parts) (place_at whole word.at) (DrivenBySubckt place) first (ap DrivenBySubckt same));
           }
 
@@ -212,7 +238,7 @@ module _ (whole : List ℕ) (all : LinkedModels) (kept : Kept) (is : IsLinked wh
             record {
               parts = is.parts;
               said = is.said;
-              first = after-apart whole is.parts (Undriven place) is.known is.connected never low single
+              first = after-apart whole is.parts (Undriven place) is.known is.short is.connected never low single
                   (here-asked Undriven (place_in (first_undriven is.parts)) (FromLarge whole is.parts) (place_at whole word.at) (Undriven place) first (ap Undriven same));
             }
 
@@ -221,18 +247,18 @@ module _ (whole : List ℕ) (all : LinkedModels) (kept : Kept) (is : IsLinked wh
           each : first_undriven is.parts ≡ None
           each = none-in (first_undriven is.parts) (sym is.keeps.undriven_is ∙ ap (span_place whole) driven)
 
-          pub large-fault : (found : Option ℕ) (k : ℕ) (place : Place) → FindsPast all.models kept.scale found → found ≡ Some k
-              → place ≡ title_place whole kept.titles (in_top k) → IsWholeFault whole (TooLarge place)
+          pub large-fault : (found : Option ℕ) (k : ℕ) (place : Place) → FindsPast all.models kept.shape.scale found → found ≡ Some k
+              → place ≡ title_place whole kept.shape.titles (in_top k) → IsWholeFault whole (TooLarge place)
           large-fault found k place finds some same = record {
             parts = is.parts;
             said = is.said;
-            first = after-driven whole is.parts (TooLarge place) is.known is.connected never low single each
+            first = after-driven whole is.parts (TooLarge place) is.known is.short is.connected never low single each
                 (here-sought TooLarge (FindsPast (linked is.parts) (scale_of whole is.parts)) (λ n. title_place whole (titles_in is.parts) (in_top n)) (IsCycleFault whole is.parts) k (TooLarge place)
-                (past_of (Some k) (subst (λ (f : Option ℕ). FindsPast all.models kept.scale f) some finds)) (ap TooLarge (titled (in_top k) place same)));
+                (past_of (Some k) (subst (λ (f : Option ℕ). FindsPast all.models kept.shape.scale f) some finds)) (ap TooLarge (titled (in_top k) place same)));
           }
 
           -- and the sums are in bounds
-          module _ (large : Option ℕ) (summed : FindsPast all.models kept.scale large) (few : large ≡ None) where
+          module _ (large : Option ℕ) (summed : FindsPast all.models kept.shape.scale large) (few : large ≡ None) where
             fit : IsFit whole is.parts
             fit = record {
               known = is.known;
@@ -241,7 +267,7 @@ module _ (whole : List ℕ) (all : LinkedModels) (kept : Kept) (is : IsLinked wh
               shallow = low;
               apart = single;
               driven = each;
-              few = past_of None (subst (λ (f : Option ℕ). FindsPast all.models kept.scale f) few summed);
+              few = past_of None (subst (λ (f : Option ℕ). FindsPast all.models kept.shape.scale f) few summed);
             }
 
             pub fits : IsHierarchy whole all.models all.texts

@@ -12,8 +12,9 @@ use Rattle.blif_hierarchy.specs.declared.place.PlacementAt.{PlacementAt}
 use Rattle.blif_hierarchy.specs.Depth.{IsTooDeep}
 use Rattle.blif_hierarchy.specs.First.{Finds}
 use Rattle.blif_hierarchy.specs.Order.{IsRecursive}
-use Rattle.blif_hierarchy.specs.Sums.{FindsPast}
-use Rattle.blif_flat.specs.Flat.{flat_design, flat_outputs}
+use Rattle.blif_hierarchy.specs.declared.cost.Scale.{Scale}
+use Rattle.blif_hierarchy.specs.Sums.{FindsLong, FindsPast}
+use Rattle.blif_flat.specs.Flat.{Models, flat_design, flat_outputs}
 use Rattle.blif_model.specs.declared.fault.BlifFault.{BlifFault}
 use Rattle.blif_model.specs.declared.fault.BlifFault.TheVariants.{UnknownModel, BadConnection, ModelRecursion, TooDeep, DrivenBySubckt, Undriven, TooLarge, CombinationalCycle}
 use Rattle.blif_model.specs.Files.{Part, Placing}
@@ -95,6 +96,24 @@ FromRecursion text parts =
 abbrev pub FromBad : List ℕ → Parts → BlifFault → Type 0
 FromBad text parts = Asks BadConnection (place_in (first_bad parts)) (FromRecursion text parts)
 
+-- no model contains itself, and none is too deep: sums over placements are of instances that there would be
+pub record AreFinite (models : Models) : Type 0 where
+  pub finite : Finds (IsRecursive models) None
+  pub shallow : Finds (IsTooDeep models) None
+
+-- the first placement of the top with which the lines of all instances are too long, where models are such; where they are
+-- not, there is none
+abbrev pub SeeksLong : Models → Scale → Option ℕ → Type 0
+SeeksLong models scale None = AreFinite models → FindsLong models scale None
+SeeksLong models scale (Some k) = AreFinite models × FindsLong models scale (Some k)
+
+-- TooLarge: the first `.subckt` of the top with which the lines of all instances have more bytes than a file may have. This is
+-- asked before connections are looked at, so that a text whose instances are too long is refused for the work of reading it
+abbrev pub FromLong : List ℕ → Parts → BlifFault → Type 0
+FromLong text parts =
+    IsSought TooLarge (SeeksLong (linked parts) (scale_of text parts)) (λ k. title_place text (titles_in parts) (in_top k))
+    (FromBad text parts)
+
 -- UnknownModel: there is no such model. The first fault of all
 abbrev pub IsModelsFault : List ℕ → Parts → BlifFault → Type 0
-IsModelsFault text parts = Asks UnknownModel (place_in (first_unknown parts)) (FromBad text parts)
+IsModelsFault text parts = Asks UnknownModel (place_in (first_unknown parts)) (FromLong text parts)

@@ -8,18 +8,26 @@ use Rattle.blif_flat.specs.Flat.{flat_design, flat_outputs, Models}
 use Rattle.blif_flat.specs.Inputs.{design_in}
 use Rattle.blif_flat.specs.declared.flat.FlatNetlist.{FlatNetlist}
 use Rattle.blif_hierarchy.specs.declared.cost.Scale.{Scale}
+use Rattle.blif_hierarchy.specs.Depth.{IsTooDeep}
+use Rattle.blif_hierarchy.specs.First.{Finds}
+use Rattle.blif_hierarchy.specs.Order.{IsRecursive}
+use Rattle.blif_hierarchy.specs.Sums.{FindsLong}
+use Rattle.blif_hierarchy.specs.declared.place.PlacementAt.{PlacementAt}
 use Rattle.blif_model.specs.declared.file.FileModel.{FileModel}
+use Rattle.blif_model.specs.declared.file.FileText.{FileText}
 use Rattle.blif_model.specs.declared.file.PlacementLine.{PlacementLine}
 use Rattle.blif_model.specs.declared.pieces.Span.{Span}
 use Rattle.blif_model.specs.Files.{models_of}
 use Rattle.blif_model.specs.Rules.{signal_limit}
 use Rattle.blif_model.specs.Scanning.{word_of}
+use Rattle.blif_linking.specs.Bad.{IsReadAs}
 use Rattle.blif_linking.specs.Linked.{linked, linked_texts, IsHierarchy}
 use Rattle.blif_linking.specs.Names.{Parts, first_bad, first_driven, first_undriven, first_unknown}
 use Rattle.blif_linking.specs.Sizes.{scale_of}
 use Rattle.blif_linking.specs.declared.linking.LinkedModels.{LinkedModels}
 use Rattle.blif_reader.specs.declared.kept.Kept.{Kept}
-use Rattle.blif_reader.specs.Faults.{place_in, titles_in}
+use Rattle.blif_reader.specs.declared.shape.Shape.{Shape}
+use Rattle.blif_reader.specs.Faults.{SeeksLong, place_in, titles_in}
 
 -- the name of the model in a `.subckt`, or the `.subckt` where it has none
 abbrev pub first_span : Span → List Span → Span
@@ -50,18 +58,39 @@ scale_in whole models = record { count = signal_limit; size = file_limit; starts
 abbrev pub span_place : List ℕ → Option Span → Option Place
 span_place whole span = option_map (λ (word : Span). (word_of whole word).place) span
 
+-- a text is held of which no model is missing
+pub record IsKnown (whole : List ℕ) (text : FileText) : Type 0 where
+  pub parts : Parts
+  pub read : IsReadAs whole text parts
+  pub known : first_unknown parts ≡ None
+
+-- how long lines are is asked where none contains itself and none is too deep
+abbrev pub LooksLong : Models → Scale → Option PlacementAt → Option PlacementAt → Option ℕ → Type 0
+LooksLong models scale None None found = FindsLong models scale found
+LooksLong models scale None (Some at) found = found ≡ None
+LooksLong models scale (Some at) deep found = found ≡ None
+
+-- what is known of these models by what they place
+pub record IsShape (whole : List ℕ) (parts : Parts) (shape : Shape) : Type 0 where
+  pub titles_are : shape.titles ≡ titles_in parts
+  pub scale_is : shape.scale ≡ scale_of whole parts
+  pub recursive_is : Finds (IsRecursive (linked parts)) shape.recursive
+  pub deep_is : Finds (IsTooDeep (linked parts)) shape.deep
+  pub long_is : SeeksLong (linked parts) (scale_of whole parts) shape.long
+
 -- what is kept is of these models
 pub record IsKept (whole : List ℕ) (parts : Parts) (kept : Kept) : Type 0 where
-  pub titles_are : kept.titles ≡ titles_in parts
-  pub scale_is : kept.scale ≡ scale_of whole parts
+  pub shape_is : IsShape whole parts kept.shape
   pub driven_is : span_place whole kept.driven ≡ place_in (first_driven parts)
   pub undriven_is : span_place whole kept.undriven ≡ place_in (first_undriven parts)
 
--- models of a text by numbers, of which none is missing, and whose connections are in form
+-- models of a text by numbers, of which none is missing, whose lines are not too long together, and whose connections are
+-- in form
 pub record IsLinked (whole : List ℕ) (all : LinkedModels) (kept : Kept) : Type 0 where
   pub parts : Parts
   pub said : models_of whole ≡ Ok parts
   pub known : first_unknown parts ≡ None
+  pub short : SeeksLong (linked parts) (scale_of whole parts) None
   pub connected : first_bad parts ≡ None
   pub models_are : all.models ≡ linked parts
   pub texts_are : all.texts ≡ linked_texts parts

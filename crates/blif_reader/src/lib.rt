@@ -8,6 +8,7 @@ mod laws;
 mod models;
 mod places;
 mod reading;
+mod shape;
 
 pub use blif_model::BlifFault;
 pub use laws::{hierarchy_law, one_reading_law};

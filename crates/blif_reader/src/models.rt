@@ -11,8 +11,9 @@ ghost use Rattle.blif_reader.specs.Told.{IsReadFault};
 use crate::flat::netlist_of;
 use crate::kept::Kept;
 use crate::places::place_at;
+use crate::shape::Shape;
 use blif_flat::flat_netlist;
-use blif_hierarchy::{PlacementAt, first_recursive, first_too_deep, first_too_large};
+use blif_hierarchy::first_too_large;
 use blif_linking::{LinkedModels, first_bad, first_unknown, interfaces_of, link};
 use blif_model::{BlifFault, FileText};
 use netlist::Netlist;
@@ -35,11 +36,15 @@ pub(crate) fn netlist_of_models<'a>(
     if let Some(word) = first_unknown(bytes, &text) {
         return Err(BlifFault::UnknownModel(place_at(bytes, word.at)));
     }
+    let shape = Shape::of(alloc, bytes, &text)?;
+    if let Some(placement) = shape.long {
+        return Err(BlifFault::TooLarge(shape.top_place(bytes, placement)));
+    }
     let interfaces = interfaces_of(alloc, bytes, text.models.as_slice())?;
     if let Some(word) = first_bad(alloc, bytes, &text, &interfaces)? {
         return Err(BlifFault::BadConnection(place_at(bytes, word.at)));
     }
-    let kept = Kept::of(alloc, bytes, &text, &interfaces)?;
+    let kept = Kept::of(alloc, bytes, &text, &interfaces, shape)?;
     let all = link(alloc, bytes, text, &interfaces)?;
     netlist_of_linked(alloc, bytes, &all, &kept)
 }
@@ -58,11 +63,11 @@ fn netlist_of_linked(
     ensures plain { IfOk result (λ netlist. All IsPlain netlist.names) }
     ensures err { IfErr result (λ fault. IsReadFault bytes.now fault) }
 {
-    if let Some(found) = first_recursive(alloc, &all.models)? {
-        return Err(BlifFault::ModelRecursion(kept.title_place(bytes, found)));
+    if let Some(found) = kept.shape.recursive {
+        return Err(BlifFault::ModelRecursion(kept.shape.title_place(bytes, found)));
     }
-    if let Some(found) = first_too_deep(alloc, &all.models)? {
-        return Err(BlifFault::TooDeep(kept.title_place(bytes, found)));
+    if let Some(found) = kept.shape.deep {
+        return Err(BlifFault::TooDeep(kept.shape.title_place(bytes, found)));
     }
     if let Some(word) = kept.driven {
         return Err(BlifFault::DrivenBySubckt(place_at(bytes, word.at)));
@@ -70,12 +75,8 @@ fn netlist_of_linked(
     if let Some(word) = kept.undriven {
         return Err(BlifFault::Undriven(place_at(bytes, word.at)));
     }
-    if let Some(placement) = first_too_large(alloc, &all.models, &kept.scale)? {
-        let found = PlacementAt {
-            model: 0,
-            placement,
-        };
-        return Err(BlifFault::TooLarge(kept.title_place(bytes, found)));
+    if let Some(placement) = first_too_large(alloc, &all.models, &kept.shape.scale)? {
+        return Err(BlifFault::TooLarge(kept.shape.top_place(bytes, placement)));
     }
     let flat = flat_netlist(alloc, &all.models, &all.texts)?;
     netlist_of(alloc, bytes, flat)
