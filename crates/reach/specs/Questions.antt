@@ -29,6 +29,6 @@ IsTold joined steps query (Refuted log count) = IsRefuted joined steps query log
 -- what a search ends in at a query, with its evidence
 abbrev pub IsStop : Joined → ℕ → Stop → Type 0
 IsStop joined steps stops.NoMemory = Unit {0}
-IsStop joined steps (stops.Spent query log) = AreSpent joined steps query log
-IsStop joined steps (stops.LogFull query log) = IsLogFull joined steps query log
-IsStop joined steps (stops.Large query) = IsLarge joined query
+IsStop joined steps (stops.Spent query log) = AreSpent joined steps query.value log.value
+IsStop joined steps (stops.LogFull query log) = IsLogFull joined steps query.value log.value
+IsStop joined steps (stops.Large query) = IsLarge joined query.value

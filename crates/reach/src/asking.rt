@@ -8,7 +8,7 @@ use crate::question::Question;
 use cdcl::{Answer, solve};
 use clauses::{CnfFault, Log};
 use joint::Joint;
-use psl_base::{Bits, NoMemory};
+use psl_base::{Bits, NoMemory, boxed};
 use reach_frames::Stop;
 use std::alloc::Global;
 
@@ -39,14 +39,22 @@ pub(crate) fn ask(
     let formula = match question.formula(alloc, joint) {
         Ok(formula) => formula,
         Err(CnfFault::NoMemory) => return Err(Stop::NoMemory),
-        Err(CnfFault::TooLarge) => return Err(Stop::Large(question.query(alloc)?)),
+        Err(CnfFault::TooLarge) => {
+            return Err(Stop::Large(boxed(alloc, question.query(alloc)?)?));
+        }
     };
     let _words = formula.clauses.words();
     match solve(alloc, &formula, steps)? {
         Answer::Model(values) => Ok(Told::Model(values)),
         Answer::Refuted(log) => Ok(Told::Refuted(log, formula.clauses.len())),
-        Answer::Spent(log) => Err(Stop::Spent(question.query(alloc)?, log)),
-        Answer::LogFull(log) => Err(Stop::LogFull(question.query(alloc)?, log)),
+        Answer::Spent(log) => {
+            let query = boxed(alloc, question.query(alloc)?)?;
+            Err(Stop::Spent(query, boxed(alloc, log)?))
+        }
+        Answer::LogFull(log) => {
+            let query = boxed(alloc, question.query(alloc)?)?;
+            Err(Stop::LogFull(query, boxed(alloc, log)?))
+        }
     }
 }
 

@@ -213,6 +213,7 @@ impl Machine for JointMachine<'_> {
         }
     }
 
+    #[inline(never)]
     fn lifted(&self, alloc: Global, entry: &Entry, cube: &[i32]) -> Result<Bits, NoMemory> {
         match lifted_mask(alloc, self.joint, &self.order, entry, cube)? {
             Some(mask) => Ok(mask),

@@ -131,8 +131,11 @@ fn end_of(stop: Stop) -> Result<Reached, NoMemory>
 {
     match stop {
         Stop::NoMemory => Err(NoMemory),
-        Stop::Spent(query, log) => Ok(Reached::Spent(query, log)),
-        Stop::LogFull(query, log) => Ok(Reached::LogFull(query, log)),
-        Stop::Large(query) => Ok(Reached::Large(query)),
+        Stop::Spent(query, log) => Ok(Reached::Spent(Box::into_inner(query), Box::into_inner(log))),
+        Stop::LogFull(query, log) => Ok(Reached::LogFull(
+            Box::into_inner(query),
+            Box::into_inner(log),
+        )),
+        Stop::Large(query) => Ok(Reached::Large(Box::into_inner(query))),
     }
 }

@@ -28,6 +28,7 @@ struct Learned {
 }
 
 /// Keeps a cube out of a frame: adds the clause of a part of it, as far forward as it holds.
+#[inline(never)]
 pub(crate) fn learn<M: Machine>(
     alloc: Global,
     machine: &M,

@@ -20,6 +20,7 @@ pub(crate) fn path_of(alloc: Global, state: Bits) -> Result<Path, NoMemory>
 }
 
 /// A path of two states.
+#[inline(never)]
 pub(crate) fn path_along(alloc: Global, entry: Entry) -> Result<Path, NoMemory>
     ensures { IfOk result (λ path. path ≡ entry.before ∷ entry.after ∷ []) }
 {
@@ -39,6 +40,7 @@ fn last_of(path: &Path) -> &Bits
 
 /// Leads a path on into a cube: as it is, where its last state is there, or by one state more. Nothing is said where
 /// neither is found.
+#[inline(never)]
 pub(crate) fn led_into<M: Machine>(
     alloc: Global,
     machine: &M,

@@ -16,17 +16,18 @@ pub enum ReachQuery {
     Relative(Clauses, bool, Items<i32>),
 }
 
-/// Why a search stops before it is done.
+/// Why a search stops before it is done. What it carries is in boxes: every call of a deep recursion has room on the stack
+/// for a stop that it may hand on.
 #[derive(Debug, Drop)]
 pub enum Stop {
     /// The allocator refused memory.
     NoMemory,
     /// The steps of the solver are spent.
-    Spent(ReachQuery, Log),
+    Spent(Box<ReachQuery>, Box<Log>),
     /// The log of the solver is full.
-    LogFull(ReachQuery, Log),
+    LogFull(Box<ReachQuery>, Box<Log>),
     /// The formula would be too large.
-    Large(ReachQuery),
+    Large(Box<ReachQuery>),
 }
 
 impl From<NoMemory> for Stop {
