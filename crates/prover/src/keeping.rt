@@ -3,7 +3,7 @@ ghost use Rattle.std.specs.Prelude.{◌≡◌, ◌-◌, ◌<◌, ◌≤◌, suc,
 ghost use Rattle.prover.specs.Claims.{IsReady};
 ghost use Rattle.prover.specs.Kept.{AreKeptFor, IsAhead, IsKeptFor, keeps_at};
 ghost use Rattle.prover.specs.Stops.{IsLookedAtFor, IsStopOf};
-ghost use Rattle.prover.specs.Views.{IsJointOf};
+ghost use Rattle.prover.specs.Views.{IsJointOf, IsPathAt};
 ghost use Rattle.prover_bmc.specs.Chains.{IsLikely};
 
 use crate::context::Prover;
@@ -116,8 +116,9 @@ impl Prover<'_> {
         self.keep_at(alloc, visits, window)
     }
 
-    // A path of the induction that is open at the window, counted for no visit, as one is likely to be: it is told by a
-    // solver whose formula holds of few states, and judged here.
+    // A path that keeps the window open, counted for no visit. One of the induction is likely to be: it is told by a solver
+    // whose formula holds of few states, and judged here. Where larger windows are not told to be open, there may be one of
+    // the initial kind, which is open at all of them.
     fn likely_path(
         self,
         alloc: Global,
@@ -126,22 +127,47 @@ impl Prover<'_> {
     ) -> Result<Option<OpenPath>, NoMemory>
         requires ready { IsReady self }
         requires netlist { opens.old ≡ self.task.netlist.now }
+        requires within { window ≤ self.task.options.depth }
         ensures netlist { opens.new ≡ opens.old }
-        ensures ahead { IfOk result (λ found. IfSome found (IsAhead self.entry.task 0 window)) }
+        ensures path { IfOk result (λ found. IfSome found (IsKeptFor self.entry.task 0 window)) }
     {
+        let depth = self.task.options.depth;
         let steps = self.task.options.steps.min(MOST_CONFLICTS);
         for _again in 0..MOST_ALIKE {
-            match opens.ask(alloc, window, steps)? {
+            match opens.ask(alloc, window, depth, steps)? {
                 Opened::Likely(likely) => {
-                    let judged = self.judged_path(alloc, &likely, window)?;
-                    if judged.is_some() || !opens.part(alloc, &likely)? {
-                        return Ok(judged);
+                    let larger = likely.window();
+                    if larger < window || larger > depth {
+                        return Ok(None);
+                    }
+                    if let Some(path) = self.judged_path(alloc, &likely, larger)? {
+                        return Ok(Some(path));
+                    }
+                    if !opens.part(alloc, &likely)? {
+                        return Ok(None);
+                    }
+                }
+                Opened::Closer => {
+                    if let Some(path) = self.initial_path(alloc, window)? {
+                        return Ok(Some(path));
                     }
                 }
                 Opened::None | Opened::Nothing => return Ok(None),
             }
         }
         Ok(None)
+    }
+
+    // A path of the initial kind that is open at the window, counted for no visit, if few lemmas tell one.
+    fn initial_path(self, alloc: Global, window: u32) -> Result<Option<OpenPath>, NoMemory>
+        requires ready { IsReady self }
+        ensures { IfOk result (λ found. IfSome found (IsPathAt self.entry.task 0 window)) }
+    {
+        match joint(alloc, self.task.netlist, &self.claim.violation, 0) {
+            Ok(joint) => self.peek_first(alloc, &joint, 0, window),
+            Err(CnfFault::TooLarge) => Ok(None),
+            Err(CnfFault::NoMemory) => Err(NoMemory),
+        }
     }
 
     // The path of joint states that are likely to be open at the window, where it is.
@@ -189,7 +215,13 @@ impl Prover<'_> {
             Ok(joint) => joint,
             Err(fault) => return Err(Stop::without(Query::Base(visits, window), fault)),
         };
-        // Without a visit, larger windows were asked for already, and are likely to be closed.
+        // A path of the initial kind is open at each larger window too. Where none is told, larger windows are looked at;
+        // without a visit these were asked for already, and are likely to be closed.
+        if 0 < visits {
+            if let Some(path) = self.peek_first(alloc, &joint, visits, window)? {
+                return Ok(path);
+            }
+        }
         let mut ahead = if visits == 0 {
             window
         } else {
@@ -202,6 +234,36 @@ impl Prover<'_> {
             ahead = window + (ahead - window) / 2;
         }
         self.close_at(alloc, &joint, visits, window)
+    }
+
+    // A path of the initial kind that is open at the window, if few lemmas tell one.
+    fn peek_first(
+        self,
+        alloc: Global,
+        joint: &Joint,
+        visits: u32,
+        window: u32,
+    ) -> Result<Option<OpenPath>, NoMemory>
+        requires ready { IsReady self }
+        requires joint { IsJointOf self.task visits joint.now }
+        ensures { IfOk result (λ found. IfSome found (IsPathAt self.entry.task visits window)) }
+    {
+        let formula = match joint.base(alloc, window) {
+            Ok(formula) => formula,
+            Err(CnfFault::TooLarge) => return Ok(None),
+            Err(CnfFault::NoMemory) => return Err(NoMemory),
+        };
+        match solve(alloc, &formula, self.task.options.steps.min(LEMMAS_AHEAD))? {
+            Answer::Model(values) => {
+                let path = joint.read_path(alloc, window, true, &values)?;
+                Ok(Some(OpenPath {
+                    visits,
+                    initial: true,
+                    path,
+                }))
+            }
+            Answer::Refuted(_) | Answer::Spent(_) | Answer::LogFull(_) => Ok(None),
+        }
     }
 
     // A path of the induction that is open at the window, if few lemmas tell one.

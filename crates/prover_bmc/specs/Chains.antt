@@ -7,6 +7,8 @@ use Rattle.prover_bmc.specs.Plans.{AreDebts, IsFrame}
 use Rattle.prover_bmc.specs.declared.chain.Chain.{Chain}
 use Rattle.prover_bmc.specs.declared.link.Link.{Link}
 use Rattle.prover_bmc.specs.declared.listed.Listed.{Listed}
+use Rattle.prover_bmc.specs.declared.opens.Asking.{Asking}
+use Rattle.prover_bmc.specs.declared.opens.Asking.TheVariants as askings
 use Rattle.prover_bmc.specs.declared.opens.Likely.{Likely}
 use Rattle.prover_bmc.specs.declared.opens.Opened.{Opened}
 use Rattle.prover_bmc.specs.declared.opens.Opened.TheVariants as openeds
@@ -43,5 +45,12 @@ IsLikely design likely = AreChoices design likely.choices
 -- joint states that are told have values of a netlist's latches and inputs
 abbrev pub IsOpened : Design → Opened → Type 0
 IsOpened design (openeds.Likely likely) = IsLikely design likely
+IsOpened design openeds.Closer = Unit {0}
 IsOpened design openeds.None = Unit {0}
 IsOpened design openeds.Nothing = Unit {0}
+
+-- the places that are asked for, if there are any
+abbrev pub IsAsking : Plan → Asking → Type 0
+IsAsking plan (askings.Far chain) = IsChain plan chain
+IsAsking plan (askings.Near chain) = IsChain plan chain
+IsAsking plan askings.Ended = Unit {0}

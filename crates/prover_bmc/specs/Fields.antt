@@ -3,7 +3,7 @@ use Rattle.std.specs.Prelude.{IfSome}
 use Rattle.netlist.specs.Design.{Design}
 use Rattle.prover_bmc.specs.declared.opens.Opens.TheInside as opens
 use Rattle.prover_bmc.specs.declared.prefixes.Prefixes.TheInside.{Inside}
-use Rattle.prover_bmc.specs.Chains.{IsChain}
+use Rattle.prover_bmc.specs.Chains.{IsAsking}
 use Rattle.prover_bmc.specs.Plans.{IsPathOf, IsPlan}
 
 abbrev pub netlist_of : Inside → Design
@@ -16,4 +16,4 @@ abbrev pub design_of : opens.Inside → Design
 design_of opens = opens.plan.netlist.now
 
 abbrev pub IsHeld : opens.Inside → Type 0
-IsHeld opens = IsPlan opens.plan × IfSome opens.chain (IsChain opens.plan)
+IsHeld opens = IsPlan opens.plan × IsAsking opens.plan opens.asking
