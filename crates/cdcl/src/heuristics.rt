@@ -13,6 +13,9 @@ use std::alloc::Global;
 /// How many lemmas there are when the first are dropped.
 const FIRST_DROP: usize = 32;
 
+/// A lemma that was a hint in the last one of so many parts of the search is of use still, however many levels it spans.
+const GRACE: usize = 8;
+
 /// How many lemmas come between two times at which lemmas of a growing formula are dropped.
 const NEXT_DROP: usize = 300;
 
@@ -108,7 +111,7 @@ impl Heuristics {
             return Ok(Vec::new(alloc));
         }
         self.next_drop = lemmas.saturating_add(NEXT_DROP);
-        let mut candidates = self.usage.candidates(alloc, propagator, 0)?;
+        let mut candidates = self.usage.candidates(alloc, propagator, 0, None)?;
         candidates.truncate(candidates.len() / 2);
         Ok(candidates)
     }
@@ -126,6 +129,8 @@ impl Heuristics {
             return Ok(Vec::new(alloc));
         }
         self.next_drop = lemmas.saturating_add(FIRST_DROP + lemmas / 8);
-        self.usage.candidates(alloc, propagator, clauses)
+        let grace = u32::try_from(lemmas / GRACE).unwrap_or(u32::MAX);
+        self.usage
+            .candidates(alloc, propagator, clauses, Some(grace))
     }
 }

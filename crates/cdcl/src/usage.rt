@@ -15,8 +15,11 @@ struct Use {
 /// A lemma that may be dropped. The least useful comes first.
 #[derive(Clone, Copy, PartialEq, Eq, PartialOrd, Ord, Drop)]
 pub struct Candidate {
+    // When it was of use: the smaller, the longer ago.
+    age: u32,
+    // The smaller, the more levels it spans.
+    closeness: u32,
     last: u32,
-    levels: u32,
     /// Its number among the clauses.
     pub number: u32,
 }
@@ -67,12 +70,14 @@ impl Usage {
         Ok(())
     }
 
-    /// The lemmas that might be dropped, the least useful first.
+    /// The lemmas that might be dropped, the least useful first: of those that were no hint in so many lemmas those that
+    /// span the most levels, and then the others in the same order. With no such count those that were a hint the longest ago.
     pub(crate) fn candidates(
         &self,
         alloc: Global,
         propagator: &Propagator,
         clauses: usize,
+        grace: Option<u32>,
     ) -> Result<Vec<Candidate>, NoMemory> {
         let mut candidates = Vec::new(alloc);
         let mut number = u32::try_from(clauses).unwrap_or(u32::MAX);
@@ -80,14 +85,23 @@ impl Usage {
             number = number.saturating_add(1);
             if lemma.levels > 2 && is_long(propagator, number) {
                 candidates.push(Candidate {
+                    age: self.age(lemma.last, grace),
+                    closeness: u32::MAX - lemma.levels,
                     last: lemma.last,
-                    levels: lemma.levels,
                     number,
                 })?;
             }
         }
         candidates.sort_unstable();
         Ok(candidates)
+    }
+
+    /// What the count of lemmas says of a hint's use where it was so: whether it is of late, or, with no measure of that, when.
+    fn age(&self, last: u32, grace: Option<u32>) -> u32 {
+        match grace {
+            Some(lemmas) => (last.saturating_add(lemmas) > self.count) as u32,
+            None => last,
+        }
     }
 }
 

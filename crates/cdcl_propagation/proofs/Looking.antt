@@ -63,29 +63,3 @@ other_entry clauses pairs codes literal other watch paired is long entry = recor
   blocks = other_stands clauses pairs codes watch.number literal other paired is;
   short = λ short. absurd (never watch.is_short short long);
 }
-
--- a live clause is one
-same_clause : (clauses : Numbered ℕ) (number : ℕ) (clause other : List ℕ) → clause_of clauses number ≡ Some clause → clause_of clauses number ≡ Some other → clause ≡ other
-same_clause clauses number clause other live live_too = cc
-
--- what follows where another literal of a clause is not false
-pub moved : (clauses : Numbered ℕ) (pairs : List Pair) (path : Path) (literal number blocker first : ℕ) (short : Bool) (old : Watch) (found : Visit) (clause : List ℕ)
-    → old.number ≡ number → short ≡ false → IsEntry clauses (length pairs) (2 * path.variables) literal record { number = number; blocker = blocker; is_short = short }
-    → clause_of clauses number ≡ Some clause → Contains clause first → first < 2 * path.variables
-    → CanMove clauses pairs path literal number record { first = first; second = blocker }
-    → ((found ≡ look.Keep record { number = number; blocker = first; is_short = short }) × Contains path.literals first)
-    ⊎ (found ≡ look.Move record { first = first; second = blocker })
-    → Says clauses pairs path literal old found
-moved clauses pairs path literal number blocker first short old found clause is long entry live stands within can (inl both) =
-    rw both.0 record {
-      number = sym is;
-      entry = record {
-        some = entry.some;
-        number = entry.number;
-        within = within;
-        blocks = λ other live_too. rw (sym (same_clause clauses number clause other live live_too)) stands;
-        short = λ yes. absurd (never short yes long);
-      };
-      true_ = both.1;
-    }
-moved clauses pairs path literal number blocker first short old found clause is long entry live stands within can (inr moves) = rw (moves, is) can

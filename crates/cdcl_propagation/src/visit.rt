@@ -48,26 +48,6 @@ fn forced(trail: &Trail, watch: Watch) -> Visit
     }
 }
 
-/// What there is to do with a clause of which another literal is not false. Where that literal is true, it blocks the
-/// entry, which stays: the clause needs no other watch then.
-fn moved(trail: &Trail, watch: Watch, first: u32) -> Visit
-    requires { first < 2 * trail.now.variables }
-    ensures { ((result ≡ Visit.Keep record watch { blocker = first }) × Contains trail.now.literals first)
-        ⊎ (result ≡ Visit.Move record { first = first; second = watch.blocker }) }
-{
-    if trail.is_true(first) {
-        Visit::Keep(Watch {
-            blocker: first,
-            ..watch
-        })
-    } else {
-        Visit::Move(Pair {
-            first,
-            second: watch.blocker,
-        })
-    }
-}
-
 /// What there is to do at an entry of the list of a false literal.
 pub(crate) fn look_at(
     clauses: &Store,
@@ -101,8 +81,13 @@ pub(crate) fn look_at(
     let Some(clause) = clause_at(clauses, watch.number) else {
         return Visit::Gone;
     };
+    // The clause watches the literal even where it is true: a true literal is seldom made false soon after, and the
+    // clause then stands in no list that is worked.
     match open_literal(clause, trail, other) {
-        Some(first) => moved(trail, watch, first),
+        Some(first) => Visit::Move(Pair {
+            first,
+            second: other,
+        }),
         None => forced(trail, watch),
     }
 }

@@ -3,7 +3,7 @@ use Rattle.cdcl_propagation.specs.declared.watch.Watch.{Watch}
 use Rattle.std.specs.List.{All, Contains}
 use Rattle.std.proofs.lemmas.List.Elements.{All-contains}
 use Rattle.cdcl_propagation.specs.Visits.{IsForced}
-use Rattle.cdcl_propagation.proofs.Looking.{never, moved, forced, short_forced, other_stands, other_entry}
+use Rattle.cdcl_propagation.proofs.Looking.{never, forced, short_forced, other_stands, other_entry}
 use Rattle.cdcl_propagation.proofs.visit.look_at.Goals as goal
 
 pub returns-then-watch : goal.returns-then-watch
@@ -37,19 +37,12 @@ returns-in-None c =
 
 pub returns-in-Some-open_literal : goal.returns-in-Some-open_literal
 returns-in-Some-open_literal c =
-    let clauses = c.args.clauses.now in
-    let pairs = c.args.pairs.now in
-    let path = c.args.trail.now in
-    let watch = c.args.watch in
-    let literal = c.args.literal in
-    let other = c.in-Some.other in
-    let first = c.in-Some-open_literal.first in
-    let is = c.in-Some.ensures.some in
-    let live = c.in-Some-clause_at.ensures.some in
     let found = c.in-Some-open_literal.ensures.some in
-    let clause = c.in-Some-clause_at.clause.now in
-    moved clauses pairs path literal watch.number other first watch.is_short watch c.moved.result clause refl c.if-watch.false
-    (other_entry clauses pairs (2 * path.variables) literal other watch c.requires.paired is c.if-watch.false c.requires.entry)
-    live found.0 (All-contains (λ at. at < 2 * path.variables) clause first (c.requires.within watch.number clause live) found.0)
-    record { clause = clause; live = live; was = is; first = found.0; differs = found.1; not_false = found.2 }
-    c.moved.ensures
+    record {
+      clause = c.in-Some-clause_at.clause.now;
+      live = c.in-Some-clause_at.ensures.some;
+      was = c.in-Some.ensures.some;
+      first = found.0;
+      differs = found.1;
+      not_false = found.2;
+    }
