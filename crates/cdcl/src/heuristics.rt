@@ -13,7 +13,8 @@ use std::alloc::Global;
 /// How many lemmas there are when the first are dropped.
 const FIRST_DROP: usize = 32;
 
-/// A lemma that was a hint in the last one of so many parts of the search is of use still, however many levels it spans.
+/// A lemma that was a hint in the last one of so many parts of the search is of use still, however many levels it
+/// spans.
 const GRACE: usize = 8;
 
 /// How many lemmas come between two times at which lemmas of a growing formula are dropped.

@@ -15,8 +15,8 @@ struct Use {
 /// A lemma that may be dropped. The least useful comes first.
 #[derive(Clone, Copy, PartialEq, Eq, PartialOrd, Ord, Drop)]
 pub struct Candidate {
-    // When it was of use: the smaller, the longer ago.
-    age: u32,
+    // The smaller, the longer ago it was of use.
+    recency: u32,
     // The smaller, the more levels it spans.
     closeness: u32,
     last: u32,
@@ -70,8 +70,9 @@ impl Usage {
         Ok(())
     }
 
-    /// The lemmas that might be dropped, the least useful first: of those that were no hint in so many lemmas those that
-    /// span the most levels, and then the others in the same order. With no such count those that were a hint the longest ago.
+    /// The lemmas that might be dropped, the least useful first: of those that were no hint in so many lemmas those
+    /// that span the most levels, and then the others in the same order. With no such number those that were a hint
+    /// the longest ago.
     pub(crate) fn candidates(
         &self,
         alloc: Global,
@@ -85,7 +86,7 @@ impl Usage {
             number = number.saturating_add(1);
             if lemma.levels > 2 && is_long(propagator, number) {
                 candidates.push(Candidate {
-                    age: self.age(lemma.last, grace),
+                    recency: self.recency(lemma.last, grace),
                     closeness: u32::MAX - lemma.levels,
                     last: lemma.last,
                     number,
@@ -96,8 +97,9 @@ impl Usage {
         Ok(candidates)
     }
 
-    /// What the count of lemmas says of a hint's use where it was so: whether it is of late, or, with no measure of that, when.
-    fn age(&self, last: u32, grace: Option<u32>) -> u32 {
+    /// For a lemma that was a hint last at this count: 1 where fewer than so many lemmas came since, and 0 where more
+    /// did; where no number is given, the count.
+    fn recency(&self, last: u32, grace: Option<u32>) -> u32 {
         match grace {
             Some(lemmas) => (last.saturating_add(lemmas) > self.count) as u32,
             None => last,

@@ -10,7 +10,8 @@ use Rattle.cdcl_trail.specs.Literals.{opposite}
 use Rattle.cdcl_trail.specs.Path.{Path, pushed, start_of, literals_to}
 use Rattle.cdcl_propagation.specs.declared.watch.Pair.{Pair}
 use Rattle.cdcl_propagation.specs.declared.watch.Watch.{Watch}
-use Rattle.cdcl_propagation.specs.Watching.{list_of, Watches, HasTrue, Names, IsEntry, IsWatched}
+use Rattle.cdcl_propagation.specs.declared.watch.Others.{Others}
+use Rattle.cdcl_propagation.specs.Watching.{list_of, Watches, AreOthers, HasTrue, Names, IsEntry, IsWatched}
 use Rattle.cdcl_propagation.specs.State.{State, HasReasons, CanWatch, CanLearn}
 use Rattle.cdcl_propagation.specs.Adding.{with_entry, with_both, IsRefused, KeepsClauses}
 use Rattle.cdcl_propagation.proofs.Members.{first_or_later, only_one, one_some, take_grown, take_part}
@@ -81,12 +82,12 @@ abbrev IsRight : Numbered ℕ → List Pair → List ℕ → Pair → ℕ → �
 IsRight clauses pairs clause pair codes literal watch = IsEntry (clauses ++ Some clause ∷ []) (length (pairs ++ pair ∷ [])) codes literal watch
 
 pub attached : (clauses : Numbered ℕ) (pairs : List Pair) (lists : List (List Watch)) (path : Path) (head : ℕ) (clause : List ℕ) (pair : Pair) (is_short : Bool)
-    → IsWatched clauses pairs lists path head → All (λ literal. literal < 2 * path.variables) clause → Contains clause pair.first → Contains clause pair.second → pair.first ≢ pair.second
+    → IsWatched clauses pairs lists path head → All (λ literal. literal < 2 * path.variables) clause → Contains clause pair.first → Contains clause pair.second → pair.first ≢ pair.second → AreOthers clause pair
     → (is_short ≡ true → length clause ≤ 2)
     → ((literal : ℕ) → Watches pair literal → Contains (take head path.literals) (opposite literal) → HasTrue path.literals clause)
     → ((level literal : ℕ) → level < length path.limits → Watches pair literal → Contains (literals_to path level) (opposite literal) → HasTrue (literals_to path level) clause)
     → IsWatched (clauses ++ Some clause ∷ []) (pairs ++ pair ∷ []) (with_both lists (suc (length clauses)) pair is_short) path head
-attached clauses pairs lists path head clause pair is_short at within first second differs short satisfied levels =
+attached clauses pairs lists path head clause pair is_short at within first second differs others short satisfied levels =
     added clauses pairs lists (with_both lists (suc (length clauses)) pair is_short) path head (Some clause) pair at
     (length-set (with_first clauses lists pair is_short) pair.second (list_of (with_first clauses lists pair is_short) pair.second ++ (entry_for clauses pair.first is_short) ∷ []) ∙ length-set lists pair.first (list_of lists pair.first ++ (entry_for clauses pair.second is_short) ∷ []) ∙ at.size)
     (below_first, below_second)
@@ -97,6 +98,7 @@ attached clauses pairs lists path head clause pair is_short at within first seco
       first = first;
       second = second;
       alone = λ same. absurd (differs same);
+      others = others;
       listed = λ literal different watches. listed literal watches;
       satisfied = satisfied;
       single = λ same. absurd (differs same);
@@ -138,19 +140,21 @@ attached clauses pairs lists path head clause pair is_short at within first seco
     listed literal (inr is) = rw (sym is) (named-with (with_first clauses lists pair is_short) pair.second (entry_for clauses pair.first is_short) second_in)
 
 -- a clause of one literal, which is true at the lowest level
-pub attached_unit : (clauses : Numbered ℕ) (pairs : List Pair) (lists : List (List Watch)) (path : Path) (head : ℕ) (clause : List ℕ) (literal : ℕ)
+pub attached_unit : (clauses : Numbered ℕ) (pairs : List Pair) (lists : List (List Watch)) (path : Path) (head : ℕ) (clause : List ℕ) (literal : ℕ) (others : Others)
+    → AreOthers clause record { first = literal; second = literal; others = others }
     → IsWatched clauses pairs lists path head → All (λ other. other < 2 * path.variables) clause → Contains clause literal → All (λ other. other ≡ literal) clause
     → path.limits ≡ [] → Contains path.literals literal
-    → IsWatched (clauses ++ Some clause ∷ []) (pairs ++ record { first = literal; second = literal } ∷ []) lists path head
-attached_unit clauses pairs lists path head clause literal at within has alone lowest true_ =
-    added clauses pairs lists lists path head (Some clause) record { first = literal; second = literal } at at.size (below, below)
-    (λ other. entries-more clauses pairs (Some clause) record { first = literal; second = literal } (2 * path.variables) other (list_of lists other) at.paired.size (at.entries other))
+    → IsWatched (clauses ++ Some clause ∷ []) (pairs ++ record { first = literal; second = literal; others = others } ∷ []) lists path head
+attached_unit clauses pairs lists path head clause literal others are at within has alone lowest true_ =
+    added clauses pairs lists lists path head (Some clause) record { first = literal; second = literal; others = others } at at.size (below, below)
+    (λ other. entries-more clauses pairs (Some clause) record { first = literal; second = literal; others = others } (2 * path.variables) other (list_of lists other) at.paired.size (at.entries other))
     (λ other n named. named)
     (λ found is. rw (one_some (Some clause) found clause is refl) record {
       within = within;
       first = has;
       second = has;
       alone = λ same. alone;
+      others = are;
       listed = λ other different watches. absurd (different refl);
       satisfied = λ other watches there. (literal, has, true_);
       single = λ same. true_;
@@ -182,10 +186,10 @@ not_below state clause pair first second level literal inside (inl is) there = a
 not_below state clause pair first second level literal inside (inr is) there = absurd (second.levels level inside (rw is there))
 
 -- a learned clause: no level below the current one makes a watched literal false
-pub learned_below : (path : Path) (clause : List ℕ) (asserted other reason : ℕ) → ((level : ℕ) → level < length path.limits → start_of path level ≤ length path.literals)
-    → CanLearn path clause asserted other → (level literal : ℕ) → level < length path.limits → Watches record { first = asserted; second = other } literal
+pub learned_below : (path : Path) (clause : List ℕ) (asserted other : ℕ) (others : Others) (reason : ℕ) → ((level : ℕ) → level < length path.limits → start_of path level ≤ length path.literals)
+    → CanLearn path clause asserted other → (level literal : ℕ) → level < length path.limits → Watches record { first = asserted; second = other; others = others } literal
     → Contains (literals_to (pushed path asserted reason) level) (opposite literal) → HasTrue (literals_to (pushed path asserted reason) level) clause
-learned_below path clause asserted other reason begun can level literal inside watches there =
+learned_below path clause asserted other others reason begun can level literal inside watches there =
     let P : List ℕ → Type 0 = λ ls. Contains ls (opposite literal) in
     let below : Contains (literals_to path level) (opposite literal) = subst P (take_grown path.literals (asserted ∷ []) (start_of path level) (begun level inside)) there in
     elim watches [

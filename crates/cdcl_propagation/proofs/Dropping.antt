@@ -63,6 +63,7 @@ watched-dropped clauses pairs lists path head number gone is long at = record {
     first = λ other clause live. at.paired.first other clause (was other clause live).0;
     second = λ other clause live. at.paired.second other clause (was other clause live).0;
     single = λ other clause live. at.paired.single other clause (was other clause live).0;
+    others = λ other clause live. at.paired.others other clause (was other clause live).0;
     within = at.paired.within;
   };
   within = λ other clause live. at.within other clause (was other clause live).0;

@@ -10,7 +10,7 @@ use Rattle.cdcl_trail.specs.Path.{Path, literals_to}
 use Rattle.cdcl_propagation.specs.declared.watch.Pair.{Pair}
 use Rattle.cdcl_propagation.specs.declared.watch.Watch.{Watch}
 use Rattle.cdcl_propagation.specs.State.{HasReasons}
-use Rattle.cdcl_propagation.specs.Watching.{no_pair, pair_of, list_of, Watches, HasTrue, Names, IsEntry, IsWatched}
+use Rattle.cdcl_propagation.specs.Watching.{no_pair, pair_of, list_of, Watches, AreOthers, HasTrue, Names, IsEntry, IsWatched}
 use Rattle.cdcl_propagation.specs.Adding.{with_entry}
 
 -- a clause that was live is so with a clause more
@@ -42,6 +42,7 @@ pub record Joins (clause : List ℕ) (pair : Pair) (lists : List (List Watch)) (
   pub first : Contains clause pair.first
   pub second : Contains clause pair.second
   pub alone : pair.first ≡ pair.second → All (λ literal. literal ≡ pair.first) clause
+  pub others : AreOthers clause pair
   pub listed : (literal : ℕ) → pair.first ≢ pair.second → Watches pair literal → Names (list_of lists literal) number
   pub satisfied : (literal : ℕ) → Watches pair literal → Contains (take head path.literals) (opposite literal) → HasTrue path.literals clause
   pub single : pair.first ≡ pair.second → Contains path.literals pair.first
@@ -61,6 +62,7 @@ added clauses pairs lists lists' path head new pair at size below entries more j
     second = λ number clause live. by_number number clause live (λ p c. Contains c p.second) (λ was. at.paired.second number clause was) (λ is. (joins clause is.1).second);
     single = λ number clause live.
         by_number number clause live (λ p c. p.first ≡ p.second → All (λ literal. literal ≡ p.first) c) (λ was. at.paired.single number clause was) (λ is. (joins clause is.1).alone);
+    others = λ number clause live. by_number number clause live (λ p c. AreOthers c p) (λ was. at.paired.others number clause was) (λ is. (joins clause is.1).others);
     within = λ number some inside. pairs_within number some inside;
   };
   within = λ number clause live. by_number number clause live (λ p c. All (λ literal. literal < 2 * path.variables) c) (λ was. at.within number clause was) (λ is. (joins clause is.1).within);

@@ -1,5 +1,6 @@
 pub mod Joining
 pub mod Attaching
+pub mod Beside
 pub mod Dropping
 pub mod Leveling
 pub mod Looking

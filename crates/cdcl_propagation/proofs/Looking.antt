@@ -11,7 +11,7 @@ use Rattle.cdcl_propagation.specs.declared.watch.Visit.{Visit}
 use Rattle.cdcl_propagation.specs.declared.watch.Visit.TheVariants as look
 use Rattle.cdcl_propagation.specs.State.{IsConflict}
 use Rattle.cdcl_propagation.specs.Watching.{pair_of, IsPairOf, IsPaired, IsEntry, IsShort}
-use Rattle.cdcl_propagation.specs.Visits.{IsForced, CanMove, Says}
+use Rattle.cdcl_propagation.specs.Visits.{IsForced, Says}
 
 -- a test that failed
 pub never : (test : Bool) → test ≡ true → test ≡ false → ⊥

@@ -30,6 +30,7 @@ watched_empty variables = record {
     first = λ number clause live. absurd (no_clause number clause live);
     second = λ number clause live. absurd (no_clause number clause live);
     single = λ number clause live. absurd (no_clause number clause live);
+    others = λ number clause live. absurd (no_clause number clause live);
     within = λ number some inside. absurd (omega arith);
   };
   within = λ number clause live. absurd (no_clause number clause live);

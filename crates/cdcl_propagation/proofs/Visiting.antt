@@ -9,7 +9,7 @@ use Rattle.cdcl_trail.specs.Literals.{opposite}
 use Rattle.cdcl_trail.specs.Path.{Path, pushed, start_of, literals_to}
 use Rattle.cdcl_propagation.specs.declared.watch.Pair.{Pair}
 use Rattle.cdcl_propagation.specs.declared.watch.Watch.{Watch}
-use Rattle.cdcl_propagation.specs.Watching.{pair_of, list_of, Watches, Names, IsEntry, IsVisiting}
+use Rattle.cdcl_propagation.specs.Watching.{pair_of, list_of, Watches, AreOthers, Names, IsEntry, IsVisiting}
 use Rattle.cdcl_propagation.specs.Visits.{IsGone, CanMove, Moves, StaysTrue}
 use Rattle.cdcl_propagation.proofs.Members.{take_part, take_grown, true-more, names-later, names-replaced, names-removed, names-more, one_some}
 use Rattle.cdcl_propagation.proofs.Working.{worked-more, worked-moved, levels-pushed, pair_here, pair_there}
@@ -132,6 +132,7 @@ visiting-moved clauses pairs lists path head literal seen rest old new pairs' li
         first = λ other clause live. by_pair other (λ pair. Contains clause pair.first) (λ same. rw (one clause other live same) can.first) (at.paired.first other clause live);
         second = λ other clause live. by_pair other (λ pair. Contains clause pair.second) (λ same. rw (one clause other live same) second_stands) (at.paired.second other clause live);
         single = λ other clause live. by_pair other (λ pair. pair.first ≡ pair.second → All (λ l. l ≡ pair.first) clause) (λ same is. absurd (can.differs is)) (at.paired.single other clause live);
+        others = λ other clause live. by_pair other (λ pair. AreOthers clause pair) (λ same. rw (one clause other live same) can.others) (at.paired.others other clause live);
         within = λ other some below.
             by_pair other (λ pair. (pair.first < 2 * path.variables) × (pair.second < 2 * path.variables)) (λ same. (first_within, second_within)) (at.paired.within other some (rw (length-set pairs old.number new) at below));
       };

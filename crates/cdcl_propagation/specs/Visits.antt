@@ -13,7 +13,7 @@ use Rattle.cdcl_propagation.specs.declared.watch.Outcome.TheVariants as outcome
 use Rattle.cdcl_propagation.specs.declared.watch.Stop.{Stop}
 use Rattle.cdcl_propagation.specs.declared.watch.Stop.TheVariants as stop
 use Rattle.cdcl_propagation.specs.State.{IsConflict}
-use Rattle.cdcl_propagation.specs.Watching.{pair_of, list_of, Watches, IsPairOf, IsEntry}
+use Rattle.cdcl_propagation.specs.Watching.{pair_of, list_of, Watches, AreOthers, IsPairOf, IsEntry}
 
 -- all literals of a clause are false but one
 pub record IsForced (clauses : Numbered ℕ) (path : Path) (number literal : ℕ) : Type 0 where
@@ -43,6 +43,7 @@ pub record CanMove (clauses : Numbered ℕ) (pairs : List Pair) (path : Path) (l
   pub was : IsPairOf (pair_of pairs number) literal new.second
   pub first : Contains clause new.first
   pub differs : new.first ≢ new.second
+  pub others : AreOthers clause new
   pub not_false : Contains path.literals (opposite new.first) → ⊥
 
 -- the clause is not there, or does not watch the literal

@@ -1,15 +1,16 @@
 -- Watched literals. Each live clause of two literals or more watches two of them, and is named in the lists of both;
 -- a clause of one literal watches it twice, and is named in no list.
-use Rattle.std.specs.Prelude.{◌≡◌, ◌≢◌, ◌⊎◌, ℕ, suc, ◌*◌, ◌<◌, ◌≤◌, List, [], ◌++◌, length, take, slice_index_or, true, Some}
+use Rattle.std.specs.Prelude.{◌≡◌, ◌≢◌, ◌⊎◌, ℕ, suc, ◌*◌, ◌<◌, ◌≤◌, List, [], ◌∷◌, ◌++◌, length, take, slice_index_or, true, false, Some}
 use Rattle.std.specs.List.{All, Contains}
 use Rattle.clauses.specs.Live.{Numbered, clause_of}
 use Rattle.cdcl_trail.specs.Literals.{opposite}
 use Rattle.cdcl_trail.specs.Path.{Path, start_of, literals_to}
 use Rattle.cdcl_propagation.specs.declared.watch.Pair.{Pair}
+use Rattle.cdcl_propagation.specs.declared.watch.Others.{Others}
 use Rattle.cdcl_propagation.specs.declared.watch.Watch.{Watch}
 
 abbrev pub no_pair : Pair
-no_pair = record { first = 0; second = 0 }
+no_pair = record { first = 0; second = 0; others = record { third = 0; fourth = 0; fifth = 0; sixth = 0; seventh = 0; is_whole = false } }
 
 -- what a clause watches, by its number
 abbrev pub pair_of : List Pair → ℕ → Pair
@@ -17,6 +18,19 @@ pair_of pairs number = slice_index_or pairs number no_pair
 
 abbrev pub Watches : Pair → ℕ → Type 0
 Watches pair literal = (pair.first ≡ literal) ⊎ (pair.second ≡ literal)
+
+-- the literals that are kept beside a pair
+abbrev pub spares_of : Others → List ℕ
+spares_of others = others.third ∷ others.fourth ∷ others.fifth ∷ others.sixth ∷ others.seventh ∷ []
+
+-- a literal is watched, or kept beside the pair
+abbrev pub IsAmong : Pair → ℕ → Type 0
+IsAmong pair literal = Watches pair literal ⊎ Contains (spares_of pair.others) literal
+
+-- those kept beside a pair are literals of the clause, and all that it has where that is said
+pub record AreOthers (clause : List ℕ) (pair : Pair) : Type 0 where
+  pub stand : All (Contains clause) (spares_of pair.others)
+  pub whole : pair.others.is_whole ≡ true → All (IsAmong pair) clause
 
 -- a pair of the one literal and the other, in whichever order
 abbrev pub IsPairOf : Pair → ℕ → ℕ → Type 0
@@ -26,13 +40,14 @@ IsPairOf pair literal other = ((pair.first ≡ literal) × (pair.second ≡ othe
 abbrev pub HasTrue : List ℕ → List ℕ → Type 0
 HasTrue trail clause = (literal : ℕ) × Contains clause literal × Contains trail literal
 
--- the two literals that a clause watches are some of it, and differ unless it has no other
+-- the two literals that a clause watches are some of it, and differ unless it has no other; so are those beside them
 pub record IsPaired (clauses : Numbered ℕ) (pairs : List Pair) (codes : ℕ) : Type 0 where
   pub size : length pairs ≡ suc (length clauses)
   pub first : (number : ℕ) (clause : List ℕ) → clause_of clauses number ≡ Some clause → Contains clause (pair_of pairs number).first
   pub second : (number : ℕ) (clause : List ℕ) → clause_of clauses number ≡ Some clause → Contains clause (pair_of pairs number).second
   pub single : (number : ℕ) (clause : List ℕ) → clause_of clauses number ≡ Some clause
       → (pair_of pairs number).first ≡ (pair_of pairs number).second → All (λ literal. literal ≡ (pair_of pairs number).first) clause
+  pub others : (number : ℕ) (clause : List ℕ) → clause_of clauses number ≡ Some clause → AreOthers clause (pair_of pairs number)
   pub within : (number : ℕ) → 0 < number → number < length pairs → ((pair_of pairs number).first < codes) × ((pair_of pairs number).second < codes)
 
 -- a live clause of two literals: that in whose list it is named, and the blocker

@@ -2,6 +2,7 @@
 #![tactic(auto)]
 
 mod adding;
+mod others;
 mod propagator;
 mod visit;
 mod watch;

@@ -11,8 +11,9 @@ ghost use Rattle.clause_store.specs.Stored.{stored_words};
 ghost use Rattle.clause_store.specs.declared.region.TheConstants.{MOST_WORDS};
 
 use crate::adding::{add, empty_lists, store};
+use crate::others::others_of;
 use crate::visit::clause_at;
-use crate::watch::{Packed, Pair, Stop, WatchList, close_gap};
+use crate::watch::{NO_PAIR, Packed, Pair, Stop, WatchList, close_gap};
 use crate::work::visit_list;
 use cdcl_trail::{Trail, opposite};
 use clause_store::Store;
@@ -74,10 +75,7 @@ impl Propagator {
         }) }
     {
         let mut pairs = Vec::new(alloc);
-        pairs.push(Pair {
-            first: 0,
-            second: 0,
-        })?;
+        pairs.push(NO_PAIR)?;
         Ok(Propagator {
             clauses: Store::new(alloc),
             trail: Trail::new(alloc, variables)?,
@@ -207,12 +205,17 @@ impl Propagator {
         ensures err_clauses { OnErr result (KeepsClauses self.old.clauses self.new.clauses) }
         ensures err { OnErr result ((self.new.path ≡ self.old.path) × (self.new.head ≡ self.old.head)) }
     {
+        let others = others_of(clause, first, second);
         add(
             &mut self.clauses,
             &mut self.pairs,
             &mut self.lists,
             clause,
-            Pair { first, second },
+            Pair {
+                first,
+                second,
+                others,
+            },
         )?;
         Ok(())
     }
@@ -234,12 +237,17 @@ impl Propagator {
         ensures err_clauses { OnErr result (KeepsClauses self.old.clauses self.new.clauses) }
         ensures err { OnErr result ((self.new.path ≡ self.old.path) × (self.new.head ≡ self.old.head)) }
     {
+        let others = others_of(clause, first, second);
         let number = add(
             &mut self.clauses,
             &mut self.pairs,
             &mut self.lists,
             clause,
-            Pair { first, second },
+            Pair {
+                first,
+                second,
+                others,
+            },
         )?;
         self.trail.push(first, number);
         Ok(())
@@ -272,6 +280,7 @@ impl Propagator {
         let pair = Pair {
             first: literal,
             second: literal,
+            others: others_of(clause, literal, literal),
         };
         let number = store(&mut self.clauses, &mut self.pairs, clause, pair)?;
         if !self.trail.is_true(literal) {

@@ -6,12 +6,40 @@ use psl_base::NoMemory;
 use std::alloc::Global;
 use std::marker::Model;
 
-/// The two literals that a clause watches. They are the same where the clause has no other.
+/// The two literals that a clause watches, and some of its others. They are the same where the clause has no other.
 #[derive(Clone, Copy)]
 pub(crate) struct Pair {
     pub(crate) first: u32,
     pub(crate) second: u32,
+    pub(crate) others: Others,
 }
+
+/// Literals of a clause that are looked at before its words are read, which lie elsewhere. A literal may stand there
+/// more than once, and a watched one too.
+#[derive(Clone, Copy)]
+pub(crate) struct Others {
+    pub(crate) third: u32,
+    pub(crate) fourth: u32,
+    pub(crate) fifth: u32,
+    pub(crate) sixth: u32,
+    pub(crate) seventh: u32,
+    // The clause has no literal but the two that it watches and these.
+    pub(crate) is_whole: bool,
+}
+
+/// What stands at the number that no clause has.
+pub(crate) const NO_PAIR: Pair = Pair {
+    first: 0,
+    second: 0,
+    others: Others {
+        third: 0,
+        fourth: 0,
+        fifth: 0,
+        sixth: 0,
+        seventh: 0,
+        is_whole: false,
+    },
+};
 
 impl Pair {
     /// The other literal, where this is one of the two.

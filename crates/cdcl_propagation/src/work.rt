@@ -13,6 +13,7 @@ use cdcl_trail::{Trail, opposite};
 use clause_store::Store;
 
 /// Visits an entry of the list of a false literal.
+#[inline(always)]
 fn visit(
     clauses: &Store,
     pairs: &mut [Pair],
@@ -42,6 +43,7 @@ fn visit(
 }
 
 /// Lets a clause watch another pair, of which the second literal was watched before.
+#[inline(always)]
 fn move_watch(pairs: &mut [Pair], lists: &mut [WatchList], number: u32, pair: Pair) -> Outcome
     requires number { number < length pairs.old }
     requires small { number < 2 ^ 31 }

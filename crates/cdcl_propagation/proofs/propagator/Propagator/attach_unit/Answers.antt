@@ -29,7 +29,7 @@ invariant_of-self-then-not-is_true c =
     let forced : IsForced (of.clauses ++ Some clause ∷ []) of.trail number literal =
     record { clause = clause; live = rw is (new_live of.clauses clause); stands = c.requires.has; others = λ place d inside. inl (c.requires.alone place d inside) } in
     record {
-      watched = rw (adds.new_clauses, adds.new_pairs, c.push.ensures) (attached_unit of.clauses of.pairs.items of.lists.items path' of.head clause literal grown within c.requires.has c.requires.alone lowest (Contains-push of.trail.literals literal));
+      watched = rw (adds.new_clauses, adds.new_pairs, c.push.ensures) (attached_unit of.clauses of.pairs.items of.lists.items path' of.head clause literal c.others_of.result c.others_of.ensures grown within c.requires.has c.requires.alone lowest (Contains-push of.trail.literals literal));
       reasons = rw (adds.new_clauses, c.push.ensures) (reasons-pushed (of.clauses ++ Some clause ∷ []) of.trail literal number watched.reasons forced (reasons-more of.clauses of.trail (Some clause) c.self.invariant.reasons));
       few = omega (arith, ap length adds.new_clauses, length_push of.clauses (Some clause), ap length clauses, c.requires.numbers);
     }
@@ -48,7 +48,7 @@ invariant_of-self-else-not-is_true c =
     let adds = c.in_ok-number.ensures.ok in
     let held = c.is_true.ensures.0 c.if-not-is_true.false in
     record {
-      watched = rw (adds.new_clauses, adds.new_pairs) (attached_unit of.clauses of.pairs.items of.lists.items of.trail of.head clause literal watched within c.requires.has c.requires.alone lowest held);
+      watched = rw (adds.new_clauses, adds.new_pairs) (attached_unit of.clauses of.pairs.items of.lists.items of.trail of.head clause literal c.others_of.result c.others_of.ensures watched within c.requires.has c.requires.alone lowest held);
       reasons = rw adds.new_clauses (reasons-more of.clauses of.trail (Some clause) c.self.invariant.reasons);
       few = omega (arith, ap length adds.new_clauses, length_push of.clauses (Some clause), ap length clauses, c.requires.numbers);
     }
