@@ -1,4 +1,5 @@
 pub mod Chains
+pub mod Flags
 pub mod Meanings
 pub mod Numbers
 pub mod Plain

@@ -55,7 +55,8 @@ one_limits values a b one two =
     let steps : a.steps ≡ b.steps = one_given _ _ _ _ _ (omega arith) one.steps two.steps in
     let reach : a.reach ≡ b.reach = sym one.reach ∙ two.reach in
     let covers : a.covers ≡ b.covers = sym one.covers ∙ two.covers in
-    λ i. record { depth = depth i; visits = visits i; steps = steps i; reach = reach i; covers = covers i }
+    let progress : a.progress ≡ b.progress = sym one.progress ∙ two.progress in
+    λ i. record { depth = depth i; visits = visits i; steps = steps i; reach = reach i; covers = covers i; progress = progress i }
 
 -- the first byte of each tells how unknown bits read
 unknown_from : ℕ → Unknown

@@ -14,7 +14,7 @@ use Rattle.command_line.specs.Evidences.{IsEvidence}
 use Rattle.command_line.specs.Kinds.{word_of}
 use Rattle.command_line.specs.Numbers.{IsGiven}
 use Rattle.command_line.specs.Ranges.{AreInRange}
-use Rattle.command_line.specs.Plain.{ArePlain, certificates_in, flags, IsPlain, limits_of_covers, limits_of_depth, limits_of_reach, recordings_in, to_check, usual_limits, vectors_in, with_buses, with_depth, with_options, with_points, with_recordings, with_unknown}
+use Rattle.command_line.specs.Plain.{ArePlain, certificates_in, IsPlain, limits_of_covers, limits_of_depth, limits_of_progress, limits_of_reach, recordings_in, to_check, usual_limits, vectors_in, with_buses, with_depth, with_points, with_recordings, with_unknown}
 use Rattle.command_line.specs.declared.Limits.{Limits}
 use Rattle.command_line.specs.declared.Unknown.{Unknown}
 use Rattle.command_line.specs.declared.Unknown.TheVariants.{Zero, One, Refuse}
@@ -34,7 +34,7 @@ given_text : (least most number : ℕ) (value : Option (List ℕ)) (word : List 
 given_text least most number value word is form above below =
     subst (λ (given : Option (List ℕ)). IsGiven least most given number) (sym is) (record { form = form; above = above; below = below })
 
-given_number : (least most number : ℕ) (value : Option (List ℕ)) → value ≡ Some (decimal number) → least ≤ number → number ≤ most
+pub given_number : (least most number : ℕ) (value : Option (List ℕ)) → value ≡ Some (decimal number) → least ≤ number → number ≤ most
     → IsGiven least most value number
 given_number least most number value is = given_text least most number value (decimal number) is refl
 
@@ -180,18 +180,19 @@ plain_netlist most a b one two =
 -- the limits, where two of the options are not given
 usual : (values : Values) (limits : Limits) → IsGiven 1 1000 (values (codes "depth")) limits.depth → values (codes "visits") ≡ Some (codes "4")
     → values (codes "steps") ≡ Some (codes "1000000") → is_true (values (codes "reach")) ≡ limits.reach
-    → is_true (values (codes "covers")) ≡ limits.covers
-    → AreLimits values (record usual_limits { depth = limits.depth; reach = limits.reach; covers = limits.covers })
-usual values limits depth visits steps reach covers = record {
+    → is_true (values (codes "covers")) ≡ limits.covers → is_true (values (codes "progress")) ≡ limits.progress
+    → AreLimits values (record usual_limits { depth = limits.depth; reach = limits.reach; covers = limits.covers; progress = limits.progress })
+usual values limits depth visits steps reach covers progress = record {
   depth = depth;
   visits = given_text 0 16 4 _ (codes "4") visits usual_visits (omega arith) (omega arith);
   steps = given_text 1 10000000 1000000 _ (codes "1000000") steps usual_steps (omega arith) (omega arith);
   reach = reach;
   covers = covers;
+  progress = progress;
 }
 
 -- certificates alone
-certified : (values : Values) (cert : Option (List ℕ)) → values (codes "cert") ≡ cert → values (codes "vcd") ≡ None → values (codes "loops") ≡ Some (codes "1")
+pub certified : (values : Values) (cert : Option (List ℕ)) → values (codes "cert") ≡ cert → values (codes "vcd") ≡ None → values (codes "loops") ≡ Some (codes "1")
     → is_true (values (codes "buses")) ≡ false → IsEvidence values (certificates_in cert)
 certified values cert given none loops alone = record { cert = given; vcd = none; loops = given_text 1 16 1 _ (codes "1") loops usual_loops (omega arith) (omega arith); buses = alone }
 
@@ -209,7 +210,7 @@ plain_prove most a b one two =
         run_given Prove words end (codes "unit") run,
         run_given Prove words end (codes "netlist") run,
         usual _ usual_limits depth (run_given Prove words end (codes "visits") run) (run_given Prove words end (codes "steps") run) (ap is_true (run_given Prove words end (codes "reach") run))
-            (ap is_true (run_given Prove words end (codes "covers") run)),
+            (ap is_true (run_given Prove words end (codes "covers") run)) (ap is_true (run_given Prove words end (codes "progress") run)),
         certified _ _ (run_given Prove words end (codes "cert") run) (run_given Prove words end (codes "vcd") run) (run_given Prove words end (codes "loops") run)
             (ap is_true (run_given Prove words end (codes "buses") run)),
       ),
@@ -234,7 +235,7 @@ plain_depth most a b number one two above below =
         run_given Prove words end (codes "unit") run,
         run_given Prove words end (codes "netlist") run,
         usual _ (limits_of_depth number) depth (run_given Prove words end (codes "visits") run) (run_given Prove words end (codes "steps") run) (ap is_true (run_given Prove words end (codes "reach") run))
-            (ap is_true (run_given Prove words end (codes "covers") run)),
+            (ap is_true (run_given Prove words end (codes "covers") run)) (ap is_true (run_given Prove words end (codes "progress") run)),
         certified _ _ (run_given Prove words end (codes "cert") run) (run_given Prove words end (codes "vcd") run) (run_given Prove words end (codes "loops") run)
             (ap is_true (run_given Prove words end (codes "buses") run)),
       ),
@@ -258,7 +259,7 @@ plain_reach most a b one two =
         run_given Prove words end (codes "unit") run,
         run_given Prove words end (codes "netlist") run,
         usual _ limits_of_reach depth (run_given Prove words end (codes "visits") run) (run_given Prove words end (codes "steps") run) (ap is_true (run_given Prove words end (codes "reach") run))
-            (ap is_true (run_given Prove words end (codes "covers") run)),
+            (ap is_true (run_given Prove words end (codes "covers") run)) (ap is_true (run_given Prove words end (codes "progress") run)),
         certified _ _ (run_given Prove words end (codes "cert") run) (run_given Prove words end (codes "vcd") run) (run_given Prove words end (codes "loops") run)
             (ap is_true (run_given Prove words end (codes "buses") run)),
       ),
@@ -282,14 +283,38 @@ plain_covers most a b one two =
         run_given Prove words end (codes "unit") run,
         run_given Prove words end (codes "netlist") run,
         usual _ limits_of_covers depth (run_given Prove words end (codes "visits") run) (run_given Prove words end (codes "steps") run) (ap is_true (run_given Prove words end (codes "reach") run))
-            (ap is_true (run_given Prove words end (codes "covers") run)),
+            (ap is_true (run_given Prove words end (codes "covers") run)) (ap is_true (run_given Prove words end (codes "progress") run)),
+        certified _ _ (run_given Prove words end (codes "cert") run) (run_given Prove words end (codes "vcd") run) (run_given Prove words end (codes "loops") run)
+            (ap is_true (run_given Prove words end (codes "buses") run)),
+      ),
+    )
+
+pub plain_progress : (most : ℕ) (unit netlist : List ℕ) → IsPlain unit → IsPlain netlist
+    → IsCommand most (codes "prove" ∷ unit ∷ netlist ∷ codes "--progress" ∷ []) (prove unit netlist limits_of_progress (certificates_in None))
+unfolding clap_on_literals app
+plain_progress most a b one two =
+    let on_flag = codes "--progress" ∷ [] in
+    let words = a ∷ b ∷ on_flag in
+    let first = behind Prove start a in
+    let second = behind Prove first b in
+    let end = behind_any Prove second (codes "--progress") in
+    let run = word_then Prove start.held 1 end a (b ∷ on_flag) one refl
+    (word_then Prove first.held 2 end b on_flag two refl
+    (any_then Prove second end (codes "--progress") [] refl (ends Prove end))) in
+    let depth = given_text 1 1000 20 _ (codes "20") (run_given Prove words end (codes "depth") run) usual_depth (omega arith) (omega arith) in (
+      record { named = refl; taken = run_taken Prove words end run refl },
+      (
+        run_given Prove words end (codes "unit") run,
+        run_given Prove words end (codes "netlist") run,
+        usual _ limits_of_progress depth (run_given Prove words end (codes "visits") run) (run_given Prove words end (codes "steps") run) (ap is_true (run_given Prove words end (codes "reach") run))
+            (ap is_true (run_given Prove words end (codes "covers") run)) (ap is_true (run_given Prove words end (codes "progress") run)),
         certified _ _ (run_given Prove words end (codes "cert") run) (run_given Prove words end (codes "vcd") run) (run_given Prove words end (codes "loops") run)
             (ap is_true (run_given Prove words end (codes "buses") run)),
       ),
     )
 
 -- all words behind `prove`, with some more at their end
-abbrev options_then : List ℕ → List ℕ → Limits → List ℕ → List (List ℕ) → List (List ℕ)
+abbrev pub options_then : List ℕ → List ℕ → Limits → List ℕ → List (List ℕ) → List (List ℕ)
 options_then unit netlist limits prefix more =
     codes "--cert" ∷ prefix ∷ codes "--steps" ∷ decimal limits.steps ∷ codes "--visits" ∷ decimal limits.visits ∷ unit
     ∷ codes "--depth" ∷ decimal limits.depth ∷ netlist ∷ more
@@ -313,10 +338,10 @@ behind_depth unit limits prefix =
     behind_value Prove (behind_any Prove (behind_unit unit limits prefix) (codes "--depth")) (codes "depth") (decimal limits.depth)
 
 -- the state behind the name of the netlist
-abbrev behind_options : List ℕ → List ℕ → Limits → List ℕ → Walk
+abbrev pub behind_options : List ℕ → List ℕ → Limits → List ℕ → Walk
 behind_options unit netlist limits prefix = behind Prove (behind_depth unit limits prefix) netlist
 
-options_run : (unit netlist prefix : List ℕ) (limits : Limits) (more : List (List ℕ)) (end : Walk) → ArePlain unit netlist prefix → AreInRange limits
+pub options_run : (unit netlist prefix : List ℕ) (limits : Limits) (more : List (List ℕ)) (end : Walk) → ArePlain unit netlist prefix → AreInRange limits
     → Runs (shape_of Prove) (behind_options unit netlist limits prefix) more end
     → Runs (shape_of Prove) start (options_then unit netlist limits prefix more) end
 unfolding clap_on_literals app
@@ -355,103 +380,6 @@ options_run a b prefix limits more end plain range rest =
     (any_then Prove w7 end (codes "--depth") on_depth refl
     (value_then Prove w8.held 2 end (codes "depth") depth on_netlist (plain_decimal limits.depth deep)
     (word_then Prove w9.held 2 end b more plain.1 refl rest)))))))))
-
--- limits in their ranges are those that their decimal forms say
-limits_given : (values : Values) (limits : Limits) → AreInRange limits → values (codes "depth") ≡ Some (decimal limits.depth)
-    → values (codes "visits") ≡ Some (decimal limits.visits) → values (codes "steps") ≡ Some (decimal limits.steps)
-    → is_true (values (codes "reach")) ≡ limits.reach → is_true (values (codes "covers")) ≡ limits.covers → AreLimits values limits
-limits_given values limits range depth visits steps reach covers = record {
-  depth = given_number 1 1000 limits.depth _ depth range.some_depth range.depth;
-  visits = given_number 0 16 limits.visits _ visits (omega arith) range.visits;
-  steps = given_number 1 10000000 limits.steps _ steps range.some_steps range.steps;
-  reach = reach;
-  covers = covers;
-}
-
--- flags have no range
-range_with : (limits : Limits) (reach covers : Bool) → AreInRange limits → AreInRange (record limits { reach = reach; covers = covers })
-range_with limits reach covers range = record {
-  some_depth = range.some_depth;
-  depth = range.depth;
-  visits = range.visits;
-  some_steps = range.some_steps;
-  steps = range.steps;
-}
-
-options_with : (most : ℕ) (unit netlist prefix : List ℕ) (limits : Limits) (reach covers : Bool) → ArePlain unit netlist prefix → AreInRange limits
-    → IsCommand most (with_options unit netlist (record limits { reach = reach; covers = covers }) prefix)
-    (prove unit netlist (record limits { reach = reach; covers = covers }) (certificates_in (Some prefix)))
-unfolding clap_on_literals app
-options_with most a b prefix limits true true plain range =
-    let words = options_then a b limits prefix (flags true true) in
-    let before = behind_options a b limits prefix in
-    let middle = behind_any Prove before (codes "--reach") in
-    let end = behind_any Prove middle (codes "--covers") in
-    let run = options_run a b prefix limits (flags true true) end plain range (any_then Prove before end (codes "--reach") (codes "--covers" ∷ []) refl
-    (any_then Prove middle end (codes "--covers") [] refl (ends Prove end))) in (
-      record { named = refl; taken = run_taken Prove words end run refl },
-      (
-        run_given Prove words end (codes "unit") run,
-        run_given Prove words end (codes "netlist") run,
-        limits_given _ (record limits { reach = true; covers = true }) (range_with limits true true range) (run_given Prove words end (codes "depth") run)
-            (run_given Prove words end (codes "visits") run) (run_given Prove words end (codes "steps") run)
-            (ap is_true (run_given Prove words end (codes "reach") run)) (ap is_true (run_given Prove words end (codes "covers") run)),
-        certified _ _ (run_given Prove words end (codes "cert") run) (run_given Prove words end (codes "vcd") run) (run_given Prove words end (codes "loops") run)
-            (ap is_true (run_given Prove words end (codes "buses") run)),
-      ),
-    )
-options_with most a b prefix limits true false plain range =
-    let words = options_then a b limits prefix (flags true false) in
-    let before = behind_options a b limits prefix in
-    let end = behind_any Prove before (codes "--reach") in
-    let run = options_run a b prefix limits (flags true false) end plain range (any_then Prove before end (codes "--reach") [] refl (ends Prove end)) in (
-      record { named = refl; taken = run_taken Prove words end run refl },
-      (
-        run_given Prove words end (codes "unit") run,
-        run_given Prove words end (codes "netlist") run,
-        limits_given _ (record limits { reach = true; covers = false }) (range_with limits true false range) (run_given Prove words end (codes "depth") run)
-            (run_given Prove words end (codes "visits") run) (run_given Prove words end (codes "steps") run)
-            (ap is_true (run_given Prove words end (codes "reach") run)) (ap is_true (run_given Prove words end (codes "covers") run)),
-        certified _ _ (run_given Prove words end (codes "cert") run) (run_given Prove words end (codes "vcd") run) (run_given Prove words end (codes "loops") run)
-            (ap is_true (run_given Prove words end (codes "buses") run)),
-      ),
-    )
-options_with most a b prefix limits false true plain range =
-    let words = options_then a b limits prefix (flags false true) in
-    let before = behind_options a b limits prefix in
-    let end = behind_any Prove before (codes "--covers") in
-    let run = options_run a b prefix limits (flags false true) end plain range (any_then Prove before end (codes "--covers") [] refl (ends Prove end)) in (
-      record { named = refl; taken = run_taken Prove words end run refl },
-      (
-        run_given Prove words end (codes "unit") run,
-        run_given Prove words end (codes "netlist") run,
-        limits_given _ (record limits { reach = false; covers = true }) (range_with limits false true range) (run_given Prove words end (codes "depth") run)
-            (run_given Prove words end (codes "visits") run) (run_given Prove words end (codes "steps") run)
-            (ap is_true (run_given Prove words end (codes "reach") run)) (ap is_true (run_given Prove words end (codes "covers") run)),
-        certified _ _ (run_given Prove words end (codes "cert") run) (run_given Prove words end (codes "vcd") run) (run_given Prove words end (codes "loops") run)
-            (ap is_true (run_given Prove words end (codes "buses") run)),
-      ),
-    )
-options_with most a b prefix limits false false plain range =
-    let words = options_then a b limits prefix (flags false false) in
-    let before = behind_options a b limits prefix in
-    let end = before in
-    let run = options_run a b prefix limits (flags false false) end plain range (ends Prove end) in (
-      record { named = refl; taken = run_taken Prove words end run refl },
-      (
-        run_given Prove words end (codes "unit") run,
-        run_given Prove words end (codes "netlist") run,
-        limits_given _ (record limits { reach = false; covers = false }) (range_with limits false false range) (run_given Prove words end (codes "depth") run)
-            (run_given Prove words end (codes "visits") run) (run_given Prove words end (codes "steps") run)
-            (ap is_true (run_given Prove words end (codes "reach") run)) (ap is_true (run_given Prove words end (codes "covers") run)),
-        certified _ _ (run_given Prove words end (codes "cert") run) (run_given Prove words end (codes "vcd") run) (run_given Prove words end (codes "loops") run)
-            (ap is_true (run_given Prove words end (codes "buses") run)),
-      ),
-    )
-
-pub plain_options : (most : ℕ) (unit netlist prefix : List ℕ) (limits : Limits) → ArePlain unit netlist prefix → AreInRange limits
-    → IsCommand most (with_options unit netlist limits prefix) (prove unit netlist limits (certificates_in (Some prefix)))
-plain_options most a b prefix limits plain range = options_with most a b prefix limits limits.reach limits.covers plain range
 
 pub plain_check : (most : ℕ) (unit netlist certificate : List ℕ) (number : ℕ) → ArePlain unit netlist certificate → 1 ≤ number
     → number < 2 ^ 32 → IsCommand most (to_check unit netlist number certificate) (check unit netlist number certificate)
@@ -514,7 +442,7 @@ plain_recordings most a b prefix number plain some most_loops =
         run_given Prove words end (codes "unit") run,
         run_given Prove words end (codes "netlist") run,
         usual _ usual_limits depth (run_given Prove words end (codes "visits") run) (run_given Prove words end (codes "steps") run) (ap is_true (run_given Prove words end (codes "reach") run))
-            (ap is_true (run_given Prove words end (codes "covers") run)),
+            (ap is_true (run_given Prove words end (codes "covers") run)) (ap is_true (run_given Prove words end (codes "progress") run)),
         record {
           cert = run_given Prove words end (codes "cert") run;
           vcd = run_given Prove words end (codes "vcd") run;
@@ -548,7 +476,7 @@ plain_buses most a b prefix plain =
         run_given Prove words end (codes "unit") run,
         run_given Prove words end (codes "netlist") run,
         usual _ usual_limits depth (run_given Prove words end (codes "visits") run) (run_given Prove words end (codes "steps") run) (ap is_true (run_given Prove words end (codes "reach") run))
-            (ap is_true (run_given Prove words end (codes "covers") run)),
+            (ap is_true (run_given Prove words end (codes "covers") run)) (ap is_true (run_given Prove words end (codes "progress") run)),
         record {
           cert = run_given Prove words end (codes "cert") run;
           vcd = run_given Prove words end (codes "vcd") run;

@@ -45,13 +45,14 @@ abbrev pub IsUnknown : Option (List ℕ) → Unknown → Type 0
 IsUnknown value unknown = value ≡ Some (word_of unknown)
 
 -- The options of `prove` say these limits: a depth from 1 to 1,000, at most 16 visits, from 1 to 10,000,000 steps, and
--- whether `--reach` and `--covers` are given.
+-- whether `--reach`, `--covers` and `--progress` are given.
 pub record AreLimits (values : Values) (limits : Limits) : Type 0 where
   pub depth : IsGiven 1 MOST_DEPTH (values (codes "depth")) limits.depth
   pub visits : IsGiven 0 MOST_VISITS (values (codes "visits")) limits.visits
   pub steps : IsGiven 1 MOST_STEPS (values (codes "steps")) limits.steps
   pub reach : is_true (values (codes "reach")) ≡ limits.reach
   pub covers : is_true (values (codes "covers")) ≡ limits.covers
+  pub progress : is_true (values (codes "progress")) ≡ limits.progress
 
 -- What values say: `wave UNIT RECORDING` with how unknown bits read and whether `--where` is given, `gen SEED SAMPLES`,
 -- `show UNIT NAMES`, `show UNIT NAMES --netlist`, `prove UNIT NETLIST` with its limits and files, `check UNIT NETLIST NUMBER CERTIFICATE`, or

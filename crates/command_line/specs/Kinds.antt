@@ -32,7 +32,8 @@ rules_of Show = required (codes "unit") ∷ required (codes "names") ∷ flag (c
 rules_of Prove = required (codes "unit") ∷ required (codes "netlist") ∷ option (codes "depth") (codes "20")
     ∷ option (codes "visits") (codes "4") ∷ option (codes "steps") (codes "1000000")
     ∷ optional (codes "cert") ∷ optional (codes "vcd") ∷ option (codes "loops") (codes "1") ∷ flag (codes "reach")
-    ∷ flag (codes "covers") ∷ flag (codes "buses") ∷ []
+    ∷ flag (codes "covers") ∷ flag (codes "buses")
+    ∷ flag (codes "progress") ∷ []
 rules_of Check = required (codes "unit") ∷ required (codes "netlist") ∷ required (codes "number")
     ∷ required (codes "certificate") ∷ []
 rules_of Replay = required (codes "unit") ∷ required (codes "netlist") ∷ required (codes "recording") ∷ []

@@ -22,7 +22,7 @@ with_points unit recording unknown = codes "wave" ∷ unit ∷ recording ∷ cod
 
 -- the limits where no option is given
 abbrev pub usual_limits : Limits
-usual_limits = record { depth = 20; visits = 4; steps = 1000000; reach = false; covers = false }
+usual_limits = record { depth = 20; visits = 4; steps = 1000000; reach = false; covers = false; progress = false }
 
 abbrev pub limits_of_depth : ℕ → Limits
 limits_of_depth number = record usual_limits { depth = number }
@@ -35,23 +35,31 @@ limits_of_reach = record usual_limits { reach = true }
 abbrev pub limits_of_covers : Limits
 limits_of_covers = record usual_limits { covers = true }
 
--- the flags that are to be given
-abbrev pub flags : Bool → Bool → List (List ℕ)
-flags true true = codes "--reach" ∷ codes "--covers" ∷ []
-flags true false = codes "--reach" ∷ []
-flags false true = codes "--covers" ∷ []
-flags false false = []
+-- the limits where `--progress` alone is given
+abbrev pub limits_of_progress : Limits
+limits_of_progress = record usual_limits { progress = true }
+
+-- a flag in front of others, where it is to be given
+abbrev pub flag_then : Bool → List ℕ → List (List ℕ) → List (List ℕ)
+flag_then true name others = name ∷ others
+flag_then false name others = others
+
+-- the flags that limits have
+abbrev pub flags : Bool → Bool → Bool → List (List ℕ)
+flags reach covers progress =
+    flag_then reach (codes "--reach") (flag_then covers (codes "--covers") (flag_then progress (codes "--progress") []))
 
 -- `prove UNIT NETLIST --depth N`
 abbrev pub with_depth : List ℕ → List ℕ → ℕ → List (List ℕ)
 with_depth unit netlist number = codes "prove" ∷ unit ∷ netlist ∷ codes "--depth" ∷ decimal number ∷ []
 
--- `prove --cert PREFIX --steps N --visits N UNIT --depth N NETLIST`, and behind it `--reach` and `--covers` where the limits
--- have them
+-- `prove --cert PREFIX --steps N --visits N UNIT --depth N NETLIST`, and behind it `--reach`, `--covers` and `--progress` where
+-- the limits have them
 abbrev pub with_options : List ℕ → List ℕ → Limits → List ℕ → List (List ℕ)
 with_options unit netlist limits prefix =
     codes "prove" ∷ codes "--cert" ∷ prefix ∷ codes "--steps" ∷ decimal limits.steps ∷ codes "--visits"
-    ∷ decimal limits.visits ∷ unit ∷ codes "--depth" ∷ decimal limits.depth ∷ netlist ∷ flags limits.reach limits.covers
+    ∷ decimal limits.visits ∷ unit ∷ codes "--depth" ∷ decimal limits.depth ∷ netlist
+    ∷ flags limits.reach limits.covers limits.progress
 
 -- certificates alone, where there is a prefix for them
 abbrev pub certificates_in : Option (List ℕ) → Wanted

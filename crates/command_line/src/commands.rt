@@ -183,5 +183,6 @@ fn limits_of(matches: &ArgMatches) -> Option<Limits>
         steps: u64::from(steps),
         reach: is_set(matches, "reach"),
         covers: is_set(matches, "covers"),
+        progress: is_set(matches, "progress"),
     })
 }

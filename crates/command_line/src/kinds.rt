@@ -78,6 +78,7 @@ pub fn args_of<'a>(alloc: Global, kind: Kind) -> Result<Vec<Arg<'a>>, AllocError
             flag(alloc, "reach"),
             flag(alloc, "covers"),
             flag(alloc, "buses"),
+            flag(alloc, "progress"),
         ]?,
         Kind::Check => vec![in alloc;
             required(alloc, "unit"),

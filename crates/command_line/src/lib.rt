@@ -6,7 +6,7 @@ ghost use Rattle.std.specs.Prelude.{◌≡◌, ◌∷◌, ◌<◌, ◌≤◌, �
 ghost use Rattle.command_line.specs.Commands.{IsCommand, IsNoCommand, IsRefused, Meaning, meaning_of, most_seed};
 ghost use Rattle.command_line.specs.Commands.Meaning.{wave as a_wave, gen as a_gen, show as a_show, show_netlist as a_netlist, prove as a_proof, check as a_check, replay as a_replay};
 ghost use Rattle.command_line.specs.Ranges.{AreInRange, IsInRange};
-ghost use Rattle.command_line.specs.Plain.{ArePlain, IsPlain, certificates_in, limits_of_covers, limits_of_depth, limits_of_reach, recordings_in, to_check, usual_limits};
+ghost use Rattle.command_line.specs.Plain.{ArePlain, IsPlain, certificates_in, limits_of_covers, limits_of_depth, limits_of_progress, limits_of_reach, recordings_in, to_check, usual_limits};
 ghost use Rattle.command_line.specs.Plain.{vectors_in, with_buses, with_depth, with_options, with_points, with_recordings, with_unknown};
 
 mod commands;
@@ -122,6 +122,9 @@ pub struct Limits {
 
     /// Whether covers are asked too: `--covers`.
     pub covers: bool,
+
+    /// Whether it is told while the search goes on how far it has come: `--progress`.
+    pub progress: bool,
 }
 
 /// Why words give no command.
@@ -201,6 +204,7 @@ pub fn plain_words()
         → IsCommand most (with_depth unit netlist depth) (a_proof unit netlist (limits_of_depth depth) (certificates_in None)) }
     ensures reach { (most : ℕ) (unit netlist : List ℕ) → IsPlain unit → IsPlain netlist → IsCommand most (codes "prove" ∷ unit ∷ netlist ∷ codes "--reach" ∷ []) (a_proof unit netlist limits_of_reach (certificates_in None)) }
     ensures covers { (most : ℕ) (unit netlist : List ℕ) → IsPlain unit → IsPlain netlist → IsCommand most (codes "prove" ∷ unit ∷ netlist ∷ codes "--covers" ∷ []) (a_proof unit netlist limits_of_covers (certificates_in None)) }
+    ensures progress { (most : ℕ) (unit netlist : List ℕ) → IsPlain unit → IsPlain netlist → IsCommand most (codes "prove" ∷ unit ∷ netlist ∷ codes "--progress" ∷ []) (a_proof unit netlist limits_of_progress (certificates_in None)) }
     ensures options { (most : ℕ) (unit netlist cert : List ℕ) (limits : Limits) → ArePlain unit netlist cert → AreInRange limits
         → IsCommand most (with_options unit netlist limits cert) (a_proof unit netlist limits (certificates_in (Some cert))) }
     ensures recordings { (most : ℕ) (unit netlist vcd : List ℕ) (loops : ℕ) → ArePlain unit netlist vcd → 1 ≤ loops → loops ≤ 16
