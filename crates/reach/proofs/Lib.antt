@@ -1,4 +1,5 @@
 pub mod Asked
+pub mod Holding
 pub mod Inductive
 pub mod InitialLiterals
 pub mod Loops

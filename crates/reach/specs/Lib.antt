@@ -1,6 +1,7 @@
 pub mod Answers
 pub mod Entering
 pub mod Formulas
+pub mod Holding
 pub mod Knowing
 pub mod Pacing
 pub mod Plain

@@ -1,6 +1,7 @@
 -- How contracts see one of two searches side by side, what it keeps, and what its turn comes to.
 use Rattle.std.specs.Prelude.{◌≡◌, ℕ, ◌≤◌, false, List, length, Option, None, IfSome, IfNone, IsSome}
 use Rattle.joint.specs.Joined.{Joined}
+use Rattle.reach.specs.Holding.{HaveHeld}
 use Rattle.reach.specs.Searched.{Searched}
 use Rattle.reach.specs.Systems.{system_of}
 use Rattle.reach.specs.Answers.{IsReached}
@@ -33,6 +34,7 @@ pub record IsSought (joined : Joined) (most : ℕ) (sought : Sought) : Type 0 wh
   pub good : AreGood joined most sought.frames
   pub more : most ≤ sought.room
   pub few : sought.room ≤ 1000
+  pub held : IfSome sought.held (HaveHeld joined)
 
 pub record IsSide (search : Inside) : Type 0 where
   pub depth : search.most ≤ 1000

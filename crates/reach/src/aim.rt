@@ -1,8 +1,9 @@
 // Two searches side by side, and how one of them takes its turn.
 ghost use Rattle.std.specs.Prelude.{◌≤◌, IfOk, IfSome};
+ghost use Rattle.reach.specs.Holding.{HaveHeld};
 ghost use Rattle.reach.specs.Sides.{IsGoing, IsLeft, IsTurned};
 
-use crate::answer::Reached;
+use crate::answer::{FrameCount, Reached};
 use crate::side::Side;
 use joint::Joint;
 use psl_base::NoMemory;
@@ -94,5 +95,16 @@ impl<'a> Aim<'a> {
                 }
             }
         }
+    }
+}
+
+/// How many frames of a search keep the bad states out, once some do.
+pub(crate) fn held_of(aim: Aim<'_>, side: &Option<Side<'_>>) -> Option<FrameCount>
+    requires { IfSome side.now (IsGoing aim) }
+    ensures { IfSome result (HaveHeld aim.entry.joint.now) }
+{
+    match side {
+        Some(side) => side.held(),
+        None => None,
     }
 }

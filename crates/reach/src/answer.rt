@@ -15,6 +15,13 @@ pub struct Frames {
     pub stuck: JointStates,
 }
 
+/// How many frames keep the bad states out, and how many clauses the last of them has.
+#[derive(Clone, Copy, Debug, PartialEq, Eq)]
+pub struct FrameCount {
+    pub frames: usize,
+    pub clauses: usize,
+}
+
 /// What is found out about the bad states.
 #[derive(Debug, Drop)]
 pub enum Reached {

@@ -32,7 +32,7 @@ mod stepping;
 mod table_values;
 mod ternary;
 
-pub use answer::{ClauseLists, Frames, Reached};
+pub use answer::{ClauseLists, FrameCount, Frames, Reached};
 pub use reach_frames::ReachQuery;
 pub use reaching::reach;
 pub use search::Search;

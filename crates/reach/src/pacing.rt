@@ -1,11 +1,12 @@
 // Keeping the bad states out of frames, and how far cubes are followed on the way.
-ghost use Rattle.std.specs.Prelude.{◌≡◌, ◌≤◌, ◌<◌, [], length, IfOk, IfErr, OnOk};
+ghost use Rattle.std.specs.Prelude.{◌≡◌, ◌≤◌, ◌<◌, [], None, true, length, IfOk, IfErr, OnOk};
 ghost use Rattle.reach.specs.Pacing.{is_too_long};
 ghost use Rattle.reach.specs.Questions.{IsStop};
 ghost use Rattle.reach.specs.Sides.{AreGood};
 ghost use Rattle.reach.specs.Systems.{system_of};
 ghost use Rattle.reach_frames.specs.Steps.{IsStep};
 
+use crate::answer::FrameCount;
 use crate::machine::JointMachine;
 use reach_frames::{Frames, Step, Stop};
 use std::alloc::Global;
@@ -33,6 +34,8 @@ pub(crate) struct Pace {
 pub(crate) struct Sought {
     pub frames: Frames,
     pub room: u32,
+    /// How many of them keep the bad states out, once some do. There may be one more, which does not yet.
+    pub held: Option<FrameCount>,
 }
 
 impl Sought {
@@ -42,10 +45,27 @@ impl Sought {
         ensures frames { result.frames ≡ [] }
         ensures more { most ≤ result.room }
         ensures few { result.room ≤ 1000 }
+        ensures held { result.held ≡ None }
     {
         Sought {
             frames: Frames::new(alloc),
             room: most.saturating_mul(TIMES_ROOM).min(MOST_ROOM).max(most),
+            held: None,
+        }
+    }
+
+    /// Whether there is to be a frame more, of so many that are wanted: each that there is keeps the bad states out.
+    pub fn wants_frame(&self, wanted: u32) -> bool
+        ensures few { result ≡ true → length self.now.frames < wanted }
+        ensures first { self.now.frames ≡ [] → 1 ≤ wanted → result ≡ true }
+    {
+        let count = self.frames.len();
+        if count >= wanted as usize {
+            return false;
+        }
+        match self.held {
+            Some(held) => count == 0 || held.frames == count,
+            None => count == 0,
         }
     }
 }
@@ -89,6 +109,7 @@ pub(crate) fn cleared(
     ensures many { OnOk result (length sought.new.frames ≡ length sought.old.frames) }
     ensures more { pace.most ≤ sought.new.room }
     ensures few { sought.new.room ≤ 1000 }
+    ensures held { sought.new.held ≡ sought.old.held }
     ensures step { IfOk result (IsStep (system_of machine.now.joint.now) pace.most pace.budget sought.new.frames) }
     ensures stopped { IfErr result (IsStop machine.now.joint.now machine.now.steps) }
 {

@@ -1,9 +1,10 @@
 // A search that can be gone on with.
 ghost use Rattle.std.specs.Prelude.{◌≡◌, ◌≤◌, ℕ, None, true, false, IfOk, IfSome, IfNone, IsSome, OnErr};
 ghost use Rattle.reach.specs.Answers.{IsReached};
+ghost use Rattle.reach.specs.Holding.{HaveHeld};
 
-use crate::aim::{Aim, Turned};
-use crate::answer::Reached;
+use crate::aim::{Aim, Turned, held_of};
+use crate::answer::{FrameCount, Reached};
 use crate::side::Side;
 use joint::Joint;
 use psl_base::NoMemory;
@@ -92,7 +93,8 @@ impl<'a> Search<'a> {
 
     /// Goes on until so many frames keep the bad states out. Where that leaves it open what is found out, nothing is
     /// told yet: more frames are to come, or the budget is spent. A budget is how many states the search may come back
-    /// to for each frame; none is never spent.
+    /// to for each frame; none is never spent. Without one the first of the two searches goes on alone until it has
+    /// ended.
     ///
     /// The answer speaks of the most frames that there are to be.
     ///
@@ -121,6 +123,12 @@ impl<'a> Search<'a> {
             Turned::Decided(reached) => return Ok(Some(reached)),
             Turned::On(first, left) => (first, left),
         };
+        if first.is_some() && budget.is_none() {
+            self.first = first;
+            self.left = left;
+            self.has_ended = false;
+            return Ok(None);
+        }
         let begins = begins(self.is_late, first.is_some(), budget);
         let second = aim.begun(alloc, self.second.take(), begins)?;
         let (second, left) = match aim.turn(alloc, second, left, frames, budget)? {
@@ -143,6 +151,20 @@ impl<'a> Search<'a> {
         ensures { result ≡ self.now.has_ended }
     {
         self.has_ended
+    }
+
+    /// How many frames keep the bad states out, once some do: the more of the two searches.
+    pub fn held(&self) -> Option<FrameCount>
+        requires { self.now.has_ended ≡ false }
+        ensures { IfSome result (HaveHeld self.now.joined) }
+    {
+        let first = held_of(self.aim, &self.first);
+        let second = held_of(self.aim, &self.second);
+        match (first, second) {
+            (Some(one), Some(other)) if one.frames < other.frames => second,
+            (None, _) => second,
+            _ => first,
+        }
     }
 }
 

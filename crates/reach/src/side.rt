@@ -2,9 +2,10 @@
 ghost use Rattle.std.specs.Prelude.{◌≡◌, ◌≤◌, ℕ, None, true, false, IfOk, IfSome, IfNone, IsSome, OnErr};
 ghost use Rattle.joint.specs.Joined.{Joined};
 ghost use Rattle.reach.specs.Answers.{IsReached};
+ghost use Rattle.reach.specs.Holding.{HaveHeld};
 ghost use Rattle.reach.specs.Questions.{IsStop};
 
-use crate::answer::Reached;
+use crate::answer::{FrameCount, Reached};
 use crate::machine::JointMachine;
 use crate::pacing::{Pace, Sought};
 use crate::stepping::strengthen;
@@ -121,6 +122,14 @@ impl<'a> Side<'a> {
         ensures { result ≡ self.now.has_ended }
     {
         self.has_ended
+    }
+
+    /// How many frames keep the bad states out, once some do.
+    pub fn held(&self) -> Option<FrameCount>
+        requires { self.now.has_ended ≡ false }
+        ensures { IfSome result (HaveHeld self.now.joined) }
+    {
+        self.sought.held
     }
 }
 

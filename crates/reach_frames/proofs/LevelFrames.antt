@@ -1,7 +1,8 @@
 -- Frames of levels: what a level adds, and what changes with one.
-use Rattle.std.proofs.Common.{◌≡◌, ◌≢◌, ℕ, zero, suc, ◌+◌, ◌-◌, ◌<◌, ◌≤◌, ℤ, Bool, true, ◌&&◌, ◌||◌, List, [], ◌∷◌, ◌++◌, length, get_or, set, refl, sym, ap, ◌∙◌, subst, arith, append_assoc, add-zero, add-suc}
+use Rattle.std.proofs.Common.{◌≡◌, ◌≢◌, ℕ, zero, suc, ◌+◌, ◌-◌, ◌<◌, ◌≤◌, ℤ, Bool, true, ◌&&◌, ◌||◌, List, [], ◌∷◌, ◌++◌, length, get_or, set, refl, sym, ap, ◌∙◌, subst, arith, append_assoc, length-append, add-zero, add-suc}
 use Rattle.std.specs.List.{list_all, list_any, All, Contains}
 use Rattle.std.proofs.lemmas.Bool.{and_parts}
+use Rattle.std.proofs.lemmas.List.{length-map}
 use Rattle.std.proofs.lemmas.List.Elements.{All-contains_itself, All-weaker, Contains-append_right}
 use Rattle.std.proofs.lemmas.List.Folds.{list_all-append, list_any-append}
 use Rattle.clauses.specs.Models.{meets}
@@ -27,6 +28,13 @@ pub frame_past : (levels : List (List KeptClause)) (place : ℕ) → length leve
 frame_past [] place past = refl
 frame_past (level ∷ levels) zero past = absurd (omega arith)
 frame_past (level ∷ levels) (suc place) past = frame_past levels place (omega (arith, past))
+
+-- the last frame has the clauses of the last level
+pub last_frame : (levels : List (List KeptClause)) (place : ℕ) → suc place ≡ length levels → length (frame_in levels place) ≡ length (get_or levels place [])
+last_frame levels place last =
+    let whole : frame_in levels place ≡ clauses_of (get_or levels place []) ++ [] =
+    frame_tail levels place ∙ ap (λ (rest : List (List ℤ)). clauses_of (get_or levels place []) ++ rest) (frame_past levels (suc place) (omega (arith, last))) in
+    omega (arith, ap length whole, length-append (clauses_of (get_or levels place [])) [], length-map (get_or levels place []) (λ kept. kept.clause))
 
 pub frame_among : (levels : List (List KeptClause)) (place : ℕ) → All (Contains (frame_in levels place)) (frame_in levels (suc place))
 frame_among levels place =

@@ -61,6 +61,14 @@ impl Frames {
         self.levels.len()
     }
 
+    /// How many clauses the last frame has.
+    pub fn last_len(&self) -> usize
+        requires { 0 < length self.now }
+        ensures { result ≡ length (frame_in self.now (length self.now - 1)) }
+    {
+        self.count_at(self.len() - 1)
+    }
+
     /// Adds a frame behind the others, without clauses.
     pub fn open(&mut self, alloc: Global) -> Result<(), NoMemory>
         ensures ok { OnOk result (self.new ≡ self.old ++ [] ∷ []) }

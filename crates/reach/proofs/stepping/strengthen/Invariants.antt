@@ -1,4 +1,6 @@
 use Rattle.std.proofs.Common.{◌≤◌, ◌<◌, ◌-◌, length}
+use Rattle.std.specs.Prelude.{IfSome}
+use Rattle.reach.specs.Holding.{HaveHeld}
 use Rattle.reach.specs.Sides.{AreGood}
 use Rattle.reach.proofs.stepping.strengthen.Given as goal
 
@@ -8,6 +10,7 @@ invariant-loop-reached l = record {
   some : 0 < length l.sought.frames;
   more : l.pace.most ≤ l.sought.room;
   few : l.sought.room ≤ 1000;
+  held : IfSome l.sought.held (HaveHeld l.machine.joint.now);
 }
 
 abbrev pub decreases-loop-reached : goal.decreases-loop-reached
