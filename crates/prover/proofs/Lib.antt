@@ -8,3 +8,4 @@ pub mod Seen
 pub mod Small
 pub mod Turned
 pub mod Turning
+pub mod Voicing

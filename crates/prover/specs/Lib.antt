@@ -3,12 +3,14 @@ pub mod Ends
 pub mod Findings
 pub mod Glances
 pub mod Kept
+pub mod Milestones
 pub mod Proving
 pub mod Queries
 pub mod Raised
 pub mod Reaching
 pub mod Stops
 pub mod Tasks
+pub mod Telling
 pub mod Views
 pub mod Violating
 pub mod Windows

@@ -1,20 +1,27 @@
-ghost use Rattle.std.specs.Prelude.{IfOk, IfErr};
+ghost use Rattle.std.specs.Prelude.{◌≡◌, ◌-◌, suc, IfOk, IfErr};
 ghost use Rattle.prover.specs.Claims.{IsReady};
 ghost use Rattle.prover.specs.Findings.{IsFinding};
+ghost use Rattle.prover.specs.Kept.{AreKeptFor};
 ghost use Rattle.prover.specs.Reaching.{searches_of, AreEndsFor};
-ghost use Rattle.prover.specs.Stops.{IsFindingFor, IsStopOf, IsUndecidedFor};
+ghost use Rattle.prover.specs.Stops.{IsFindingFor, IsLookedAtFor, IsUndecidedFor};
+ghost use Rattle.prover.specs.Telling.{HasToldFor, IsFaultAt, IsHaltAt};
 ghost use Rattle.prover.specs.Tasks.{IsProvable};
 
 use crate::claim::claim_of;
 use crate::context::Prover;
 use crate::finding::{Finding, OpenPaths, ReachEnds};
-use crate::reaching::{Reaching, budget_at};
+use crate::halt::{Halt, ProveFault};
+use crate::milestone::{Milestone, Wording};
+use crate::reaching::Reaching;
 use crate::searching::Searched;
+use crate::silence::{Nowhere, Silent};
 use crate::stop::Stop;
 use crate::task::Task;
+use crate::telling::Begun;
 use prover_bmc::{Opens, Prefixes};
-use psl_base::NoMemory;
+use psl_base::{NoMemory, Sink};
 use std::alloc::Global;
+use std::marker::Brand;
 
 /// Seeks a proof that each run of the netlist satisfies what is owed, and a run that does not. For each number from 1
 /// to the depth it looks for a run of so many valuations that does not, and for longer ones ahead of it; then for a path of
@@ -33,46 +40,144 @@ pub fn prove(alloc: Global, task: Task) -> Result<Finding, NoMemory>
     ensures { IfOk result (IsFinding task.entry.netlist.now task.entry.unit.now task.entry.directive.now
         task.entry.options) }
 {
+    let mut nowhere = Nowhere;
+    match prove_aloud(alloc, task, &Silent, &mut nowhere) {
+        Ok(finding) => Ok(finding),
+        Err(ProveFault::NoMemory) => Err(NoMemory),
+        Err(ProveFault::Unwritten) => unreachable!(),
+    }
+}
+
+/// The same, and while it goes on its milestones are told, each when it is found out, by its line on a sink.
+///
+/// # Errors
+///
+/// `NoMemory` if memory is refused, and `Unwritten` once only the first bytes of a line could be written.
+pub fn prove_aloud<W: Wording, E: Sink>(
+    alloc: Global,
+    task: Task,
+    wording: &W,
+    err: &mut E,
+) -> Result<Finding, ProveFault>
+    requires { IsProvable task }
+    ensures finding { IfOk result (IsFindingFor task.entry) }
+    ensures told { IfOk result (λ _. HasToldFor task.entry (W.line wording.now) (E.state err.old) (E.state err.new)) }
+    ensures fault { IfErr result (IsFaultAt task.entry (W.line wording.now) (E.state err.old) (E.state err.new)) }
+{
     let claim = claim_of(alloc, task)?;
     let prover = Prover {
         task,
         claim: &claim,
     };
-    match prover.left_open(alloc) {
+    match prover.left_open::<W, E, Brand>(alloc, wording, err) {
         Ok(finding) => Ok(finding),
-        Err(Stop::Found(finding)) => Ok(finding),
-        Err(Stop::NoMemory) => Err(NoMemory),
+        Err(Halt::Stopped(Stop::Found(finding))) => Ok(finding),
+        Err(Halt::Stopped(Stop::NoMemory)) => Err(ProveFault::NoMemory),
+        Err(Halt::Unwritten) => Err(ProveFault::Unwritten),
     }
 }
 
 impl Prover<'_> {
     // What is found behind the last window. It stops where something is found out before.
-    fn left_open(self, alloc: Global) -> Result<Finding, Stop>
-        requires { IsReady self }
+    fn left_open<W: Wording, E: Sink, B: Begun>(
+        self,
+        alloc: Global,
+        wording: &W,
+        err: &mut E,
+    ) -> Result<Finding, Halt>
+        requires ready { IsReady self }
+        requires told { HasToldFor self.task (W.line wording.now) B.sink (E.state err.old) }
         ensures finding { IfOk result (IsFindingFor self.entry.task) }
-        ensures stop { IfErr result (IsStopOf self.entry.task) }
+        ensures told { IfOk result (λ _. HasToldFor self.entry.task (W.line wording.now) B.sink (E.state err.new)) }
+        ensures halt { IfErr result (IsHaltAt self.entry.task (W.line wording.now) B.sink (E.state err.new)) }
     {
         let begun = Searched {
             none_within: 0,
             lemmas: 0,
         };
-        let mut searched = self.search(alloc, 1, begun)?;
+        let mut searched = self.search_at::<W, E, B>(alloc, wording, err, 1, begun)?;
         let mut prefixes = Prefixes::new(alloc, self.task.netlist, &self.claim.violation)?;
-        let mut held = self.hold_ahead(alloc, &mut prefixes, 0, 1, searched)?;
+        let mut held = self.hold_ahead::<W, E, B>(
+            alloc,
+            wording,
+            err,
+            &mut prefixes,
+            0,
+            1,
+            searched,
+        )?;
         let mut opens = Opens::new(alloc, self.task.netlist, &self.claim.violation)?;
-        let mut paths = self.first_paths(alloc, &mut opens)?;
+        let mut paths = self.open_first::<W, E, B>(alloc, wording, err, &mut opens)?;
         let joints = self.joints(alloc)?;
-        let mut reaching = self.reach_on(alloc, budget_at(1), Reaching::new(alloc, &joints))?;
+        let unbegun = Reaching::new(alloc, &joints);
+        let mut reaching = self.reach_at::<W, E, B>(alloc, wording, err, 1, unbegun)?;
         for window in 2..=self.task.options.depth {
             if searched.none_within < window {
-                searched = self.search(alloc, window, searched)?;
+                searched = self.search_at::<W, E, B>(alloc, wording, err, window, searched)?;
             }
-            held = self.hold_ahead(alloc, &mut prefixes, held, window, searched)?;
-            paths = self.keep(alloc, &mut opens, window, paths)?;
-            reaching = self.reach_on(alloc, budget_at(window), reaching)?;
+            held = self.hold_ahead::<W, E, B>(
+                alloc,
+                wording,
+                err,
+                &mut prefixes,
+                held,
+                window,
+                searched,
+            )?;
+            paths = self.keep_on::<W, E, B>(alloc, wording, err, &mut opens, window, paths)?;
+            reaching = self.reach_at::<W, E, B>(alloc, wording, err, window, reaching)?;
         }
-        let Reaching { ends, .. } = self.reach_on(alloc, None, reaching)?;
+        let ends = self.reach_out::<W, E, B>(alloc, wording, err, reaching)?;
         Ok(self.undecided(paths, ends))
+    }
+
+    // The paths that keep the first window open, which is told.
+    fn open_first<W: Wording, E: Sink, B: Begun>(
+        self,
+        alloc: Global,
+        wording: &W,
+        err: &mut E,
+        opens: &mut Opens<'_>,
+    ) -> Result<OpenPaths, Halt>
+        requires ready { IsReady self }
+        requires netlist { opens.old ≡ self.task.netlist.now }
+        requires looked_at { IsLookedAtFor self.task 0 1 }
+        requires told { HasToldFor self.task (W.line wording.now) B.sink (E.state err.old) }
+        ensures netlist { opens.new ≡ opens.old }
+        ensures paths { IfOk result (AreKeptFor self.entry.task (suc self.entry.task.options.visits) 1) }
+        ensures told { IfOk result (λ _. HasToldFor self.entry.task (W.line wording.now) B.sink (E.state err.new)) }
+        ensures halt { IfErr result (IsHaltAt self.entry.task (W.line wording.now) B.sink (E.state err.new)) }
+    {
+        let paths = self.first_paths(alloc, opens)?;
+        let milestone = Milestone::Open(1, self.task.options.visits);
+        self.tell::<W, E, B>(alloc, wording, err, milestone)?;
+        Ok(paths)
+    }
+
+    // The paths that keep the window open, which is told, where these keep open the one before.
+    fn keep_on<W: Wording, E: Sink, B: Begun>(
+        self,
+        alloc: Global,
+        wording: &W,
+        err: &mut E,
+        opens: &mut Opens<'_>,
+        window: u32,
+        known: OpenPaths,
+    ) -> Result<OpenPaths, Halt>
+        requires ready { IsReady self }
+        requires netlist { opens.old ≡ self.task.netlist.now }
+        requires looked_at { IsLookedAtFor self.task 0 window }
+        requires known { AreKeptFor self.task (suc self.task.options.visits) (window - 1) known }
+        requires told { HasToldFor self.task (W.line wording.now) B.sink (E.state err.old) }
+        ensures netlist { opens.new ≡ opens.old }
+        ensures paths { IfOk result (AreKeptFor self.entry.task (suc self.entry.task.options.visits) window) }
+        ensures told { IfOk result (λ _. HasToldFor self.entry.task (W.line wording.now) B.sink (E.state err.new)) }
+        ensures halt { IfErr result (IsHaltAt self.entry.task (W.line wording.now) B.sink (E.state err.new)) }
+    {
+        let paths = self.keep(alloc, opens, window, known)?;
+        let milestone = Milestone::Open(window, self.task.options.visits);
+        self.tell::<W, E, B>(alloc, wording, err, milestone)?;
+        Ok(paths)
     }
 
     // Nothing but open paths, and the ends of the searches where inductive clauses are sought.

@@ -1,17 +1,21 @@
 // The searches for inductive clauses, behind the queries of each window.
-ghost use Rattle.std.specs.Prelude.{◌≡◌, ◌≤◌, suc, [], None, true, length, IfOk, IfErr, IfSome};
+ghost use Rattle.std.specs.Prelude.{◌≡◌, ◌≤◌, suc, [], None, true, false, IfOk, IfErr, IfSome};
 ghost use Rattle.joint.specs.Joined.{Joined};
 ghost use Rattle.prover.specs.Claims.{IsReady};
-ghost use Rattle.prover.specs.Reaching.{joint_for, searches_of, AreJointsFor, HaveEnded, IsBegun, IsEndFor, IsReaching};
+ghost use Rattle.prover.specs.Reaching.{joint_for, searches_of, AreEndsFor, AreJointsFor, HaveEnded, IsBegun, IsEndFor, IsReaching};
 ghost use Rattle.prover.specs.Stops.{IsLookedAtFor, IsStopOf, StaysOpenFor};
+ghost use Rattle.prover.specs.Telling.{HasToldFor, IsHaltAt};
 ghost use Rattle.reach.specs.Answers.{IsReached};
 
 use crate::context::Prover;
 use crate::finding::{Finding, Query, ReachEnds};
+use crate::halt::Halt;
+use crate::milestone::{Milestone, Wording};
 use crate::stop::Stop;
+use crate::telling::Begun;
 use cert_theory::InductiveCert;
 use joint::{Joint, joint};
-use psl_base::{Items, NoMemory};
+use psl_base::{Items, NoMemory, Sink};
 use reach::{Reached, Search};
 use std::alloc::Global;
 
@@ -50,9 +54,37 @@ impl<'j, 'a> Reaching<'j, 'a> {
     }
 }
 
-/// How many states the searches may come back to behind the queries of a window, for each frame.
-pub(crate) fn budget_at(window: u32) -> Option<u64> {
+// How many states the searches may come back to behind the queries of a window, for each frame.
+fn budget_at(window: u32) -> Option<u64> {
     Some(STATES_OF_WINDOW * u64::from(window))
+}
+
+// How many of the searches have ended, and how many frames of the one that goes on keep the bad states out.
+fn frames_of(reaching: &Reaching<'_, '_>) -> (usize, usize)
+    requires { IfSome reaching.now.search (λ search. search.has_ended ≡ false) }
+{
+    let frames = match &reaching.search {
+        Some(search) => match search.held() {
+            Some(count) => count.frames,
+            None => 0,
+        },
+        None => 0,
+    };
+    (reaching.ends.len(), frames)
+}
+
+// The next frame of a search, up to so many.
+fn next_frame(search: &Search<'_>, most: u32) -> u32
+    requires goes_on { search.now.has_ended ≡ false }
+    requires some { 1 ≤ most }
+    ensures some { 1 ≤ result }
+    ensures few { result ≤ most }
+{
+    match search.held() {
+        Some(count) if count.frames < most as usize => count.frames as u32 + 1,
+        Some(_) => most,
+        None => 1,
+    }
 }
 
 impl<'a> Prover<'a> {
@@ -77,9 +109,124 @@ impl<'a> Prover<'a> {
 }
 
 impl Prover<'_> {
-    /// Goes on with the searches, one after the other, until one spends the budget; with none, until each has ended. It
-    /// stops where one finds inductive clauses: then the directive is proved.
-    pub fn reach_on<'j, 'a>(
+    /// Goes on with the searches behind the queries of a window, one after the other, until one spends its budget, and
+    /// tells how many frames it has then. It stops where one finds inductive clauses: then the directive is proved.
+    pub fn reach_at<'j, 'a, W: Wording, E: Sink, B: Begun>(
+        self,
+        alloc: Global,
+        wording: &W,
+        err: &mut E,
+        window: u32,
+        known: Reaching<'j, 'a>,
+    ) -> Result<Reaching<'j, 'a>, Halt>
+        requires ready { IsReady self }
+        requires known { IsReaching self.task known }
+        requires told { HasToldFor self.task (W.line wording.now) B.sink (E.state err.old) }
+        ensures reaching { IfOk result (IsReaching self.entry.task) }
+        ensures told { IfOk result (λ _. HasToldFor self.entry.task (W.line wording.now) B.sink (E.state err.new)) }
+        ensures halt { IfErr result (IsHaltAt self.entry.task (W.line wording.now) B.sink (E.state err.new)) }
+    {
+        let before = frames_of(&known);
+        let reaching = self.reach_on(alloc, budget_at(window), known)?;
+        if frames_of(&reaching) != before {
+            if let Some(search) = &reaching.search {
+                let visits = reaching.ends.len() as u32;
+                self.tell_frames::<W, E, B>(alloc, wording, err, visits, search)?;
+            }
+        }
+        Ok(reaching)
+    }
+
+    /// Goes on with the searches, one after the other, until each has ended, and tells each frame. It stops where one finds
+    /// inductive clauses: then the directive is proved.
+    pub fn reach_out<'j, 'a, W: Wording, E: Sink, B: Begun>(
+        self,
+        alloc: Global,
+        wording: &W,
+        err: &mut E,
+        known: Reaching<'j, 'a>,
+    ) -> Result<ReachEnds, Halt>
+        requires ready { IsReady self }
+        requires known { IsReaching self.task known }
+        requires told { HasToldFor self.task (W.line wording.now) B.sink (E.state err.old) }
+        ensures ends { IfOk result (AreEndsFor self.entry.task (searches_of self.entry.task.options)) }
+        ensures told { IfOk result (λ _. HasToldFor self.entry.task (W.line wording.now) B.sink (E.state err.new)) }
+        ensures halt { IfErr result (IsHaltAt self.entry.task (W.line wording.now) B.sink (E.state err.new)) }
+    {
+        let Reaching {
+            joints,
+            mut ends,
+            search: mut begun,
+        } = known;
+        for visits in ends.len()..joints.len() {
+            let search = self.search_of(alloc, joints.at(visits), begun)?;
+            begun = None;
+            let reached = self.end_search::<W, E, B>(alloc, wording, err, visits as u32, search)?;
+            ends.push(self.end_of(visits as u32, reached)?)?;
+        }
+        Ok(ends)
+    }
+
+    // Goes on with a search until it has ended, and tells each frame.
+    fn end_search<W: Wording, E: Sink, B: Begun>(
+        self,
+        alloc: Global,
+        wording: &W,
+        err: &mut E,
+        visits: u32,
+        begun: Search<'_>,
+    ) -> Result<Reached, Halt>
+        requires depth { 1 ≤ self.task.options.depth }
+        requires begun { IsBegun self.task (joint_for self.task visits) begun }
+        requires told { HasToldFor self.task (W.line wording.now) B.sink (E.state err.old) }
+        ensures reached { IfOk result (IsReached (joint_for self.entry.task visits) self.entry.task.options.depth
+            self.entry.task.options.steps) }
+        ensures told { IfOk result (λ _. HasToldFor self.entry.task (W.line wording.now) B.sink (E.state err.new)) }
+        ensures halt { IfErr result (IsHaltAt self.entry.task (W.line wording.now) B.sink (E.state err.new)) }
+    {
+        let depth = self.task.options.depth;
+        let mut search = begun;
+        let mut frames = next_frame(&search, depth);
+        while frames < depth {
+            match search.go_on(alloc, frames, None)? {
+                Some(reached) => return Ok(reached),
+                None => {}
+            }
+            self.tell_frames::<W, E, B>(alloc, wording, err, visits, &search)?;
+            frames += 1;
+        }
+        match search.go_on(alloc, depth, None)? {
+            Some(reached) => Ok(reached),
+            None => unreachable!(),
+        }
+    }
+
+    // Tells how many frames of a search keep the bad states out, once some do.
+    fn tell_frames<W: Wording, E: Sink, B: Begun>(
+        self,
+        alloc: Global,
+        wording: &W,
+        err: &mut E,
+        visits: u32,
+        search: &Search<'_>,
+    ) -> Result<(), Halt>
+        requires begun { IsBegun self.task (joint_for self.task visits) search.now }
+        requires told { HasToldFor self.task (W.line wording.now) B.sink (E.state err.old) }
+        ensures told { IfOk result (λ _. HasToldFor self.entry.task (W.line wording.now) B.sink (E.state err.new)) }
+        ensures halt { IfErr result (IsHaltAt self.entry.task (W.line wording.now) B.sink (E.state err.new)) }
+    {
+        match search.held() {
+            Some(count) => {
+                let milestone = Milestone::Frames(visits, count);
+                self.tell::<W, E, B>(alloc, wording, err, milestone)
+            }
+            None => Ok(()),
+        }
+    }
+
+    // Goes on with the searches, one after the other, until one spends the budget. It stops where one finds inductive
+    // clauses: then the directive is proved.
+    fn reach_on<'j, 'a>(
         self,
         alloc: Global,
         budget: Option<u64>,
@@ -88,8 +235,6 @@ impl Prover<'_> {
         requires ready { IsReady self }
         requires known { IsReaching self.task known }
         ensures reaching { IfOk result (IsReaching self.entry.task) }
-        ensures all { IfOk result (λ reaching. budget ≡ None
-            → length reaching.ends ≡ searches_of self.entry.task.options) }
         ensures stop { IfErr result (IsStopOf self.entry.task) }
     {
         let Reaching {

@@ -3,14 +3,18 @@ ghost use Rattle.std.specs.Prelude.{◌≡◌, ◌≤◌, suc, IfOk, IfErr, OnOk
 ghost use Rattle.prover.specs.Claims.{IsReady};
 ghost use Rattle.prover.specs.Glances.{IsOfSize, IsProgress, IsSearched, IsSearchedTo};
 ghost use Rattle.prover.specs.Stops.{IsSoughtFor, IsStopOf, IsTriedFor, NoneBelowFor, ViolatesFor};
+ghost use Rattle.prover.specs.Telling.{HasToldFor, IsHaltAt};
 
 use crate::context::Prover;
 use crate::finding::{Finding, Query};
 use crate::glance::{Glance, Untold};
+use crate::halt::Halt;
+use crate::milestone::{Milestone, Wording};
 use crate::stop::Stop;
+use crate::telling::Begun;
 use lasso_judge::satisfies;
 use netlist::Run;
-use psl_base::NoMemory;
+use psl_base::{NoMemory, Sink};
 use std::alloc::Global;
 
 // A look ahead takes at most so many times the lemmas of the last search, and so many more.
@@ -48,9 +52,32 @@ impl Searched {
 }
 
 impl Prover<'_> {
-    /// Looks for runs that violate what is owed, of so many valuations at least, and stops with a shortest one where
-    /// there is one, or where nothing is told.
-    pub fn search(self, alloc: Global, size: u32, last: Searched) -> Result<Searched, Stop>
+    /// Looks for runs that violate what is owed, of so many valuations at least, and tells how far it has come. It stops
+    /// with a shortest one where there is one, or where nothing is told of that size.
+    pub fn search_at<W: Wording, E: Sink, B: Begun>(
+        self,
+        alloc: Global,
+        wording: &W,
+        err: &mut E,
+        size: u32,
+        last: Searched,
+    ) -> Result<Searched, Halt>
+        requires ready { IsReady self }
+        requires sought { IsSoughtFor self.task size }
+        requires told { HasToldFor self.task (W.line wording.now) B.sink (E.state err.old) }
+        ensures searched { IfOk result (IsSearchedTo self.entry.task size) }
+        ensures told { IfOk result (λ _. HasToldFor self.entry.task (W.line wording.now) B.sink (E.state err.new)) }
+        ensures halt { IfErr result (IsHaltAt self.entry.task (W.line wording.now) B.sink (E.state err.new)) }
+    {
+        let searched = self.search(alloc, size, last)?;
+        let milestone = Milestone::NoneWithin(searched.none_within);
+        self.tell::<W, E, B>(alloc, wording, err, milestone)?;
+        Ok(searched)
+    }
+
+    // Looks for runs that violate what is owed, of so many valuations at least, and stops with a shortest one where
+    // there is one, or where nothing is told.
+    fn search(self, alloc: Global, size: u32, last: Searched) -> Result<Searched, Stop>
         requires ready { IsReady self }
         requires sought { IsSoughtFor self.task size }
         ensures searched { IfOk result (IsSearchedTo self.entry.task size) }

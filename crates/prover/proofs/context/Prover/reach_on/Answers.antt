@@ -56,13 +56,3 @@ returns-clause-reaching c = record {
   joints = c.requires.known.joints;
   come = come-to c.args.self.task c.loop-visits.visits c.loop-visits.ends c.loop-visits.begun None c.loop-visits.invariant tt;
 }
-
-pub returns-clause-all : goal.returns-clause-all
-returns-clause-all c = λ none. omega (
-  arith,
-  c.loop-visits.invariant.few,
-  c.loop-visits.invariant.each_end.many,
-  c.loop-visits-test.false,
-  c.len-visits-end.ensures,
-  c.requires.known.joints.many,
-)
