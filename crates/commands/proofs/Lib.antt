@@ -9,6 +9,7 @@ pub mod Netlists
 pub mod Numbering
 pub mod OneAnswer
 pub mod Pieces
+pub mod Progressing
 pub mod Reasons
 pub mod Recordings
 pub mod Replaying

@@ -5,6 +5,7 @@ pub mod Endings
 pub mod Faults
 pub mod Generated
 pub mod Planning
+pub mod Progress
 pub mod Provings
 pub mod Replays
 pub mod Rows

@@ -12,6 +12,7 @@ mod inputs;
 mod laws;
 mod outcome;
 mod printing;
+mod progress;
 mod prove;
 mod reason;
 mod replayed;

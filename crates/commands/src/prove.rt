@@ -1,26 +1,31 @@
-ghost use Rattle.std.specs.Prelude.{◌≡◌, ◌≤◌, ◌∷◌, [], All, IfOk};
+ghost use Rattle.std.specs.Prelude.{◌≡◌, ◌≤◌, ◌∷◌, [], true, All, IfOk, IfErr, OnErr};
 ghost use Rattle.command_line.specs.Evidences.{evidence_of};
 ghost use Rattle.command_line.specs.Ranges.{AreInRange};
+ghost use Rattle.commands.specs.Progress.{progress_line, LosesProgress, MayHaveProgress};
 ghost use Rattle.commands.specs.Provings.{FoundReading, IsFound, ProveStage, recordings_in};
 ghost use Rattle.commands.specs.Stages.{IsStage, IsReading};
 ghost use Rattle.findings.specs.Asked.{AreNumbered};
 ghost use Rattle.findings.specs.Columns.{ShowColumns};
 ghost use Rattle.findings.specs.Recordings.{wanted_of};
 ghost use Rattle.findings.specs.Sizes.{AreWithin};
+ghost use Rattle.findings.specs.Telling.{HaveTold, HaveToldPart, IsProveFault};
 ghost use Rattle.findings.specs.Traceable.{AreTraceable, HasTraces};
+ghost use Rattle.psl_base.specs.Shelf.{OnlyReads};
 ghost use Rattle.psl_tree.specs.Atoms.{AtomsOfFormula};
 ghost use Rattle.psl_tree.specs.Counts.{formula_size};
 ghost use Rattle.psl_tree.specs.Names.{AtomInRange};
 ghost use Rattle.psl_tree.specs.Trees.{formula_of};
 
-use crate::faults::size_fault;
+use crate::faults::{of_none, size_fault};
 use crate::outcome::Fault;
+use crate::progress::Progress;
+use crate::reason::Reason;
 use crate::subject::{Subject, load_subject};
 use command_line::{Evidence, Limits};
 use findings::{Findings, Recordings, check_all, columns, prove_all};
 use netlist::{Netlist, soundness_law};
-use prover::Options;
-use psl_base::{NoMemory, Shelf};
+use prover::{Options, ProveFault};
+use psl_base::{Failed, Shelf, Sink};
 use psl_tree::{Names, Unit};
 use std::alloc::Global;
 
@@ -42,48 +47,71 @@ pub struct Found {
 }
 
 /// Proves the assertions of a text of a netlist, both read from files, or finds runs that violate them, and asks its covers
-/// where the limits say so: `prove UNIT NETLIST`.
-pub fn prove<F: Shelf>(alloc: Global, files: &mut F, request: Request<'_>) -> Result<Found, Fault>
+/// where the limits say so: `prove UNIT NETLIST`. Where they say so, it is told on the second output how far it has come;
+/// it has failed once that cannot be written.
+pub fn prove<F: Shelf, E: Sink>(
+    alloc: Global,
+    files: &mut F,
+    err: &mut E,
+    request: Request<'_>,
+) -> Result<Result<Found, Fault>, Failed>
     requires range { AreInRange request.limits }
     requires loops { request.evidence.loops ≤ 16 }
-    ensures stage { IsStage (request.entry.unit.now ∷ request.entry.netlist.now ∷ [])
-        (ProveStage request.entry.unit.now request.entry.netlist.now request.entry.limits (evidence_of request.entry.evidence)) (F.state files.old) (F.state files.new) result }
-    ensures shown { IfOk result (λ found. ShowColumns found.columns found.findings) }
+    ensures stage { IfOk result (IsStage (request.entry.unit.now ∷ request.entry.netlist.now ∷ [])
+        (ProveStage request.entry.unit.now request.entry.netlist.now request.entry.limits (evidence_of request.entry.evidence)) (F.state files.old) (F.state files.new)) }
+    ensures shown { IfOk result (λ found. IfOk found (λ found. ShowColumns found.columns found.findings)) }
+    ensures told { IfOk result (λ _. MayHaveProgress request.entry.unit.now request.entry.netlist.now request.entry.limits (F.state files.old) (E.state err.old) (E.state err.new)) }
+    ensures lost { OnErr result ((request.entry.limits.progress ≡ true)
+        × LosesProgress request.entry.unit.now request.entry.netlist.now request.entry.limits (F.state files.old) (E.state err.old) (E.state err.new)) }
+    ensures kept { OnErr result (OnlyReads (F.state files.old) (F.state files.new)) }
 {
-    let subject = load_subject(alloc, files, request.unit, request.netlist)?;
-    prove_subject(alloc, &subject, request)
+    match load_subject(alloc, files, request.unit, request.netlist) {
+        Ok(subject) => prove_subject(alloc, &subject, err, request),
+        Err(fault) => Ok(Err(fault)),
+    }
 }
 
 /// The same of what was read, where no directive that is asked may be too large.
-fn prove_subject(alloc: Global, subject: &Subject, request: Request<'_>) -> Result<Found, Fault>
+fn prove_subject<E: Sink>(
+    alloc: Global,
+    subject: &Subject,
+    err: &mut E,
+    request: Request<'_>,
+) -> Result<Result<Found, Fault>, Failed>
     requires range { AreInRange request.limits }
     requires in_range { All (λ directive. AtomsOfFormula (AtomInRange subject.now.netlist.names) (formula_of directive.formula)) subject.now.directives }
     requires numbered { AreNumbered subject.now.directives }
     requires small { All (λ directive. formula_size (formula_of directive.formula) ≤ 4096) subject.now.directives }
     requires traces { HasTraces subject.now.netlist }
     requires loops { request.evidence.loops ≤ 16 }
-    ensures reading { IsReading (request.entry.unit.now ∷ request.entry.netlist.now ∷ [])
-        (FoundReading request.entry.unit.now request.entry.netlist.now request.entry.limits (evidence_of request.entry.evidence) subject.now) result }
-    ensures shown { IfOk result (λ found. ShowColumns found.columns found.findings) }
+    ensures reading { IfOk result (IsReading (request.entry.unit.now ∷ request.entry.netlist.now ∷ [])
+        (FoundReading request.entry.unit.now request.entry.netlist.now request.entry.limits (evidence_of request.entry.evidence) subject.now)) }
+    ensures shown { IfOk result (λ found. IfOk found (λ found. ShowColumns found.columns found.findings)) }
+    ensures told { IfOk result (λ _. HaveTold subject.now.netlist subject.now.directives request.entry.limits.covers
+        (progress_line request.entry.limits.progress) (E.state err.old) (E.state err.new)) }
+    ensures lost { OnErr result (HaveToldPart subject.now.netlist subject.now.directives request.entry.limits.covers
+        (progress_line request.entry.limits.progress) (E.state err.old) (E.state err.new)) }
 {
     let (directives, netlist) = (&subject.directives, &subject.netlist);
     let limits = request.limits;
     match check_all(alloc, directives, netlist, limits.depth, limits.covers) {
-        Ok(()) => {
-            let found = find(alloc, directives, netlist, request)?;
-            Ok(found)
-        }
-        Err(fault) => Err(size_fault(alloc, request.unit, request.netlist, fault)),
+        Ok(()) => match find(alloc, directives, netlist, err, request) {
+            Ok(found) => Ok(Ok(found)),
+            Err(ProveFault::NoMemory) => Ok(Err(of_none(Reason::NoMemory))),
+            Err(ProveFault::Unwritten) => Err(Failed),
+        },
+        Err(fault) => Ok(Err(size_fault(alloc, request.unit, request.netlist, fault))),
     }
 }
 
 /// What is found out of directives that are within the limits, and what is shown of it.
-fn find(
+fn find<E: Sink>(
     alloc: Global,
     directives: &Unit,
     netlist: &Netlist,
+    err: &mut E,
     request: Request<'_>,
-) -> Result<Found, NoMemory>
+) -> Result<Found, ProveFault>
     requires range { AreInRange request.limits }
     requires within { AreWithin netlist.now request.limits.depth request.limits.covers directives.now }
     requires in_range { All (λ directive. AtomsOfFormula (AtomInRange netlist.now.names) (formula_of directive.formula)) directives.now }
@@ -91,6 +119,10 @@ fn find(
     requires traceable { AreTraceable netlist.now directives.now (recordings_in (evidence_of request.evidence)) }
     ensures found { IfOk result (IsFound netlist.now request.entry.limits (evidence_of request.entry.evidence) directives.now) }
     ensures shown { IfOk result (λ found. ShowColumns found.columns found.findings) }
+    ensures told { IfOk result (λ _. HaveTold netlist.now directives.now request.entry.limits.covers (progress_line request.entry.limits.progress)
+        (E.state err.old) (E.state err.new)) }
+    ensures fault { IfErr result (IsProveFault netlist.now directives.now request.entry.limits.covers (progress_line request.entry.limits.progress)
+        (E.state err.old) (E.state err.new)) }
 {
     soundness_law(netlist);
     let options = Options {
@@ -101,7 +133,12 @@ fn find(
     };
     let covers = request.limits.covers;
     let recordings = recordings_of(request.evidence);
-    let findings = prove_all(alloc, directives, netlist, options, covers, recordings)?;
+    let progress = Progress {
+        asked: request.limits.progress,
+    };
+    let findings = prove_all(
+        alloc, directives, netlist, options, covers, recordings, &progress, err,
+    )?;
     let columns = columns(alloc, netlist)?;
     Ok(Found { findings, columns })
 }

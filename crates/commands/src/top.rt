@@ -1,14 +1,16 @@
-ghost use Rattle.std.specs.Prelude.{◌≡◌, ◌≢◌, ◌⊎◌, ◌<◌, ℕ, List, Option, map, None, Some, IfOk, IfErr, IfSome, string_bytes};
+ghost use Rattle.std.specs.Prelude.{◌≡◌, ◌≢◌, ◌⊎◌, ◌<◌, ◌≤◌, ℕ, List, Option, map, None, Some, IfOk, IfErr, IfSome, OnErr, string_bytes};
+ghost use Rattle.std.specs.Result.{ForOk};
 ghost use Rattle.psl_base.specs.Faults.{Rose};
-ghost use Rattle.psl_base.specs.Shelf.{Contents};
+ghost use Rattle.psl_base.specs.Shelf.{Contents, OnlyReads};
 ghost use Rattle.command_line.specs.Commands.{meaning_of};
-ghost use Rattle.command_line.specs.Commands.Meaning.{wave as a_wave, check as a_check, replay as a_replay};
+ghost use Rattle.command_line.specs.Commands.Meaning.{wave as a_wave, show as a_show, show_netlist as a_netlist, prove as a_proof, check as a_check, replay as a_replay};
 ghost use Rattle.command_line.specs.Evidences.{evidence_of};
-ghost use Rattle.command_line.specs.Ranges.{IsInRange};
-ghost use Rattle.commands.specs.Commands.{FirstRefusal, HadToTell, IsCommand, IsOfCommand, IsOutcomeOf, IsNamed, IsNoCommand, findings_outcome};
-ghost use Rattle.commands.specs.Endings.{status_of, Explained, Prints, IsOutOfMemory, IsDeviceStatus};
+ghost use Rattle.command_line.specs.Ranges.{AreInRange, IsInRange};
+ghost use Rattle.commands.specs.Commands.{FirstRefusal, HadToTell, IsCommand, IsOfCommand, IsOutcomeOf, IsNamed, IsNoCommand};
+ghost use Rattle.commands.specs.Endings.{status_of, Explained, IsOutOfMemory, IsDeviceStatus};
 ghost use Rattle.commands.specs.Faults.{of_none};
 ghost use Rattle.commands.specs.Planning.{IsAnswer};
+ghost use Rattle.commands.specs.Progress.{PrintsAll, Progresses, StopsTelling};
 ghost use Rattle.commands.specs.Saved.{AreToWrite, FailsToWrite, IsSavedBy, files_of_outcome, wanted_of};
 ghost use Rattle.commands.specs.Stages.{OfTold, IsUnread};
 ghost use Rattle.commands.specs.Text.{text_of, IsShowable};
@@ -21,19 +23,20 @@ use crate::finish::{Planned, finish};
 use crate::generated::generate;
 use crate::outcome::{Fault, Outcome, Report};
 use crate::printing::report;
-use crate::prove::{Found, Request, prove};
+use crate::prove::{Request, prove};
 use crate::reason::Reason;
 use crate::replayed::replay_files;
 use crate::saves::saves_of;
 use crate::show::{show, show_netlist};
 use crate::wave::{unknown_of, wave};
-use command_line::{Command, Evidence, Limits, Unknown, WordsFault, one_command, read_words};
-use psl_base::{Shelf, Sink};
+use command_line::{Command, Evidence, Unknown, WordsFault, one_command, read_words};
+use psl_base::{Failed, Shelf, Sink};
 use std::alloc::Global;
 use vcd_reader::SAMPLE_LIMIT;
 
 /// Runs the command that the words after the program's name give. It reads files, writes those of evidence where that
-/// is asked for, prints what it finds out on `out` or a fault's line on `err`, and tells how it ended.
+/// is asked for, prints what it finds out on `out` or a fault's line on `err`, and tells how it ended. Where `prove` is
+/// asked for it, lines on `err` tell how far it has come, before anything else is written.
 pub fn run<F: Shelf, O: Sink, E: Sink>(
     alloc: Global,
     words: &[String],
@@ -77,9 +80,11 @@ pub fn run<F: Shelf, O: Sink, E: Sink>(
     ensures found { result.fault ≡ None → result.outcome ≢ Outcome.Nothing }
     ensures nothing { IfSome result.fault (λ fault. (fault.reason ≡ Reason.WriteFault) ⊎ (result.outcome ≡ Outcome.Nothing)) }
 
-    // What is printed is the outcome's text whole, or the fault's line, or their first bytes, or those of the line of a
-    // fault that was to be told.
-    ensures printed { Prints (FailsToWrite (map string_bytes words.now) result.outcome (F.state files.old) (F.state files.new))
+    // While `prove` works, the lines of `--progress` are added to `err`, each of which holds of the contents that are told;
+    // without that option, and with another command, none is. Behind them the outcome's text is printed whole, or the
+    // fault's line, or their first bytes, or those of the line of a fault that was to be told. Once a line of progress
+    // cannot be written, the run ends with a fault of writing, and nothing else is printed.
+    ensures printed { PrintsAll (map string_bytes words.now) (F.state files.old) (FailsToWrite (map string_bytes words.now) result.outcome (F.state files.old) (F.state files.new))
         (HadToTell (map string_bytes words.now) (F.state files.old) (F.state files.new)) result.outcome result.fault (O.state out.old) (O.state out.new) (E.state err.old) (E.state err.new) }
 
     // A count that is larger after the run than before it comes with the status of such a fault.
@@ -101,19 +106,39 @@ pub fn run<F: Shelf, O: Sink, E: Sink>(
     // other fault, and where nothing is to be written, every content is as before.
     ensures saved { IsSavedBy (map string_bytes words.now) result.outcome result.fault (F.state files.old) (F.state files.new) }
 {
-    let planned = plan(alloc, words, files);
-    finish(alloc, planned, files, out, err)
+    match plan(alloc, words, files, err) {
+        Ok(planned) => finish(alloc, planned, files, out, err),
+        Err(_) => Report {
+            status: 4,
+            outcome: Outcome::Nothing,
+            fault: Some(of_none(Reason::WriteFault)),
+        },
+    }
 }
 
-/// What the command finds out, with the files that are to be written and its text. Nothing is written.
-fn plan<F: Shelf>(alloc: Global, words: &[String], files: &mut F) -> Result<Planned, Fault>
-    ensures answer { IsAnswer (λ (made : Planned). made.outcome) (map string_bytes words.now) (F.state files.old) (F.state files.new) result }
-    ensures text { IfOk result (λ made. made.text ≡ text_of made.outcome) }
-    ensures saves { IfOk result (λ made. AreToWrite (map string_bytes words.now) made.outcome (map file_of made.saves)) }
+/// What the command finds out, with the files that are to be written and its text. Nothing is written but how far it has
+/// come, where that is asked for; it has failed once that cannot be written.
+fn plan<F: Shelf, E: Sink>(
+    alloc: Global,
+    words: &[String],
+    files: &mut F,
+    err: &mut E,
+) -> Result<Result<Planned, Fault>, Failed>
+    ensures answer { IfOk result (IsAnswer (λ (made : Planned). made.outcome) (map string_bytes words.now) (F.state files.old) (F.state files.new)) }
+    ensures text { IfOk result (λ planned. ForOk planned (λ made. made.text ≡ text_of made.outcome)) }
+    ensures saves { IfOk result (λ planned. IfOk planned (λ made. AreToWrite (map string_bytes words.now) made.outcome (map file_of made.saves))) }
+    ensures told { IfOk result (λ _. Progresses (map string_bytes words.now) (F.state files.old) (E.state err.old) (E.state err.new)) }
+    ensures lost { OnErr result (StopsTelling (map string_bytes words.now) (F.state files.old) (E.state err.old) (E.state err.new)) }
+    ensures kept { OnErr result (OnlyReads (F.state files.old) (F.state files.new)) }
 {
-    let command = command(alloc, words)?;
-    let outcome = outcome(alloc, files, command)?;
-    made(alloc, wanted_of(command), outcome)
+    let command = match command(alloc, words) {
+        Ok(command) => command,
+        Err(fault) => return Ok(Err(fault)),
+    };
+    match outcome(alloc, files, err, command)? {
+        Ok(outcome) => Ok(made(alloc, wanted_of(command), outcome)),
+        Err(fault) => Ok(Err(fault)),
+    }
 }
 
 /// The command that the words are.
@@ -131,12 +156,22 @@ fn command(alloc: Global, words: &[String]) -> Result<Command<'_>, Fault>
     }
 }
 
-/// What a command finds out.
-fn outcome<F: Shelf>(alloc: Global, files: &mut F, command: Command<'_>) -> Result<Outcome, Fault>
+/// What a command finds out. It has failed once it cannot be written how far `prove` has come.
+fn outcome<F: Shelf, E: Sink>(
+    alloc: Global,
+    files: &mut F,
+    err: &mut E,
+    command: Command<'_>,
+) -> Result<Result<Outcome, Fault>, Failed>
     requires { IsInRange sample_limit (meaning_of command) }
-    ensures showable { IfOk result IsShowable }
+    ensures showable { IfOk result (λ found. IfOk found IsShowable) }
     ensures answer { (words : List (List ℕ)) → IsCommand words (meaning_of command.entry)
-        → IsAnswer (λ (outcome : Outcome). outcome) words (F.state files.old) (F.state files.new) result }
+        → IfOk result (IsAnswer (λ (outcome : Outcome). outcome) words (F.state files.old) (F.state files.new)) }
+    ensures told { (words : List (List ℕ)) → IsCommand words (meaning_of command.entry)
+        → IfOk result (λ _. Progresses words (F.state files.old) (E.state err.old) (E.state err.new)) }
+    ensures lost { (words : List (List ℕ)) → IsCommand words (meaning_of command.entry)
+        → OnErr result (StopsTelling words (F.state files.old) (E.state err.old) (E.state err.new)) }
+    ensures kept { OnErr result (OnlyReads (F.state files.old) (F.state files.new)) }
 {
     match command {
         Command::Wave {
@@ -144,11 +179,9 @@ fn outcome<F: Shelf>(alloc: Global, files: &mut F, command: Command<'_>) -> Resu
             recording,
             unknown,
             points,
-        } => wave_outcome(alloc, files, unit, recording, unknown, points),
-        Command::Show { unit, names } => Ok(Outcome::Shown(show(alloc, files, unit, names)?)),
-        Command::ShowNetlist { unit, netlist } => {
-            Ok(Outcome::Shown(show_netlist(alloc, files, unit, netlist)?))
-        }
+        } => Ok(wave_outcome(alloc, files, unit, recording, unknown, points)),
+        Command::Show { unit, names } => Ok(show_outcome(alloc, files, unit, names)),
+        Command::ShowNetlist { unit, netlist } => Ok(netlist_outcome(alloc, files, unit, netlist)),
         Command::Prove {
             unit,
             netlist,
@@ -161,21 +194,20 @@ fn outcome<F: Shelf>(alloc: Global, files: &mut F, command: Command<'_>) -> Resu
                 limits,
                 evidence,
             };
-            let found = prove(alloc, files, request)?;
-            Ok(findings_outcome(found, limits))
+            prove_outcome(alloc, files, err, request)
         }
         Command::Check {
             unit,
             netlist,
             number,
             certificate,
-        } => check_outcome(alloc, files, unit, netlist, number, certificate),
+        } => Ok(check_outcome(alloc, files, unit, netlist, number, certificate)),
         Command::Replay {
             unit,
             netlist,
             recording,
-        } => replay_outcome(alloc, files, unit, netlist, recording),
-        Command::Gen { seed, samples } => generate(alloc, seed, samples),
+        } => Ok(replay_outcome(alloc, files, unit, netlist, recording)),
+        Command::Gen { seed, samples } => Ok(generate(alloc, seed, samples)),
     }
 }
 
@@ -209,6 +241,68 @@ fn wave_outcome<F: Shelf>(
 {
     let judged = wave(alloc, files, unit, recording, unknown_of(unknown), points)?;
     Ok(Outcome::Wave(judged.verdicts, judged.settled))
+}
+
+/// What `show` finds out over the names of a recording.
+fn show_outcome<F: Shelf>(
+    alloc: Global,
+    files: &mut F,
+    unit: &str,
+    names: &str,
+) -> Result<Outcome, Fault>
+    ensures showable { IfOk result IsShowable }
+    ensures answer { (words : List (List ℕ)) → IsCommand words (a_show unit.now names.now)
+        → IsAnswer (λ (outcome : Outcome). outcome) words (F.state files.old) (F.state files.new) result }
+{
+    let lines = show(alloc, files, unit, names)?;
+    Ok(Outcome::Shown(lines))
+}
+
+/// What `show` finds out over the names of a netlist.
+fn netlist_outcome<F: Shelf>(
+    alloc: Global,
+    files: &mut F,
+    unit: &str,
+    netlist: &str,
+) -> Result<Outcome, Fault>
+    ensures showable { IfOk result IsShowable }
+    ensures answer { (words : List (List ℕ)) → IsCommand words (a_netlist unit.now netlist.now)
+        → IsAnswer (λ (outcome : Outcome). outcome) words (F.state files.old) (F.state files.new) result }
+{
+    let lines = show_netlist(alloc, files, unit, netlist)?;
+    Ok(Outcome::Shown(lines))
+}
+
+/// What `prove` finds out. It has failed once it cannot be written how far it has come.
+fn prove_outcome<F: Shelf, E: Sink>(
+    alloc: Global,
+    files: &mut F,
+    err: &mut E,
+    request: Request<'_>,
+) -> Result<Result<Outcome, Fault>, Failed>
+    requires range { AreInRange request.limits }
+    requires loops { request.evidence.loops ≤ 16 }
+    ensures showable { IfOk result (λ found. IfOk found IsShowable) }
+    ensures answer { (words : List (List ℕ))
+        → IsCommand words (a_proof request.entry.unit.now request.entry.netlist.now request.entry.limits (evidence_of request.entry.evidence))
+        → IfOk result (IsAnswer (λ (outcome : Outcome). outcome) words (F.state files.old) (F.state files.new)) }
+    ensures told { (words : List (List ℕ))
+        → IsCommand words (a_proof request.entry.unit.now request.entry.netlist.now request.entry.limits (evidence_of request.entry.evidence))
+        → IfOk result (λ _. Progresses words (F.state files.old) (E.state err.old) (E.state err.new)) }
+    ensures lost { (words : List (List ℕ))
+        → IsCommand words (a_proof request.entry.unit.now request.entry.netlist.now request.entry.limits (evidence_of request.entry.evidence))
+        → OnErr result (StopsTelling words (F.state files.old) (E.state err.old) (E.state err.new)) }
+    ensures kept { OnErr result (OnlyReads (F.state files.old) (F.state files.new)) }
+{
+    match prove(alloc, files, err, request)? {
+        Ok(found) => Ok(Ok(Outcome::Findings {
+            findings: found.findings,
+            columns: found.columns,
+            depth: request.limits.depth,
+            visits: request.limits.visits,
+        })),
+        Err(fault) => Ok(Err(fault)),
+    }
 }
 
 /// What `check` finds out.
@@ -248,18 +342,6 @@ fn replay_outcome<F: Shelf>(
 {
     let found = replay_files(alloc, files, unit, netlist, recording)?;
     Ok(Outcome::Replayed(found.replay, found.samples, found.verdicts))
-}
-
-/// The outcome of `prove`.
-fn findings_outcome(found: Found, limits: Limits) -> Outcome
-    ensures { result ≡ findings_outcome limits found }
-{
-    Outcome::Findings {
-        findings: found.findings,
-        columns: found.columns,
-        depth: limits.depth,
-        visits: limits.visits,
-    }
 }
 
 /// An outcome with its files of evidence and its text.

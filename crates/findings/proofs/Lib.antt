@@ -9,3 +9,4 @@ pub mod Numbers
 mod Paths
 pub mod Recordable
 pub mod Shown
+pub mod Telling
