@@ -17,6 +17,10 @@ use netlist::Run;
 use psl_base::{NoMemory, Sink};
 use std::alloc::Global;
 
+// Sizes that are looked at ahead are so many times as large as each other, from the depth down: so the last of them is the
+// depth, and all before it together cost little beside it.
+const TIMES_APART: u32 = 3;
+
 // A look ahead takes at most so many times the lemmas of the last search, and so many more.
 const TIMES_AHEAD: u64 = 8;
 
@@ -38,6 +42,19 @@ pub(crate) enum Progress {
     Reached(Searched),
     /// Nothing is told of that size.
     Nothing(Untold),
+}
+
+// The size that is looked at where none of so many valuations violates what is owed: the largest one that is not much
+// larger.
+fn size_ahead(none_within: u32, depth: u32) -> u32
+    ensures { result ≤ depth }
+{
+    let most = none_within.saturating_mul(TIMES_APART);
+    let mut ahead = depth;
+    while most < ahead && 1 < ahead {
+        ahead = 1 + (ahead - 1) / TIMES_APART;
+    }
+    ahead
 }
 
 impl Searched {
@@ -91,14 +108,14 @@ impl Prover<'_> {
 
     /// Looks for runs that violate what is owed, of so many valuations at least, and stops with a shortest one where
     /// there is one. A run may enter its loop later, and its word stays: so where none of some size violates it, none
-    /// that is shorter does. Sizes that double are looked at first.
+    /// that is shorter does. Larger sizes are looked at first.
     pub fn go_on(self, alloc: Global, size: u32, last: Searched) -> Result<Progress, Stop>
         requires ready { IsReady self }
         requires tried { IsTriedFor self.task size }
         ensures progress { IfOk result (IsProgress self.entry.task size) }
         ensures stop { IfErr result (IsStopOf self.entry.task) }
     {
-        let ahead = (size - 1).saturating_mul(2).min(self.task.options.depth);
+        let ahead = size_ahead(size - 1, self.task.options.depth);
         if size < ahead {
             let steps = last.lemmas_ahead(self.task.options.steps);
             match self.glance(alloc, ahead, steps)? {
