@@ -63,6 +63,16 @@ impl Progress {
     }
 }
 
+/// What stays the same while a walk goes along what an instance lists: the models, the instance, and how many levels
+/// deep the walk goes below it.
+// A plain derive asks that the lines are `Copy` too.
+#[derive_where(Clone, Copy)]
+struct Inside<'a, L> {
+    models: &'a Items<Model<L>>,
+    instance: &'a Instance,
+    levels: u32,
+}
+
 /// Lists an instance and those below it, and finds their lines, so many levels deep.
 #[cycle(walking)]
 pub(crate) fn walk<L: Line>(
@@ -91,18 +101,14 @@ pub(crate) fn walk<L: Line>(
     let Some(model) = models.as_slice().get(instance.model) else {
         return Ok(());
     };
+    let inside = Inside {
+        models,
+        instance,
+        levels: levels - 1,
+    };
     let mut k = 0usize;
     for item in 0..model.items.len() {
-        k = visit(
-            alloc,
-            models,
-            out,
-            instance,
-            item,
-            model.items.at(item),
-            k,
-            levels - 1,
-        )?;
+        k = visit(alloc, inside, out, item, model.items.at(item), k)?;
     }
     Ok(())
 }
@@ -111,39 +117,39 @@ pub(crate) fn walk<L: Line>(
 #[cycle(walking)]
 fn visit<L: Line>(
     alloc: Global,
-    models: &Items<Model<L>>,
+    inside: Inside<'_, L>,
     out: &mut Progress,
-    instance: &Instance,
     item: usize,
     entry: &Item<L>,
     k: usize,
-    levels: u32,
 ) -> Result<usize, NoMemory>
-    requires named { IsNamed L.mentions models.now }
-    requires opened { IsOpened models.now out.old.table.owners instance.now }
-    requires small { IsSmall instance.now.path }
-    requires fresh { IsFresh out.old.table.owners instance.now.path k }
-    requires listed { slice_get (items_of models.now instance.now.model) item ≡ Some entry.now }
-    requires placed { IsPlacedAs models.now instance.now.path k entry.now }
+    requires named { IsNamed L.mentions inside.models.now }
+    requires opened { IsOpened inside.models.now out.old.table.owners inside.instance.now }
+    requires small { IsSmall inside.instance.now.path }
+    requires fresh { IsFresh out.old.table.owners inside.instance.now.path k }
+    requires listed { slice_get (items_of inside.models.now inside.instance.now.model) item ≡ Some entry.now }
+    requires placed { IsPlacedAs inside.models.now inside.instance.now.path k entry.now }
     requires few { k + 1 < 2 ^ 64 }
-    requires room { length (onto out.old.table.seen (mentioned L.mentions models.now
-        (item_lines (expand models.now levels) instance.now.path k entry.now))) ≤ 2 ^ 32 }
-    ensures walks { OnOk result (Walks L.mentions models.now
-        (item_lines (expand models.now levels) instance.now.path k entry.now) out.old out.new) }
-    ensures lists { OnOk result (Lists models.now
-        (item_instances (instances_from models.now levels) instance.now.path k entry.now) out.old.instances out.new) }
-    ensures grows { OnOk result (Grows instance.now.path out.old.table.owners out.new.table.owners) }
-    ensures fresh { IfOk result (λ next. IsFresh out.new.table.owners instance.now.path next) }
+    requires room { length (onto out.old.table.seen (mentioned L.mentions inside.models.now
+        (item_lines (expand inside.models.now inside.levels) inside.instance.now.path k entry.now))) ≤ 2 ^ 32 }
+    ensures walks { OnOk result (Walks L.mentions inside.entry.models.now
+        (item_lines (expand inside.entry.models.now inside.entry.levels) inside.entry.instance.now.path k entry.now)
+        out.old out.new) }
+    ensures lists { OnOk result (Lists inside.entry.models.now
+        (item_instances (instances_from inside.entry.models.now inside.entry.levels)
+        inside.entry.instance.now.path k entry.now) out.old.instances out.new) }
+    ensures grows { OnOk result (Grows inside.entry.instance.now.path out.old.table.owners out.new.table.owners) }
+    ensures fresh { IfOk result (λ next. IsFresh out.new.table.owners inside.entry.instance.now.path next) }
     ensures next { IfOk result (λ next. next ≡ next_place k entry.now) }
 {
     match entry {
         Item::Own(line) => {
-            add_line(alloc, out, instance, item, line.mentions())?;
+            add_line(alloc, out, inside.instance, item, line.mentions())?;
             Ok(k)
         }
         Item::Place(placement) => {
-            let child = open_placement(alloc, models, out, instance, placement, k)?;
-            walk(alloc, models, out, &child, levels)?;
+            let child = open_placement(alloc, inside, out, placement, k)?;
+            walk(alloc, inside.models, out, &child, inside.levels)?;
             Ok(k + 1)
         }
     }
@@ -152,32 +158,31 @@ fn visit<L: Line>(
 // Opens the instance that a placement makes.
 fn open_placement<L: Line>(
     alloc: Global,
-    models: &Items<Model<L>>,
+    inside: Inside<'_, L>,
     out: &mut Progress,
-    instance: &Instance,
     placement: &Placement,
     k: usize,
 ) -> Result<Instance, NoMemory>
-    requires named { IsNamed L.mentions models.now }
-    requires opened { IsOpened models.now out.old.table.owners instance.now }
-    requires fresh { IsFresh out.old.table.owners instance.now.path k }
-    requires placed { placement_at models.now instance.now.path k ≡ Some placement.now }
-    ensures path { IfOk result (λ child. child.path ≡ k ∷ instance.now.path) }
-    ensures opened { IfOk result (λ child. IsOpened models.now out.new.table.owners child) }
+    requires named { IsNamed L.mentions inside.models.now }
+    requires opened { IsOpened inside.models.now out.old.table.owners inside.instance.now }
+    requires fresh { IsFresh out.old.table.owners inside.instance.now.path k }
+    requires placed { placement_at inside.models.now inside.instance.now.path k ≡ Some placement.now }
+    ensures path { IfOk result (λ child. child.path ≡ k ∷ inside.entry.instance.now.path) }
+    ensures opened { IfOk result (λ child. IsOpened inside.entry.models.now out.new.table.owners child) }
     ensures opens { IfOk result (λ child.
-        Opens child.path (names_of models.now child.model) out.old.table.owners out.new.table.owners) }
+        Opens child.path (names_of inside.entry.models.now child.model) out.old.table.owners out.new.table.owners) }
     ensures seen { OnOk result (out.new.table.seen ≡ out.old.table.seen) }
     ensures lines { OnOk result (out.new.lines ≡ out.old.lines) }
     ensures instances { OnOk result (out.new.instances ≡ out.old.instances) }
 {
-    let path = path_below(alloc, instance.path.as_slice(), k)?;
+    let path = path_below(alloc, inside.instance.path.as_slice(), k)?;
     let model = placement.model as usize;
-    let count = name_count(models, model);
+    let count = name_count(inside.models, model);
     let actuals = actuals_of(alloc, placement.connections.as_slice(), count)?;
     let cells = open(
         alloc,
         &mut out.table,
-        instance.cells.as_slice(),
+        inside.instance.cells.as_slice(),
         &path,
         actuals.as_slice(),
     )?;

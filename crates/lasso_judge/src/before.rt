@@ -7,61 +7,58 @@ ghost use Rattle.lasso_judge.specs.Labels.{into_at, left_by, unmarked_at, AreSou
 ghost use Rattle.lasso_tables.specs.Seen.{seen_at};
 ghost use Rattle.lasso_tables.specs.Tables.{value_at};
 
-use crate::chart::Chart;
+use crate::chart::{Chart, Charted};
 use crate::labels::{arrows_to, known, label};
 use lasso_tables::holds_at;
 use psl_base::NoMemory;
-use psl_tree::Word;
 
 /// Lists the cells that are not marked and from which one letter leads to a cell, in place of what is listed
 /// there.
 #[inline(never)]
 pub(crate) fn cells_before(
-    chart: &Chart,
-    word: &Word,
-    next: &[usize],
-    flipped: bool,
+    charted: Charted<'_>,
     marks: &[bool],
     cell: usize,
     found: &mut Vec<usize>,
 ) -> Result<(), NoMemory>
-    requires chart { IsChart next.now chart.now }
-    requires labels { IsLabelled (λ place. seen_at word.now flipped place) chart.now }
-    requires marks { length marks.now ≡ chart.now.cells }
-    requires within { cell < chart.now.cells }
+    requires chart { IsChart charted.next.now charted.chart.now }
+    requires labels { IsLabelled (λ place. seen_at charted.word.now charted.flipped place) charted.chart.now }
+    requires marks { length marks.now ≡ charted.chart.now.cells }
+    requires within { cell < charted.chart.now.cells }
     ensures { OnOk result (found.new.items ≡
-        fresh_back chart.now.nfa.states (λ place. seen_at word.now flipped place) chart.now.arrows.items marks.now
-        (slice_index_or chart.now.before.items (cell / length chart.now.nfa.states) [])
-        (into_at chart.now (cell % length chart.now.nfa.states))) }
+        fresh_back charted.entry.chart.now.nfa.states
+        (λ place. seen_at charted.entry.word.now charted.entry.flipped place)
+        charted.entry.chart.now.arrows.items marks.now
+        (slice_index_or charted.entry.chart.now.before.items (cell / length charted.entry.chart.now.nfa.states) [])
+        (into_at charted.entry.chart.now (cell % length charted.entry.chart.now.nfa.states))) }
 {
-    let states = chart.nfa.len();
-    let before = chart.before[cell / states].as_slice();
+    let states = charted.chart.nfa.len();
+    let before = charted.chart.before[cell / states].as_slice();
     found.clear();
-    add_back(chart, word, flipped, marks, before, cell % states, found)
+    add_back(charted, marks, before, cell % states, found)
 }
 
 // Adds the cells of some places that are not marked and from which one letter leads to a state.
 fn add_back(
-    chart: &Chart,
-    word: &Word,
-    flipped: bool,
+    charted: Charted<'_>,
     marks: &[bool],
     places: &[usize],
     target: usize,
     found: &mut Vec<usize>,
 ) -> Result<(), NoMemory>
-    requires chart { IsDrawn chart.now }
-    requires labels { IsLabelled (λ place. seen_at word.now flipped place) chart.now }
-    requires marks { length marks.now ≡ chart.now.cells }
-    requires places { All (λ place. place < length chart.now.before.items) places.now }
-    requires target { target < length chart.now.nfa.states }
+    requires chart { IsDrawn charted.chart.now }
+    requires labels { IsLabelled (λ place. seen_at charted.word.now charted.flipped place) charted.chart.now }
+    requires marks { length marks.now ≡ charted.chart.now.cells }
+    requires places { All (λ place. place < length charted.chart.now.before.items) places.now }
+    requires target { target < length charted.chart.now.nfa.states }
     ensures { OnOk result (found.new.items ≡
         found.old.items
-        ++ fresh_back chart.now.nfa.states (λ place. seen_at word.now flipped place) chart.now.arrows.items marks.now
-        places.now (into_at chart.now target)) }
+        ++ fresh_back charted.entry.chart.now.nfa.states
+        (λ place. seen_at charted.entry.word.now charted.entry.flipped place)
+        charted.entry.chart.now.arrows.items marks.now places.now (into_at charted.entry.chart.now target)) }
 {
     for place in places {
-        add_before(chart, word, flipped, marks, *place, target, found)?;
+        add_before(charted, marks, *place, target, found)?;
     }
     Ok(())
 }
@@ -69,30 +66,29 @@ fn add_back(
 // Adds the cells of a place that are not marked and from which one letter leads to a state. Where all arrows
 // to it have the same label, this is known at once of all of them.
 fn add_before(
-    chart: &Chart,
-    word: &Word,
-    flipped: bool,
+    charted: Charted<'_>,
     marks: &[bool],
     place: usize,
     target: usize,
     found: &mut Vec<usize>,
 ) -> Result<(), NoMemory>
-    requires chart { IsDrawn chart.now }
-    requires labels { IsLabelled (λ place. seen_at word.now flipped place) chart.now }
-    requires marks { length marks.now ≡ chart.now.cells }
-    requires place { place < length chart.now.before.items }
-    requires target { target < length chart.now.nfa.states }
+    requires chart { IsDrawn charted.chart.now }
+    requires labels { IsLabelled (λ place. seen_at charted.word.now charted.flipped place) charted.chart.now }
+    requires marks { length marks.now ≡ charted.chart.now.cells }
+    requires place { place < length charted.chart.now.before.items }
+    requires target { target < length charted.chart.now.nfa.states }
     ensures { OnOk result (found.new.items ≡
         found.old.items
-        ++ fresh_at chart.now.nfa.states (λ place. seen_at word.now flipped place) chart.now.arrows.items marks.now
-        place (into_at chart.now target)) }
+        ++ fresh_at charted.entry.chart.now.nfa.states
+        (λ place. seen_at charted.entry.word.now charted.entry.flipped place)
+        charted.entry.chart.now.arrows.items marks.now place (into_at charted.entry.chart.now target)) }
 {
-    match known(chart, place, target) {
-        Some(true) => add_sources(chart, marks, place, target, found),
+    match known(charted.chart, place, target) {
+        Some(true) => add_sources(charted.chart, marks, place, target, found),
         Some(false) => Ok(()),
         None => {
-            let into = arrows_to(chart, target);
-            add_at(chart, word, flipped, marks, place, into, found)
+            let into = arrows_to(charted.chart, target);
+            add_at(charted, marks, place, into, found)
         }
     }
 }
@@ -164,53 +160,51 @@ fn add_if_unmarked(
 
 // Adds the cells of a place that are not marked and from which these arrows can be taken.
 fn add_at(
-    chart: &Chart,
-    word: &Word,
-    flipped: bool,
+    charted: Charted<'_>,
     marks: &[bool],
     place: usize,
     arrows: &[usize],
     found: &mut Vec<usize>,
 ) -> Result<(), NoMemory>
-    requires chart { IsDrawn chart.now }
-    requires marks { length marks.now ≡ chart.now.cells }
-    requires place { place < length chart.now.before.items }
-    requires arrows { All (λ number. number < length chart.now.arrows.items) arrows.now }
+    requires chart { IsDrawn charted.chart.now }
+    requires marks { length marks.now ≡ charted.chart.now.cells }
+    requires place { place < length charted.chart.now.before.items }
+    requires arrows { All (λ number. number < length charted.chart.now.arrows.items) arrows.now }
     ensures { OnOk result (found.new.items ≡
         found.old.items
-        ++ fresh_at chart.now.nfa.states (λ place. seen_at word.now flipped place) chart.now.arrows.items marks.now
-        place arrows.now) }
+        ++ fresh_at charted.entry.chart.now.nfa.states
+        (λ place. seen_at charted.entry.word.now charted.entry.flipped place)
+        charted.entry.chart.now.arrows.items marks.now place arrows.now) }
 {
     for number in arrows {
-        add_one(chart, word, flipped, marks, place, *number, found)?;
+        add_one(charted, marks, place, *number, found)?;
     }
     Ok(())
 }
 
 // Adds the cell of a place from which an arrow leads, where it is not marked and the arrow can be taken.
 fn add_one(
-    chart: &Chart,
-    word: &Word,
-    flipped: bool,
+    charted: Charted<'_>,
     marks: &[bool],
     place: usize,
     number: usize,
     found: &mut Vec<usize>,
 ) -> Result<(), NoMemory>
-    requires chart { IsDrawn chart.now }
-    requires marks { length marks.now ≡ chart.now.cells }
-    requires place { place < length chart.now.before.items }
-    requires arrow { number < length chart.now.arrows.items }
+    requires chart { IsDrawn charted.chart.now }
+    requires marks { length marks.now ≡ charted.chart.now.cells }
+    requires place { place < length charted.chart.now.before.items }
+    requires arrow { number < length charted.chart.now.arrows.items }
     ensures { OnOk result (found.new.items ≡
         found.old.items
-        ++ (if not (value_at marks.now (cell_of (length chart.now.nfa.states) place
-        (arrow_at chart.now.arrows.items number).state))
-        && holds (seen_at word.now flipped place)
-        (label_of chart.now.nfa.states (arrow_at chart.now.arrows.items number))
-        then cell_of (length chart.now.nfa.states) place (arrow_at chart.now.arrows.items number).state ∷ [] else [])) }
+        ++ (if not (value_at marks.now (cell_of (length charted.entry.chart.now.nfa.states) place
+        (arrow_at charted.entry.chart.now.arrows.items number).state))
+        && holds (seen_at charted.entry.word.now charted.entry.flipped place)
+        (label_of charted.entry.chart.now.nfa.states (arrow_at charted.entry.chart.now.arrows.items number))
+        then cell_of (length charted.entry.chart.now.nfa.states) place
+        (arrow_at charted.entry.chart.now.arrows.items number).state ∷ [] else [])) }
 {
-    let cell = source(chart, place, number);
-    if is_fresh(chart, word, flipped, marks, cell, place, number) {
+    let cell = source(charted.chart, place, number);
+    if is_fresh(charted, marks, cell, place, number) {
         found.push(cell)?;
     }
     Ok(())
@@ -218,32 +212,26 @@ fn add_one(
 
 // Whether a cell is not marked, and an arrow can be taken at its place. A marked cell is passed over before
 // a label is evaluated.
-fn is_fresh(
-    chart: &Chart,
-    word: &Word,
-    flipped: bool,
-    marks: &[bool],
-    cell: usize,
-    place: usize,
-    number: usize,
-) -> bool
-    requires chart { IsDrawn chart.now }
+fn is_fresh(charted: Charted<'_>, marks: &[bool], cell: usize, place: usize, number: usize) -> bool
+    requires chart { IsDrawn charted.chart.now }
     requires cell { cell < length marks.now }
-    requires arrow { number < length chart.now.arrows.items }
-    ensures { result ≡ (not (value_at marks.now cell) && holds (seen_at word.now flipped place)
-        (label_of chart.now.nfa.states (arrow_at chart.now.arrows.items number))) }
+    requires arrow { number < length charted.chart.now.arrows.items }
+    ensures { result ≡ (not (value_at marks.now cell)
+        && holds (seen_at charted.entry.word.now charted.entry.flipped place)
+        (label_of charted.entry.chart.now.nfa.states (arrow_at charted.entry.chart.now.arrows.items number))) }
 {
-    !marks[cell] && is_taken(chart, word, flipped, place, number)
+    !marks[cell] && is_taken(charted, place, number)
 }
 
 // Whether an arrow can be taken at a place.
-fn is_taken(chart: &Chart, word: &Word, flipped: bool, place: usize, number: usize) -> bool
-    requires chart { IsDrawn chart.now }
-    requires arrow { number < length chart.now.arrows.items }
-    ensures { result ≡ holds (seen_at word.now flipped place)
-        (label_of chart.now.nfa.states (arrow_at chart.now.arrows.items number)) }
+fn is_taken(charted: Charted<'_>, place: usize, number: usize) -> bool
+    requires chart { IsDrawn charted.chart.now }
+    requires arrow { number < length charted.chart.now.arrows.items }
+    ensures { result ≡ holds (seen_at charted.entry.word.now charted.entry.flipped place)
+        (label_of charted.entry.chart.now.nfa.states (arrow_at charted.entry.chart.now.arrows.items number)) }
 {
-    holds_at(word, flipped, place, label(chart, number))
+    let test = label(charted.chart, number);
+    holds_at(charted.word, charted.flipped, place, test)
 }
 
 // The cell of a place from which an arrow leads.

@@ -46,6 +46,19 @@ pub(crate) struct Chart {
     pub(crate) values: Vec<Option<bool>>,
 }
 
+/// A course, and the chart of a sequence over it: what the searches over its cells look at.
+#[derive(Clone, Copy)]
+pub(crate) struct Charted<'a> {
+    /// The cells: the states of the sequence's automaton at the places of the course.
+    pub(crate) chart: &'a Chart,
+    /// The word whose letters are seen.
+    pub(crate) word: &'a Word,
+    /// The next place of each place.
+    pub(crate) next: &'a [usize],
+    /// Whether the letters of the word's dual are seen instead: Top for Bottom, and Bottom for Top.
+    pub(crate) flipped: bool,
+}
+
 impl Chart {
     /// The chart of a sequence and of the next place of each place, and for the letters that are seen.
     #[inline(never)]

@@ -11,12 +11,11 @@ ghost use Rattle.lasso_judge.specs.Labels.{IsLabelled, IsTold};
 ghost use Rattle.lasso_tables.specs.Seen.{course_by, seen_at, IsWhole};
 
 use crate::before::cells_before;
-use crate::chart::Chart;
+use crate::chart::Charted;
 use crate::labels::known;
 use crate::marking::Marking;
 use lasso_tables::holds_at;
 use psl_base::NoMemory;
-use psl_tree::Word;
 use sere_nfa::NfaEdge;
 use std::alloc::Global;
 
@@ -25,23 +24,22 @@ use std::alloc::Global;
 #[inline(never)]
 pub(crate) fn hit_cells(
     alloc: Global,
-    chart: &Chart,
-    word: &Word,
-    next: &[usize],
-    flipped: bool,
+    charted: Charted<'_>,
     hits: &[bool],
 ) -> Result<Vec<bool>, NoMemory>
-    requires chart { IsChart next.now chart.now }
-    requires labels { IsLabelled (λ place. seen_at word.now flipped place) chart.now }
-    requires whole { IsWhole word.now next.now }
-    requires same { length hits.now ≡ length next.now }
+    requires chart { IsChart charted.next.now charted.chart.now }
+    requires labels { IsLabelled (λ place. seen_at charted.word.now charted.flipped place) charted.chart.now }
+    requires whole { IsWhole charted.word.now charted.next.now }
+    requires same { length hits.now ≡ length charted.next.now }
     ensures { IfOk result (λ cells.
-        AreHits chart.now.nfa.states (course_by word.now flipped next.now) (length next.now) hits.now cells.items) }
+        AreHits charted.entry.chart.now.nfa.states
+        (course_by charted.entry.word.now charted.entry.flipped charted.entry.next.now)
+        (length charted.entry.next.now) hits.now cells.items) }
 {
-    let mut marking = ended(alloc, chart, word, flipped, hits)?;
+    let mut marking = ended(alloc, charted, hits)?;
     let mut found = Vec::new(alloc);
     while let Some(cell) = marking.waiting.pop() {
-        cells_before(chart, word, next, flipped, &marking.marks, cell, &mut found)?;
+        cells_before(charted, &marking.marks, cell, &mut found)?;
         marking.visit_each(&found)?;
     }
     let Marking { marks, waiting: _ } = marking;
@@ -50,24 +48,19 @@ pub(crate) fn hit_cells(
 
 // The cells from which one letter leads to an end are marked, and wait.
 #[tactic(auto, using(crate::proofs::Visiting::visit_all_append, crate::proofs::Visiting::numbers_more))]
-fn ended(
-    alloc: Global,
-    chart: &Chart,
-    word: &Word,
-    flipped: bool,
-    hits: &[bool],
-) -> Result<Marking, NoMemory>
-    requires chart { IsDrawn chart.now }
-    requires labels { IsLabelled (λ place. seen_at word.now flipped place) chart.now }
-    requires same { length hits.now ≡ length chart.now.before.items }
+fn ended(alloc: Global, charted: Charted<'_>, hits: &[bool]) -> Result<Marking, NoMemory>
+    requires chart { IsDrawn charted.chart.now }
+    requires labels { IsLabelled (λ place. seen_at charted.word.now charted.flipped place) charted.chart.now }
+    requires same { length hits.now ≡ length charted.chart.now.before.items }
     ensures { IfOk result (λ marking.
-        marking_of marking ≡ visit_all (record { marks = replicate chart.now.cells false; waiting = [] })
-        (numbers_below (λ cell. ends_at chart.now.nfa.states (λ place. seen_at word.now flipped place) hits.now cell)
-        chart.now.cells)) }
+        marking_of marking ≡ visit_all (record { marks = replicate charted.entry.chart.now.cells false; waiting = [] })
+        (numbers_below (λ cell. ends_at charted.entry.chart.now.nfa.states
+        (λ place. seen_at charted.entry.word.now charted.entry.flipped place) hits.now cell)
+        charted.entry.chart.now.cells)) }
 {
-    let mut marking = Marking::new(alloc, chart.cells)?;
-    for cell in 0..chart.cells {
-        let ends = ends_here(chart, word, flipped, hits, cell);
+    let mut marking = Marking::new(alloc, charted.chart.cells)?;
+    for cell in 0..charted.chart.cells {
+        let ends = ends_here(charted, hits, cell);
         visit_where(ends, cell, &mut marking)?;
     }
     Ok(marking)
@@ -87,30 +80,33 @@ fn visit_where(asked: bool, cell: usize, marking: &mut Marking) -> Result<(), No
 }
 
 // Whether one letter leads from a cell to an end, at a place that is hit.
-fn ends_here(chart: &Chart, word: &Word, flipped: bool, hits: &[bool], cell: usize) -> bool
-    requires chart { IsDrawn chart.now }
-    requires labels { IsLabelled (λ place. seen_at word.now flipped place) chart.now }
-    requires same { length hits.now ≡ length chart.now.before.items }
-    requires within { cell < chart.now.cells }
-    ensures { result ≡ ends_at chart.now.nfa.states (λ place. seen_at word.now flipped place) hits.now cell }
+fn ends_here(charted: Charted<'_>, hits: &[bool], cell: usize) -> bool
+    requires chart { IsDrawn charted.chart.now }
+    requires labels { IsLabelled (λ place. seen_at charted.word.now charted.flipped place) charted.chart.now }
+    requires same { length hits.now ≡ length charted.chart.now.before.items }
+    requires within { cell < charted.chart.now.cells }
+    ensures { result ≡ ends_at charted.entry.chart.now.nfa.states
+        (λ place. seen_at charted.entry.word.now charted.entry.flipped place) hits.now cell }
 {
-    let states = chart.nfa.len();
+    let states = charted.chart.nfa.len();
     let place = cell / states;
-    let edges = chart.nfa.edges((cell % states) as u32);
-    hits[place] && ends_by(chart, word, flipped, place, edges.as_slice())
+    let edges = charted.chart.nfa.edges((cell % states) as u32);
+    hits[place] && ends_by(charted, place, edges.as_slice())
 }
 
 // Whether some edge that can be taken at a place leads to an end.
-fn ends_by(chart: &Chart, word: &Word, flipped: bool, place: usize, edges: &[NfaEdge]) -> bool
-    requires chart { IsDrawn chart.now }
-    requires values { length chart.now.values.items ≡ chart.now.cells }
-    requires place { place < length chart.now.before.items }
-    requires edges { All (λ edge. edge.target < length chart.now.nfa.states) edges.now }
-    requires told { All (λ edge. IsTold (λ place. seen_at word.now flipped place) chart.now (edge_of edge)) edges.now }
-    ensures { result ≡ ends_on chart.now.nfa.states (seen_at word.now flipped place) (edges_of edges.now) }
+fn ends_by(charted: Charted<'_>, place: usize, edges: &[NfaEdge]) -> bool
+    requires chart { IsDrawn charted.chart.now }
+    requires values { length charted.chart.now.values.items ≡ charted.chart.now.cells }
+    requires place { place < length charted.chart.now.before.items }
+    requires edges { All (λ edge. edge.target < length charted.chart.now.nfa.states) edges.now }
+    requires told { All (λ edge. IsTold (λ place. seen_at charted.word.now charted.flipped place)
+        charted.chart.now (edge_of edge)) edges.now }
+    ensures { result ≡ ends_on charted.entry.chart.now.nfa.states
+        (seen_at charted.entry.word.now charted.entry.flipped place) (edges_of edges.now) }
 {
     for edge in edges {
-        if ends_along(chart, word, flipped, place, edge) {
+        if ends_along(charted, place, edge) {
             return true;
         }
     }
@@ -118,17 +114,21 @@ fn ends_by(chart: &Chart, word: &Word, flipped: bool, place: usize, edges: &[Nfa
 }
 
 // Whether an edge can be taken at a place and leads to an end.
-fn ends_along(chart: &Chart, word: &Word, flipped: bool, place: usize, edge: &NfaEdge) -> bool
-    requires chart { IsDrawn chart.now }
-    requires values { length chart.now.values.items ≡ chart.now.cells }
-    requires place { place < length chart.now.before.items }
-    requires edge { edge.now.target < length chart.now.nfa.states }
-    requires told { IsTold (λ place. seen_at word.now flipped place) chart.now (edge_of edge.now) }
-    ensures { result ≡ (holds (seen_at word.now flipped place) (boolean_of edge.now.label)
-        && (state_at chart.now.nfa.states edge.now.target).is_final) }
+fn ends_along(charted: Charted<'_>, place: usize, edge: &NfaEdge) -> bool
+    requires chart { IsDrawn charted.chart.now }
+    requires values { length charted.chart.now.values.items ≡ charted.chart.now.cells }
+    requires place { place < length charted.chart.now.before.items }
+    requires edge { edge.now.target < length charted.chart.now.nfa.states }
+    requires told { IsTold (λ place. seen_at charted.word.now charted.flipped place)
+        charted.chart.now (edge_of edge.now) }
+    ensures { result ≡ (holds (seen_at charted.entry.word.now charted.entry.flipped place) (boolean_of edge.now.label)
+        && (state_at charted.entry.chart.now.nfa.states edge.now.target).is_final) }
 {
-    match known(chart, place, edge.target as usize) {
-        Some(value) => value && chart.nfa.is_final(edge.target),
-        None => { chart.nfa.is_final(edge.target) && holds_at(word, flipped, place, &edge.label) }
+    match known(charted.chart, place, edge.target as usize) {
+        Some(value) => value && charted.chart.nfa.is_final(edge.target),
+        None => {
+            charted.chart.nfa.is_final(edge.target)
+                && holds_at(charted.word, charted.flipped, place, &edge.label)
+        }
     }
 }

@@ -6,7 +6,7 @@ ghost use Rattle.lasso_judge.specs.Cells.{cell_of};
 ghost use Rattle.lasso_tables.specs.Seen.{course_by, IsWhole};
 ghost use Rattle.lasso_tables.specs.Tables.{value_at, Has, Tells};
 
-use crate::chart::Chart;
+use crate::chart::{Chart, Charted};
 use crate::hits::hit_cells;
 use crate::lasts::fallen_cells;
 use lasso_tables::opposites;
@@ -31,7 +31,13 @@ pub(crate) fn strong(
 {
     let chart = Chart::new(alloc, r, word, next, flipped)?;
     let hits = everywhere(alloc, next.len())?;
-    let cells = hit_cells(alloc, &chart, word, next, flipped, &hits)?;
+    let charted = Charted {
+        chart: &chart,
+        word,
+        next,
+        flipped,
+    };
+    let cells = hit_cells(alloc, charted, &hits)?;
     let values = at_starts(alloc, &cells, next.len(), chart.nfa.len())?;
     Ok(values)
 }
@@ -53,7 +59,13 @@ pub(crate) fn weak(
         Tells (course_by word.now flipped next.now) (length next.now) (Weak (sequence_of r.now)) values.items) }
 {
     let chart = Chart::new(alloc, r, word, next, flipped)?;
-    let cells = fallen_cells(alloc, &chart, word, next, flipped)?;
+    let charted = Charted {
+        chart: &chart,
+        word,
+        next,
+        flipped,
+    };
+    let cells = fallen_cells(alloc, charted)?;
     let fallen = at_starts(alloc, &cells, next.len(), chart.nfa.len())?;
     let values = opposites(alloc, &fallen)?;
     Ok(values)
@@ -81,7 +93,13 @@ pub(crate) fn suffix(
 {
     let chart = Chart::new(alloc, r, word, next, !flipped)?;
     let misses = opposites(alloc, part)?;
-    let cells = hit_cells(alloc, &chart, word, next, !flipped, &misses)?;
+    let charted = Charted {
+        chart: &chart,
+        word,
+        next,
+        flipped: !flipped,
+    };
+    let cells = hit_cells(alloc, charted, &misses)?;
     let missed = at_starts(alloc, &cells, next.len(), chart.nfa.len())?;
     let values = opposites(alloc, &missed)?;
     Ok(values)

@@ -14,7 +14,8 @@ ghost use Rattle.psl_tree.specs.Names.{AtomInRange};
 ghost use Rattle.psl_tree.specs.Trees.{boolean_of};
 ghost use Rattle.run_terms.specs.Automata.{TestsSignals};
 
-use alternating::{Alternating, Positive};
+use crate::reading::Reading;
+use alternating::Positive;
 use netlist::{Netlist, Valuations};
 use prover_held::{holds, no_bits};
 use psl_base::{Bits, NoMemory};
@@ -156,24 +157,30 @@ fn mark_if(wanted: bool, number: u32, into: &mut Bits)
 /// Which obligations some obligations ask for on the letter at a place of a path, as a value for each obligation.
 pub(crate) fn asked_by(
     alloc: Global,
-    netlist: &Netlist,
-    automaton: &Alternating,
-    path: &Valuations,
+    reading: Reading<'_>,
     place: usize,
     numbers: &[u32],
 ) -> Result<Bits, NoMemory>
-    requires tests { TestsSignals netlist.now automaton.now }
-    requires path { HaveSignals netlist.now path.now }
-    requires place { place < length path.now }
-    requires numbers { All (λ number. number < length automaton.now.obligations) numbers.now }
-    ensures long { IfOk result (λ asked. length asked ≡ length automaton.now.obligations) }
+    requires tests { TestsSignals reading.netlist.now reading.automaton.now }
+    requires path { HaveSignals reading.netlist.now reading.path.now }
+    requires place { place < length reading.path.now }
+    requires numbers { All (λ number. number < length reading.automaton.now.obligations) numbers.now }
+    ensures long { IfOk result (λ asked. length asked ≡ length reading.entry.automaton.now.obligations) }
     ensures each { IfOk result (λ asked. (number : ℕ) → bit asked number
-        ≡ is_asked automaton.now (letter_in netlist.now path.now place) numbers.now number) }
+        ≡ is_asked reading.entry.automaton.now (letter_in reading.entry.netlist.now reading.entry.path.now place)
+        numbers.now number) }
 {
-    let mut asked = no_bits(alloc, automaton.len())?;
+    let mut asked = no_bits(alloc, reading.automaton.len())?;
     for number in numbers {
-        let delta = automaton.delta(*number);
-        mark_asked(netlist, path, place, delta, true, &mut asked);
+        let delta = reading.automaton.delta(*number);
+        mark_asked(
+            reading.netlist,
+            reading.path,
+            place,
+            delta,
+            true,
+            &mut asked,
+        );
     }
     Ok(asked)
 }

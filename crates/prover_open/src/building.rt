@@ -6,6 +6,7 @@ ghost use Rattle.run_terms.specs.Automata.{TestsSignals};
 ghost use Rattle.prover_open.specs.Standing.{AreLong, StandAlong};
 
 use crate::judging::ends_badly;
+use crate::reading::Reading;
 use crate::states::{first_state, next_state};
 use alternating::Alternating;
 use joint_theory::{JointPath, JointStates};
@@ -44,7 +45,12 @@ pub fn open_path(
     if !fit(&path, automaton, pending) {
         return Ok(None);
     }
-    let joint = match joint_path(alloc, netlist, automaton, &path, owed, pending)? {
+    let reading = Reading {
+        netlist,
+        automaton,
+        path: &path,
+    };
+    let joint = match joint_path(alloc, reading, owed, pending)? {
         Some(joint) => joint,
         None => return Ok(None),
     };
@@ -89,33 +95,23 @@ fn all_long(hints: &[Bits], count: usize) -> bool
 // The joint path along a path with what hints say. None, if a state does not meet what is owed or pending before it.
 fn joint_path(
     alloc: Global,
-    netlist: &Netlist,
-    automaton: &Alternating,
-    path: &Valuations,
+    reading: Reading<'_>,
     owed: &Items<Bits>,
     pending: &Items<Bits>,
 ) -> Result<Option<JointPath>, NoMemory>
-    requires tests { TestsSignals netlist.now automaton.now }
-    requires path { IsPath netlist.now false path.now }
-    requires owed_many { length owed.now ≡ length path.now }
-    requires owed_long { AreLong (length owed.now) (length automaton.now.obligations) owed.now }
-    requires pending_many { length pending.now ≡ length path.now }
-    requires pending_long { AreLong (length pending.now) (length automaton.now.obligations) pending.now }
+    requires tests { TestsSignals reading.netlist.now reading.automaton.now }
+    requires path { IsPath reading.netlist.now false reading.path.now }
+    requires owed_many { length owed.now ≡ length reading.path.now }
+    requires owed_long { AreLong (length owed.now) (length reading.automaton.now.obligations) owed.now }
+    requires pending_many { length pending.now ≡ length reading.path.now }
+    requires pending_long { AreLong (length pending.now) (length reading.automaton.now.obligations) pending.now }
     ensures { IfOk result (λ found. IfSome found (λ joint.
-        StandAlong netlist.now automaton.now path.now (length path.now) joint.states)) }
+        StandAlong reading.entry.netlist.now reading.entry.automaton.now reading.entry.path.now
+        (length reading.entry.path.now) joint.states)) }
 {
-    let mut states = begin(alloc, netlist, automaton, path, owed, pending)?;
-    for place in 1..path.len() {
-        if !extend(
-            alloc,
-            netlist,
-            automaton,
-            path,
-            place,
-            owed,
-            pending,
-            &mut states,
-        )? {
+    let mut states = begin(alloc, reading, owed, pending)?;
+    for place in 1..reading.path.len() {
+        if !extend(alloc, reading, place, owed, pending, &mut states)? {
             return Ok(None);
         }
     }
@@ -125,22 +121,21 @@ fn joint_path(
 // The joint state at the first place with what hints say.
 fn begin(
     alloc: Global,
-    netlist: &Netlist,
-    automaton: &Alternating,
-    path: &Valuations,
+    reading: Reading<'_>,
     owed: &Items<Bits>,
     pending: &Items<Bits>,
 ) -> Result<JointStates, NoMemory>
-    requires path { IsPath netlist.now false path.now }
-    requires owed_many { length owed.now ≡ length path.now }
-    requires owed_long { AreLong (length owed.now) (length automaton.now.obligations) owed.now }
-    requires pending_many { length pending.now ≡ length path.now }
-    requires pending_long { AreLong (length pending.now) (length automaton.now.obligations) pending.now }
-    ensures { IfOk result (StandAlong netlist.now automaton.now path.now 1) }
+    requires path { IsPath reading.netlist.now false reading.path.now }
+    requires owed_many { length owed.now ≡ length reading.path.now }
+    requires owed_long { AreLong (length owed.now) (length reading.automaton.now.obligations) owed.now }
+    requires pending_many { length pending.now ≡ length reading.path.now }
+    requires pending_long { AreLong (length pending.now) (length reading.automaton.now.obligations) pending.now }
+    ensures { IfOk result (StandAlong reading.entry.netlist.now reading.entry.automaton.now
+        reading.entry.path.now 1) }
 {
     let owes = owed.at(0).as_slice();
     let waits = pending.at(0).as_slice();
-    let first = first_state(alloc, automaton, path, owes, waits)?;
+    let first = first_state(alloc, reading.automaton, reading.path, owes, waits)?;
     let mut states = JointStates::new(alloc);
     states.push(first)?;
     Ok(states)
@@ -150,30 +145,29 @@ fn begin(
 // added.
 fn extend(
     alloc: Global,
-    netlist: &Netlist,
-    automaton: &Alternating,
-    path: &Valuations,
+    reading: Reading<'_>,
     place: usize,
     owed: &Items<Bits>,
     pending: &Items<Bits>,
     states: &mut JointStates,
 ) -> Result<bool, NoMemory>
-    requires tests { TestsSignals netlist.now automaton.now }
-    requires path { IsPath netlist.now false path.now }
+    requires tests { TestsSignals reading.netlist.now reading.automaton.now }
+    requires path { IsPath reading.netlist.now false reading.path.now }
     requires later { 0 < place }
-    requires place { place < length path.now }
-    requires owed_many { length owed.now ≡ length path.now }
-    requires owed_long { AreLong (length owed.now) (length automaton.now.obligations) owed.now }
-    requires pending_many { length pending.now ≡ length path.now }
-    requires pending_long { AreLong (length pending.now) (length automaton.now.obligations) pending.now }
-    requires along { StandAlong netlist.now automaton.now path.now place states.old }
+    requires place { place < length reading.path.now }
+    requires owed_many { length owed.now ≡ length reading.path.now }
+    requires owed_long { AreLong (length owed.now) (length reading.automaton.now.obligations) owed.now }
+    requires pending_many { length pending.now ≡ length reading.path.now }
+    requires pending_long { AreLong (length pending.now) (length reading.automaton.now.obligations) pending.now }
+    requires along { StandAlong reading.netlist.now reading.automaton.now reading.path.now place states.old }
     ensures { IfOk result (λ added. IsTrue added
-        → StandAlong netlist.now automaton.now path.now (place + 1) states.new) }
+        → StandAlong reading.entry.netlist.now reading.entry.automaton.now reading.entry.path.now
+        (place + 1) states.new) }
 {
     let owes = owed.at(place).as_slice();
     let waits = pending.at(place).as_slice();
     let now = states.at(place - 1);
-    match next_state(alloc, netlist, automaton, path, place - 1, now, owes, waits)? {
+    match next_state(alloc, reading, place - 1, now, owes, waits)? {
         Some(next) => {
             states.push(next)?;
             Ok(true)

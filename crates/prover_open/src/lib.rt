@@ -7,6 +7,7 @@ mod building;
 mod judging;
 mod listing;
 mod meeting;
+mod reading;
 mod states;
 
 pub use building::open_path;

@@ -7,33 +7,34 @@ ghost use Rattle.prover_held.specs.Lasting.{letter_in};
 ghost use Rattle.run_terms.specs.Automata.{TestsSignals};
 
 use crate::listing::{marks_of, meeting_marks};
-use alternating::Alternating;
+use crate::reading::Reading;
 use joint_theory::JointState;
-use netlist::{Netlist, Valuations};
 use prover_held::{automaton_law, is_met};
 use psl_base::NoMemory;
 use std::alloc::Global;
 
 // Whether the letter at a place meets the deltas of obligations with these values of the obligations at the next
 // place.
-fn are_met(
-    netlist: &Netlist,
-    automaton: &Alternating,
-    path: &Valuations,
-    place: usize,
-    numbers: &[u32],
-    next: &[bool],
-) -> bool
-    requires tests { TestsSignals netlist.now automaton.now }
-    requires path { HaveSignals netlist.now path.now }
-    requires place { place < length path.now }
-    requires numbers { All (λ number. number < length automaton.now.obligations) numbers.now }
-    requires long { length next.now ≡ length automaton.now.obligations }
-    ensures { IsTrue result → AreMet automaton.now (letter_in netlist.now path.now place) (bit next.now) numbers.now }
+fn are_met(reading: Reading<'_>, place: usize, numbers: &[u32], next: &[bool]) -> bool
+    requires tests { TestsSignals reading.netlist.now reading.automaton.now }
+    requires path { HaveSignals reading.netlist.now reading.path.now }
+    requires place { place < length reading.path.now }
+    requires numbers { All (λ number. number < length reading.automaton.now.obligations) numbers.now }
+    requires long { length next.now ≡ length reading.automaton.now.obligations }
+    ensures { IsTrue result → AreMet reading.entry.automaton.now
+        (letter_in reading.entry.netlist.now reading.entry.path.now place) (bit next.now) numbers.now }
 {
     let mut met = true;
     for number in numbers {
-        met = met && is_met(netlist, automaton, path, place, *number, next);
+        met = met
+            && is_met(
+                reading.netlist,
+                reading.automaton,
+                reading.path,
+                place,
+                *number,
+                next,
+            );
     }
     met
 }
@@ -41,64 +42,53 @@ fn are_met(
 /// Whether the letter at a place meets what is owed there with what is owed next.
 pub(crate) fn owed_met(
     alloc: Global,
-    netlist: &Netlist,
-    automaton: &Alternating,
-    path: &Valuations,
+    reading: Reading<'_>,
     place: usize,
     now: &JointState,
     next: &JointState,
 ) -> Result<bool, NoMemory>
-    requires tests { TestsSignals netlist.now automaton.now }
-    requires path { HaveSignals netlist.now path.now }
-    requires place { place < length path.now }
-    requires now { All (λ number. number < length automaton.now.obligations) now.now.owed }
-    requires next { All (λ number. number < length automaton.now.obligations) next.now.owed }
+    requires tests { TestsSignals reading.netlist.now reading.automaton.now }
+    requires path { HaveSignals reading.netlist.now reading.path.now }
+    requires place { place < length reading.path.now }
+    requires now { All (λ number. number < length reading.automaton.now.obligations) now.now.owed }
+    requires next { All (λ number. number < length reading.automaton.now.obligations) next.now.owed }
     ensures { IfOk result (λ met. IsTrue met
-        → AreMet automaton.now (letter_in netlist.now path.now place) (is_listed next.now.owed) now.now.owed) }
+        → AreMet reading.entry.automaton.now (letter_in reading.entry.netlist.now reading.entry.path.now place)
+        (is_listed next.now.owed) now.now.owed) }
 {
-    automaton_law(automaton);
-    let owed = marks_of(alloc, automaton.len(), next.owed.as_slice())?;
-    let met = are_met(
-        netlist,
-        automaton,
-        path,
-        place,
-        now.owed.as_slice(),
-        owed.as_slice(),
-    );
+    automaton_law(reading.automaton);
+    let owed = marks_of(alloc, reading.automaton.len(), next.owed.as_slice())?;
+    let met = are_met(reading, place, now.owed.as_slice(), owed.as_slice());
     Ok(met)
 }
 
 /// Whether the letter at a place meets what is pending there with what is owed next and accepting, or pending next.
 pub(crate) fn pending_met(
     alloc: Global,
-    netlist: &Netlist,
-    automaton: &Alternating,
-    path: &Valuations,
+    reading: Reading<'_>,
     place: usize,
     now: &JointState,
     next: &JointState,
 ) -> Result<bool, NoMemory>
-    requires tests { TestsSignals netlist.now automaton.now }
-    requires path { HaveSignals netlist.now path.now }
-    requires place { place < length path.now }
-    requires now { All (λ number. number < length automaton.now.obligations) now.now.pending }
-    requires owed { All (λ number. number < length automaton.now.obligations) next.now.owed }
-    requires pending { All (λ number. number < length automaton.now.obligations) next.now.pending }
-    ensures { IfOk result (λ met. IsTrue met → AreMet automaton.now (letter_in netlist.now path.now place)
-        (may_meet automaton.now next.now) now.now.pending) }
+    requires tests { TestsSignals reading.netlist.now reading.automaton.now }
+    requires path { HaveSignals reading.netlist.now reading.path.now }
+    requires place { place < length reading.path.now }
+    requires now { All (λ number. number < length reading.automaton.now.obligations) now.now.pending }
+    requires owed { All (λ number. number < length reading.automaton.now.obligations) next.now.owed }
+    requires pending { All (λ number. number < length reading.automaton.now.obligations) next.now.pending }
+    ensures { IfOk result (λ met. IsTrue met
+        → AreMet reading.entry.automaton.now (letter_in reading.entry.netlist.now reading.entry.path.now place)
+        (may_meet reading.entry.automaton.now next.now) now.now.pending) }
 {
-    automaton_law(automaton);
-    let owed = marks_of(alloc, automaton.len(), next.owed.as_slice())?;
-    let pending = marks_of(alloc, automaton.len(), next.pending.as_slice())?;
-    let marks = meeting_marks(alloc, automaton, owed.as_slice(), pending.as_slice())?;
-    let met = are_met(
-        netlist,
-        automaton,
-        path,
-        place,
-        now.pending.as_slice(),
-        marks.as_slice(),
-    );
+    automaton_law(reading.automaton);
+    let owed = marks_of(alloc, reading.automaton.len(), next.owed.as_slice())?;
+    let pending = marks_of(alloc, reading.automaton.len(), next.pending.as_slice())?;
+    let marks = meeting_marks(
+        alloc,
+        reading.automaton,
+        owed.as_slice(),
+        pending.as_slice(),
+    )?;
+    let met = are_met(reading, place, now.pending.as_slice(), marks.as_slice());
     Ok(met)
 }

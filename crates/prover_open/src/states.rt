@@ -11,9 +11,10 @@ ghost use Rattle.prover_open.specs.Standing.{Follows, IsOffered, IsPendingBy};
 use crate::asking::asked_by;
 use crate::listing::{all_numbers, chosen, put_off};
 use crate::meeting::{owed_met, pending_met};
+use crate::reading::Reading;
 use alternating::Alternating;
 use joint_theory::{JointState, Places};
-use netlist::{Netlist, Valuations};
+use netlist::Valuations;
 use psl_base::{Bits, NoMemory};
 use std::alloc::Global;
 
@@ -102,25 +103,24 @@ pub(crate) fn first_state(
 // Of some obligations those that a hint says and that others ask for on the letter at a place.
 fn supported(
     alloc: Global,
-    netlist: &Netlist,
-    automaton: &Alternating,
-    path: &Valuations,
+    reading: Reading<'_>,
     place: usize,
     by: &[u32],
     among: &[u32],
     hint: &[bool],
 ) -> Result<Places, NoMemory>
-    requires tests { TestsSignals netlist.now automaton.now }
-    requires path { HaveSignals netlist.now path.now }
-    requires place { place < length path.now }
-    requires by { All (λ number. number < length automaton.now.obligations) by.now }
-    requires among { All (λ number. number < length automaton.now.obligations) among.now }
-    requires hint { length hint.now ≡ length automaton.now.obligations }
+    requires tests { TestsSignals reading.netlist.now reading.automaton.now }
+    requires path { HaveSignals reading.netlist.now reading.path.now }
+    requires place { place < length reading.path.now }
+    requires by { All (λ number. number < length reading.automaton.now.obligations) by.now }
+    requires among { All (λ number. number < length reading.automaton.now.obligations) among.now }
+    requires hint { length hint.now ≡ length reading.automaton.now.obligations }
     ensures { IfOk result (λ found. found
-        ≡ filter (is_asked automaton.now (letter_in netlist.now path.now place) by.now)
+        ≡ filter (is_asked reading.entry.automaton.now
+        (letter_in reading.entry.netlist.now reading.entry.path.now place) by.now)
         (filter (bit hint.now) among.now)) }
 {
-    let asked = asked_by(alloc, netlist, automaton, path, place, by)?;
+    let asked = asked_by(alloc, reading, place, by)?;
     let hinted = chosen(alloc, among, hint)?;
     chosen(alloc, hinted.as_slice(), asked.as_slice())
 }
@@ -128,27 +128,24 @@ fn supported(
 // What is owed behind a state: what a hint says and what is owed asks for.
 fn owed_next(
     alloc: Global,
-    netlist: &Netlist,
-    automaton: &Alternating,
-    path: &Valuations,
+    reading: Reading<'_>,
     place: usize,
     now: &JointState,
     hint: &[bool],
 ) -> Result<Places, NoMemory>
-    requires tests { TestsSignals netlist.now automaton.now }
-    requires path { HaveSignals netlist.now path.now }
-    requires place { place < length path.now }
-    requires now { AreRising automaton.now now.now.owed }
-    requires hint { length hint.now ≡ length automaton.now.obligations }
-    ensures numbers { IfOk result (AreRising automaton.now) }
-    ensures asked { IfOk result (AreAsked automaton.now (letter_in netlist.now path.now place) now.now.owed) }
+    requires tests { TestsSignals reading.netlist.now reading.automaton.now }
+    requires path { HaveSignals reading.netlist.now reading.path.now }
+    requires place { place < length reading.path.now }
+    requires now { AreRising reading.automaton.now now.now.owed }
+    requires hint { length hint.now ≡ length reading.automaton.now.obligations }
+    ensures numbers { IfOk result (AreRising reading.entry.automaton.now) }
+    ensures asked { IfOk result (AreAsked reading.entry.automaton.now
+        (letter_in reading.entry.netlist.now reading.entry.path.now place) now.now.owed) }
 {
-    let all = all_numbers(alloc, automaton.len())?;
+    let all = all_numbers(alloc, reading.automaton.len())?;
     supported(
         alloc,
-        netlist,
-        automaton,
-        path,
+        reading,
         place,
         now.owed.as_slice(),
         all.as_slice(),
@@ -160,28 +157,25 @@ fn owed_next(
 // a hint says and what is pending asks for.
 fn pending_next(
     alloc: Global,
-    netlist: &Netlist,
-    automaton: &Alternating,
-    path: &Valuations,
+    reading: Reading<'_>,
     place: usize,
     now: &JointState,
     owed: &Places,
     hint: &[bool],
 ) -> Result<Places, NoMemory>
-    requires tests { TestsSignals netlist.now automaton.now }
-    requires path { HaveSignals netlist.now path.now }
-    requires place { place < length path.now }
-    requires now { AreRising automaton.now now.now.pending }
-    requires owed { AreRising automaton.now owed.now }
-    requires hint { length hint.now ≡ length automaton.now.obligations }
-    ensures { IfOk result (IsPendingBy automaton.now (letter_in netlist.now path.now place) now.now owed.now) }
+    requires tests { TestsSignals reading.netlist.now reading.automaton.now }
+    requires path { HaveSignals reading.netlist.now reading.path.now }
+    requires place { place < length reading.path.now }
+    requires now { AreRising reading.automaton.now now.now.pending }
+    requires owed { AreRising reading.automaton.now owed.now }
+    requires hint { length hint.now ≡ length reading.automaton.now.obligations }
+    ensures { IfOk result (IsPendingBy reading.entry.automaton.now
+        (letter_in reading.entry.netlist.now reading.entry.path.now place) now.now owed.now) }
 {
-    let waiting = put_off(alloc, automaton, owed.as_slice())?;
+    let waiting = put_off(alloc, reading.automaton, owed.as_slice())?;
     let asked = supported(
         alloc,
-        netlist,
-        automaton,
-        path,
+        reading,
         place,
         now.pending.as_slice(),
         waiting.as_slice(),
@@ -213,55 +207,51 @@ fn count_next(now: &JointState) -> u32
 // A joint state that may come behind one, as far as what is asked for goes: what hints say is owed and pending.
 fn offered(
     alloc: Global,
-    netlist: &Netlist,
-    automaton: &Alternating,
-    path: &Valuations,
+    reading: Reading<'_>,
     place: usize,
     now: &JointState,
     owed: &[bool],
     pending: &[bool],
 ) -> Result<JointState, NoMemory>
-    requires tests { TestsSignals netlist.now automaton.now }
-    requires path { HaveSignals netlist.now path.now }
-    requires place { place + 1 < length path.now }
+    requires tests { TestsSignals reading.netlist.now reading.automaton.now }
+    requires path { HaveSignals reading.netlist.now reading.path.now }
+    requires place { place + 1 < length reading.path.now }
     requires fits { place + 1 < 2 ^ 64 }
-    requires owes { AreOwed automaton.now now.now }
-    requires owed { length owed.now ≡ length automaton.now.obligations }
-    requires pending { length pending.now ≡ length automaton.now.obligations }
-    ensures { IfOk result (IsOffered netlist.now automaton.now path.now place now.now) }
+    requires owes { AreOwed reading.automaton.now now.now }
+    requires owed { length owed.now ≡ length reading.automaton.now.obligations }
+    requires pending { length pending.now ≡ length reading.automaton.now.obligations }
+    ensures { IfOk result (IsOffered reading.entry.netlist.now reading.entry.automaton.now reading.entry.path.now
+        place now.now) }
 {
-    let numbers = owed_next(alloc, netlist, automaton, path, place, now, owed)?;
-    let waiting = pending_next(
-        alloc, netlist, automaton, path, place, now, &numbers, pending,
-    )?;
+    let numbers = owed_next(alloc, reading, place, now, owed)?;
+    let waiting = pending_next(alloc, reading, place, now, &numbers, pending)?;
     let count = count_next(now);
-    state_at(alloc, path, place + 1, numbers, waiting, count)
+    state_at(alloc, reading.path, place + 1, numbers, waiting, count)
 }
 
 /// A joint state that follows one at a place of a path: what hints say is owed and pending, as far as it is asked for.
 /// None, if this does not meet what is owed and pending there.
 pub(crate) fn next_state(
     alloc: Global,
-    netlist: &Netlist,
-    automaton: &Alternating,
-    path: &Valuations,
+    reading: Reading<'_>,
     place: usize,
     now: &JointState,
     owed: &[bool],
     pending: &[bool],
 ) -> Result<Option<JointState>, NoMemory>
-    requires tests { TestsSignals netlist.now automaton.now }
-    requires path { HaveSignals netlist.now path.now }
-    requires place { place + 1 < length path.now }
+    requires tests { TestsSignals reading.netlist.now reading.automaton.now }
+    requires path { HaveSignals reading.netlist.now reading.path.now }
+    requires place { place + 1 < length reading.path.now }
     requires fits { place + 1 < 2 ^ 64 }
-    requires owes { AreOwed automaton.now now.now }
-    requires owed { length owed.now ≡ length automaton.now.obligations }
-    requires pending { length pending.now ≡ length automaton.now.obligations }
-    ensures { IfOk result (λ found. IfSome found (Follows netlist.now automaton.now path.now place now.now)) }
+    requires owes { AreOwed reading.automaton.now now.now }
+    requires owed { length owed.now ≡ length reading.automaton.now.obligations }
+    requires pending { length pending.now ≡ length reading.automaton.now.obligations }
+    ensures { IfOk result (λ found. IfSome found (Follows reading.entry.netlist.now reading.entry.automaton.now
+        reading.entry.path.now place now.now)) }
 {
-    let next = offered(alloc, netlist, automaton, path, place, now, owed, pending)?;
-    let owed_met = owed_met(alloc, netlist, automaton, path, place, now, &next)?;
-    let pending_met = pending_met(alloc, netlist, automaton, path, place, now, &next)?;
+    let next = offered(alloc, reading, place, now, owed, pending)?;
+    let owed_met = owed_met(alloc, reading, place, now, &next)?;
+    let pending_met = pending_met(alloc, reading, place, now, &next)?;
     if owed_met && pending_met {
         return Ok(Some(next));
     }

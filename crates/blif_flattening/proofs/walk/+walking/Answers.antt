@@ -16,13 +16,13 @@ pub visit-add_line-requires-clause-names : goal.visit-add_line-requires-clause-n
 visit-add_line-requires-clause-names g t c =
     let listed = rw c.in-Own.is at c.requires.listed in
     rw c.mentions.ensures
-    (names-within g.row.L.Denot g.L.Line.mentions c.args.models.now c.requires.named c.args.instance.now c.args.out.now.table.owners c.requires.opened
+    (names-within g.row.L.Denot g.L.Line.mentions c.args.inside.models.now c.requires.named c.args.inside.instance.now c.args.out.now.table.owners c.requires.opened
     c.args.item c.in-Own.line listed)
 
 pub visit-add_line-requires-clause-cells : goal.visit-add_line-requires-clause-cells
 visit-add_line-requires-clause-cells g t c =
     let listed = rw c.in-Own.is at c.requires.listed in
-    cells-within g.row.L.Denot g.L.Line.mentions c.args.models.now c.requires.named c.args.instance.now c.args.out.now.table.owners c.requires.opened
+    cells-within g.row.L.Denot g.L.Line.mentions c.args.inside.models.now c.requires.named c.args.inside.instance.now c.args.out.now.table.owners c.requires.opened
     c.args.item c.in-Own.line listed
 
 pub visit-add_line-requires-clause-room : goal.visit-add_line-requires-clause-room
@@ -30,7 +30,7 @@ visit-add_line-requires-clause-room g t c =
     let listed = rw c.in-Own.is at c.requires.listed in
     let room = rw c.in-Own.is at c.requires.room in
     rw c.mentions.ensures
-    (room-line g.row.L.Denot g.L.Line.mentions c.args.models.now c.requires.named c.args.instance.now c.args.out.now.table.owners c.requires.opened
+    (room-line g.row.L.Denot g.L.Line.mentions c.args.inside.models.now c.requires.named c.args.inside.instance.now c.args.out.now.table.owners c.requires.opened
     c.args.item c.in-Own.line listed c.args.out.now.table.seen (2 ^ 32) room)
 
 pub visit-returns-in_ok-add_line-in-Own-clause-walks : goal.visit-returns-in_ok-add_line-in-Own-clause-walks
@@ -38,7 +38,7 @@ visit-returns-in_ok-add_line-in-Own-clause-walks g t c =
     let listed = rw c.in-Own.is at c.requires.listed in
     let adds = rw c.mentions.ensures at c.in_ok-add_line-in-Own.ensures in
     rw c.in-Own.is
-    (Walks-line g.row.L.Denot g.L.Line.mentions c.args.models.now c.requires.named c.args.instance.now c.args.out.now.table.owners c.requires.opened
+    (Walks-line g.row.L.Denot g.L.Line.mentions c.args.inside.models.now c.requires.named c.args.inside.instance.now c.args.out.now.table.owners c.requires.opened
     c.args.item c.in-Own.line listed c.args.out.now c.add_line.new.out refl adds)
 
 pub visit-walk-requires : goal.visit-walk-requires
@@ -55,10 +55,10 @@ visit-walk-requires g t c κs within =
           (
             c.in_ok-child-in-Place.ensures.opened,
             (
-              rw path (small-below c.args.instance.now.path c.args.k c.requires.few c.requires.small),
+              rw path (small-below c.args.inside.instance.now.path c.args.k c.requires.few c.requires.small),
               (
                 rw path
-                    (fresh-below g.row.L.Denot g.L.Line.mentions c.args.models.now c.requires.named c.args.instance.now c.args.out.now.table.owners c.requires.opened c.args.k
+                    (fresh-below g.row.L.Denot g.L.Line.mentions c.args.inside.models.now c.requires.named c.args.inside.instance.now c.args.out.now.table.owners c.requires.opened c.args.k
                     c.in-Place.placement placed c.requires.fresh _ c.open_placement.new.out.table.owners c.open_placement.new.out.table.owners opens),
                 rw (path, c.in_ok-child-in-Place.ensures.seen) room,
               ),
@@ -72,19 +72,19 @@ pub visit-returns-in_ok-walk-in-Place-clause-walks : goal.visit-returns-in_ok-wa
 visit-returns-in_ok-walk-in-Place-clause-walks g t c =
     let walks = rw c.in_ok-child-in-Place.ensures.path at c.in_ok-walk-in-Place.ensures.walks in
     rw c.in-Place.is
-    (Walks-after g.row.L.Denot g.L.Line.mentions c.args.models.now (expand c.args.models.now c.args.levels (c.args.k ∷ c.args.instance.now.path)) c.args.out.now c.open_placement.new.out c.walk.new.out
+    (Walks-after g.row.L.Denot g.L.Line.mentions c.args.inside.models.now (expand c.args.inside.models.now c.args.inside.levels (c.args.k ∷ c.args.inside.instance.now.path)) c.args.out.now c.open_placement.new.out c.walk.new.out
     c.in_ok-child-in-Place.ensures.seen c.in_ok-child-in-Place.ensures.lines walks)
 
 pub visit-returns-in_ok-add_line-in-Own-clause-lists : goal.visit-returns-in_ok-add_line-in-Own-clause-lists
 visit-returns-in_ok-add_line-in-Own-clause-lists g t c =
     rw c.in-Own.is
-    (Lists-none g.row.L.Denot g.L.Line.mentions c.args.models.now c.args.out.now.instances c.add_line.new.out c.in_ok-add_line-in-Own.ensures.instances)
+    (Lists-none g.row.L.Denot g.L.Line.mentions c.args.inside.models.now c.args.out.now.instances c.add_line.new.out c.in_ok-add_line-in-Own.ensures.instances)
 
 pub visit-returns-in_ok-walk-in-Place-clause-lists : goal.visit-returns-in_ok-walk-in-Place-clause-lists
 visit-returns-in_ok-walk-in-Place-clause-lists g t c =
     let lists = rw c.in_ok-child-in-Place.ensures.path at c.in_ok-walk-in-Place.ensures.lists in
     rw c.in-Place.is
-    (Lists-after g.row.L.Denot g.L.Line.mentions c.args.models.now (instances_from c.args.models.now c.args.levels (c.args.k ∷ c.args.instance.now.path))
+    (Lists-after g.row.L.Denot g.L.Line.mentions c.args.inside.models.now (instances_from c.args.inside.models.now c.args.inside.levels (c.args.k ∷ c.args.inside.instance.now.path))
     c.args.out.now.instances c.open_placement.new.out.instances c.walk.new.out c.in_ok-child-in-Place.ensures.instances lists)
 
 pub visit-returns-in_ok-walk-in-Place-clause-grows : goal.visit-returns-in_ok-walk-in-Place-clause-grows
@@ -92,7 +92,7 @@ visit-returns-in_ok-walk-in-Place-clause-grows g t c =
     let placed = rw c.in-Place.is at c.requires.placed in
     let opens = rw c.in_ok-child-in-Place.ensures.path at c.in_ok-child-in-Place.ensures.opens in
     let grows = rw c.in_ok-child-in-Place.ensures.path at c.in_ok-walk-in-Place.ensures.grows in
-    Grows-placed g.row.L.Denot g.L.Line.mentions c.args.models.now c.requires.named c.args.instance.now c.args.out.now.table.owners c.requires.opened c.args.k
+    Grows-placed g.row.L.Denot g.L.Line.mentions c.args.inside.models.now c.requires.named c.args.inside.instance.now c.args.out.now.table.owners c.requires.opened c.args.k
     c.in-Place.placement placed c.requires.fresh _ c.open_placement.new.out.table.owners c.walk.new.out.table.owners opens grows
 
 pub visit-returns-in_ok-walk-in-Place-clause-fresh : goal.visit-returns-in_ok-walk-in-Place-clause-fresh
@@ -100,7 +100,7 @@ visit-returns-in_ok-walk-in-Place-clause-fresh g t c =
     let placed = rw c.in-Place.is at c.requires.placed in
     let opens = rw c.in_ok-child-in-Place.ensures.path at c.in_ok-child-in-Place.ensures.opens in
     let grows = rw c.in_ok-child-in-Place.ensures.path at c.in_ok-walk-in-Place.ensures.grows in
-    fresh-next g.row.L.Denot g.L.Line.mentions c.args.models.now c.requires.named c.args.instance.now c.args.out.now.table.owners c.requires.opened c.args.k
+    fresh-next g.row.L.Denot g.L.Line.mentions c.args.inside.models.now c.requires.named c.args.inside.instance.now c.args.out.now.table.owners c.requires.opened c.args.k
     c.in-Place.placement placed c.requires.fresh _ c.open_placement.new.out.table.owners c.walk.new.out.table.owners opens grows
 
 pub walk-returns-in_default-clause-walks : goal.walk-returns-in_default-clause-walks

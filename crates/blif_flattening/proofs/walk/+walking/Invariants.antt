@@ -6,7 +6,7 @@ use Rattle.blif_flattening.proofs.Walking.{Walking}
 use Rattle.blif_flattening.proofs.walk.+walking.Given as goal
 
 abbrev pub decreases-visit : goal.decreases-visit
-decreases-visit g l = 2 * l.levels + 1
+decreases-visit g l = 2 * l.inside.levels + 1
 
 abbrev pub decreases-walk : goal.decreases-walk
 decreases-walk g l = 2 * l.levels

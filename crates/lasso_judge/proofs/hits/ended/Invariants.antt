@@ -7,7 +7,7 @@ use Rattle.lasso_judge.proofs.hits.ended.Given as goal
 
 abbrev pub invariant-loop-cell : goal.invariant-loop-cell
 invariant-loop-cell l = record {
-  same : marking_of l.marking ≡ visit_all (record { marks = replicate l.chart.cells false; waiting = [] })
-      (numbers_below (λ cell. ends_at l.chart.nfa.states (λ place. seen_at l.word l.flipped place) l.hits cell) l.cell);
-  len : length l.marking.marks.items ≡ l.chart.cells;
+  same : marking_of l.marking ≡ visit_all (record { marks = replicate l.charted.chart.now.cells false; waiting = [] })
+      (numbers_below (λ cell. ends_at l.charted.chart.now.nfa.states (λ place. seen_at l.charted.word.now l.charted.flipped place) l.hits cell) l.cell);
+  len : length l.marking.marks.items ≡ l.charted.chart.now.cells;
 }

@@ -5,4 +5,4 @@ use Rattle.lasso_tables.specs.Seen.{seen_at}
 use Rattle.lasso_judge.proofs.hits.ends_by.Given as goal
 
 abbrev pub invariant-loop-edge : goal.invariant-loop-edge
-invariant-loop-edge l = ends_on l.chart.nfa.states (seen_at l.word l.flipped l.place) (edges_of (drop l.edge-index l.edges)) ≡ ends_on l.chart.nfa.states (seen_at l.word l.flipped l.place) (edges_of l.edges)
+invariant-loop-edge l = ends_on l.charted.chart.now.nfa.states (seen_at l.charted.word.now l.charted.flipped l.place) (edges_of (drop l.edge-index l.edges)) ≡ ends_on l.charted.chart.now.nfa.states (seen_at l.charted.word.now l.charted.flipped l.place) (edges_of l.edges)

@@ -6,8 +6,8 @@ use Rattle.lasso_judge.proofs.lasts.fall_each.Given as goal
 
 abbrev pub invariant-loop-cell : goal.invariant-loop-cell
 invariant-loop-cell l = record {
-  same : fall_all l.chart.nfa.states (λ place. seen_at l.word l.flipped place) l.next (marking_of l.marking) (drop l.cell-index l.cells)
-      ≡ fall_all l.chart.nfa.states (λ place. seen_at l.word l.flipped place) l.next (marking_of l.initial.marking) l.cells;
+  same : fall_all l.charted.chart.now.nfa.states (λ place. seen_at l.charted.word.now l.charted.flipped place) l.charted.next.now (marking_of l.marking) (drop l.cell-index l.cells)
+      ≡ fall_all l.charted.chart.now.nfa.states (λ place. seen_at l.charted.word.now l.charted.flipped place) l.charted.next.now (marking_of l.initial.marking) l.cells;
   len : length l.marking.marks.items ≡ length l.initial.marking.marks.items;
-  passed : ArePassed l.chart.nfa.states (λ place. seen_at l.word l.flipped place) l.next l.chart.cells l.marking.marks.items l.passed.items;
+  passed : ArePassed l.charted.chart.now.nfa.states (λ place. seen_at l.charted.word.now l.charted.flipped place) l.charted.next.now l.charted.chart.now.cells l.marking.marks.items l.passed.items;
 }

@@ -8,8 +8,8 @@ use Rattle.lasso_judge.proofs.lasts.fallen_cells.Given as goal
 
 abbrev pub invariant-loop-cell : goal.invariant-loop-cell
 invariant-loop-cell l = record {
-  search : IsFallSearch l.word l.flipped l.next l.chart.nfa.states [] (marking_of l.marking);
-  passed : ArePassed l.chart.nfa.states (λ place. seen_at l.word l.flipped place) l.next l.chart.cells l.marking.marks.items l.passed.items;
+  search : IsFallSearch l.charted.word.now l.charted.flipped l.charted.next.now l.charted.chart.now.nfa.states [] (marking_of l.marking);
+  passed : ArePassed l.charted.chart.now.nfa.states (λ place. seen_at l.charted.word.now l.charted.flipped place) l.charted.next.now l.charted.chart.now.cells l.marking.marks.items l.passed.items;
 }
 
 abbrev pub decreases-loop-cell : goal.decreases-loop-cell

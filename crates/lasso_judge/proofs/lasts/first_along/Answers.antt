@@ -6,5 +6,5 @@ use Rattle.lasso_judge.proofs.Passed.{passed_ends}
 use Rattle.lasso_judge.proofs.lasts.first_along.Goals as goal
 
 pub returns-clause-goes : goal.returns-clause-goes
-returns-clause-goes c = passed_ends c.args.chart.now.nfa.states (seen_at c.args.word.now c.args.flipped c.args.place) c.args.marks.now c.args.first (edges_of c.args.edges.now)
+returns-clause-goes c = passed_ends c.args.charted.chart.now.nfa.states (seen_at c.args.charted.word.now c.args.charted.flipped c.args.place) c.args.marks.now c.args.first (edges_of c.args.edges.now)
     c.loop-number.number (length c.args.edges.now) (sym (length-map c.args.edges.now edge_of)) c.loop-number.invariant (sym c.is_idle.ensures ∙ c.loop-number-test.false)

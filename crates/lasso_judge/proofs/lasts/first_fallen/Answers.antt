@@ -6,7 +6,7 @@ use Rattle.lasso_judge.proofs.lasts.first_fallen.Goals as goal
 
 pub loop-cell-preserved : goal.loop-cell-preserved
 loop-cell-preserved c = record {
-  same = fallen-more c.args.chart.now.nfa.states (λ place. seen_at c.args.word.now c.args.flipped place) c.args.next.now c.loop-cell.cell c.args.chart.now.cells
+  same = fallen-more c.args.charted.chart.now.nfa.states (λ place. seen_at c.args.charted.word.now c.args.charted.flipped place) c.args.charted.next.now c.loop-cell.cell c.args.charted.chart.now.cells
       (marking_of c.loop-cell.marking) (marking_of c.fall_one.new.marking) _ c.loop-cell-test.true c.loop-cell.invariant.same c.in_ok-fall_one.ensures.marking;
   len = c.in_ok-fall_one.ensures.len ∙ c.loop-cell.invariant.len;
   passed = c.in_ok-fall_one.ensures.passed;

@@ -12,8 +12,8 @@ use Rattle.lasso_judge.proofs.Passed.{passed_set}
 use Rattle.lasso_judge.proofs.lasts.lasts.Goals as goal
 
 pub first_along-number-requires-clause-told : goal.first_along-number-requires-clause-told
-first_along-number-requires-clause-told c = edges-told (λ place. seen_at c.args.word.now c.args.flipped place) c.args.chart.now _ c.as_slice.result.now c.requires.labels
-    (cell-state c.args.cell (length c.args.chart.now.nfa.states) c.len-states.result c.len-states.ensures c.requires.chart.drawn.some)
+first_along-number-requires-clause-told c = edges-told (λ place. seen_at c.args.charted.word.now c.args.charted.flipped place) c.args.charted.chart.now _ c.as_slice.result.now c.requires.labels
+    (cell-state c.args.cell (length c.args.charted.chart.now.nfa.states) c.len-states.result c.len-states.ensures c.requires.chart.drawn.some)
     (ap (λ (es : List NfaEdge). edges_of es) c.as_slice.ensures ∙ c.edges-edges.ensures.shown)
 
 -- edges were passed at the cell that was looked at
@@ -27,9 +27,9 @@ passed-here states letter next marks cell width first edges count e f g h =
 
 pub returns-clause-passed : goal.returns-clause-passed
 returns-clause-passed c =
-    passed_set c.args.chart.now.nfa.states (λ place. seen_at c.args.word.now c.args.flipped place) c.args.next.now c.args.chart.now.cells c.args.marks.now c.args.passed.now.items c.args.cell c.first_along-number.result
+    passed_set c.args.charted.chart.now.nfa.states (λ place. seen_at c.args.charted.word.now c.args.charted.flipped place) c.args.charted.next.now c.args.charted.chart.now.cells c.args.marks.now c.args.passed.now.items c.args.cell c.first_along-number.result
     c.requires.passed
-    (passed-here c.args.chart.now.nfa.states (λ place. seen_at c.args.word.now c.args.flipped place) c.args.next.now c.args.marks.now c.args.cell c.len-states.result
+    (passed-here c.args.charted.chart.now.nfa.states (λ place. seen_at c.args.charted.word.now c.args.charted.flipped place) c.args.charted.next.now c.args.marks.now c.args.cell c.len-states.result
     _ (edges_of c.as_slice.result.now) c.first_along-number.result c.len-states.ensures
     refl
     (ap (λ (es : List NfaEdge). edges_of es) c.as_slice.ensures ∙ c.edges-edges.ensures.shown)

@@ -6,6 +6,6 @@ use Rattle.prover_open.proofs.asking.asked_by.Given as goal
 
 abbrev pub invariant-loop-number : goal.invariant-loop-number
 invariant-loop-number l = record {
-  long : length l.asked ≡ length l.automaton.obligations;
-  each : (number : ℕ) → bit l.asked number ≡ is_asked l.automaton (letter_in l.netlist l.path l.place) (take l.number-index l.numbers) number;
+  long : length l.asked ≡ length l.reading.automaton.now.obligations;
+  each : (number : ℕ) → bit l.asked number ≡ is_asked l.reading.automaton.now (letter_in l.reading.netlist.now l.reading.path.now l.place) (take l.number-index l.numbers) number;
 }

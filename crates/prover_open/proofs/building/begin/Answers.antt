@@ -17,6 +17,6 @@ first_state-requires-clause-pending c =
 
 pub returns : goal.returns
 returns c =
-    along-first c.args.netlist.now c.args.automaton.now c.args.path.now c.requires.path c.in_ok-first.first c.push.new.self
+    along-first c.args.reading.netlist.now c.args.reading.automaton.now c.args.reading.path.now c.requires.path c.in_ok-first.first c.push.new.self
     (c.in_ok-push.ensures.ok ∙ ap (λ (list : List JointState). list ++ c.in_ok-first.first ∷ []) c.new-states.ensures)
     c.in_ok-first.ensures.stands c.in_ok-first.ensures.owes

@@ -7,7 +7,7 @@ use Rattle.prover_open.proofs.Neighbours.{along-more}
 use Rattle.prover_open.proofs.building.extend.Goals as goal
 
 pub next_state-requires-clause-path : goal.next_state-requires-clause-path
-next_state-requires-clause-path c = path-signals c.args.netlist.now c.args.path.now c.requires.path
+next_state-requires-clause-path c = path-signals c.args.reading.netlist.now c.args.reading.path.now c.requires.path
 
 pub next_state-requires-clause-owes : goal.next_state-requires-clause-owes
 next_state-requires-clause-owes c = c.requires.along.owe (c.args.place - 1) c.at-now.result.now c.at-now.ensures
@@ -26,9 +26,9 @@ next_state-requires-clause-pending c =
 
 pub returns-in_ok-push-in-Some : goal.returns-in_ok-push-in-Some
 returns-in_ok-push-in-Some c = λ _.
-    let d = c.args.netlist.now in
-    let a = c.args.automaton.now in
-    let path = c.args.path.now in
+    let d = c.args.reading.netlist.now in
+    let a = c.args.reading.automaton.now in
+    let path = c.args.reading.path.now in
     along-more d a path c.requires.path c.args.place c.args.states.now c.at-now.result.now c.in-Some.next c.push.new.self
     c.requires.along c.requires.later c.requires.place c.at-now.ensures
     (subst (λ (o : Option JointState). IfSome o (Follows d a path (c.args.place - 1) c.at-now.result.now)) c.in-Some.is c.in_ok-next.ensures)

@@ -13,7 +13,7 @@ use Rattle.prover_open.proofs.meeting.are_met.Goals.{then-met, else-met}
 pub loop-number-preserved : goal.loop-number-preserved
 loop-number-preserved c = λ h. elim c.if-met.branch [
   | then-met w ↦ All-more
-      (λ number. IsTrue (met (delta_of c.args.automaton.now number) (letter_in c.args.netlist.now c.args.path.now c.args.place) (bit c.args.next.now)))
+      (λ number. IsTrue (met (delta_of c.args.reading.automaton.now number) (letter_in c.args.reading.netlist.now c.args.reading.path.now c.args.place) (bit c.args.next.now)))
       c.args.numbers.now c.loop-number.number-index 0 c.loop-number-test.true (c.loop-number.invariant w.if-met.true)
       (sym w.is_met-met.ensures ∙ sym w.met-is ∙ h)
   | else-met w ↦ absurd (false≢true (sym w.if-met.false ∙ sym w.met-is ∙ h))
@@ -21,5 +21,5 @@ loop-number-preserved c = λ h. elim c.if-met.branch [
 
 pub returns : goal.returns
 returns c = λ h.
-    subst (λ (list : List ℕ). All (λ number. IsTrue (met (delta_of c.args.automaton.now number) (letter_in c.args.netlist.now c.args.path.now c.args.place) (bit c.args.next.now))) list)
+    subst (λ (list : List ℕ). All (λ number. IsTrue (met (delta_of c.args.reading.automaton.now number) (letter_in c.args.reading.netlist.now c.args.reading.path.now c.args.place) (bit c.args.next.now))) list)
     (take_all c.loop-number.number-index c.args.numbers.now (omega (arith, c.loop-number-test.false))) (c.loop-number.invariant h)

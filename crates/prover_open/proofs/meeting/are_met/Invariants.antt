@@ -6,4 +6,4 @@ use Rattle.prover_held.specs.Lasting.{letter_in}
 use Rattle.prover_open.proofs.meeting.are_met.Given as goal
 
 abbrev pub invariant-loop-number : goal.invariant-loop-number
-invariant-loop-number l = IsTrue l.met → AreMet l.automaton (letter_in l.netlist l.path l.place) (bit l.next) (take l.number-index l.numbers)
+invariant-loop-number l = IsTrue l.met → AreMet l.reading.automaton.now (letter_in l.reading.netlist.now l.reading.path.now l.place) (bit l.next) (take l.number-index l.numbers)

@@ -7,8 +7,8 @@ use Rattle.prover_open.proofs.meeting.pending_met.Goals as goal
 
 pub returns : goal.returns
 returns c = λ h.
-    let letter = letter_in c.args.netlist.now c.args.path.now c.args.place in
-    let automaton = c.args.automaton.now in
+    let letter = letter_in c.args.reading.netlist.now c.args.reading.path.now c.args.place in
+    let automaton = c.args.reading.automaton.now in
     met-alike automaton letter c.args.now.now.pending (bit c.as_slice-6.result.now) (may_meet automaton c.args.next.now) c.automaton_law.ensures c.requires.now
     (λ number low.
     let owed : bit c.as_slice-3.result.now number ≡ is_listed c.args.next.now.owed number =

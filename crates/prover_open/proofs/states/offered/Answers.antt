@@ -16,8 +16,8 @@ returns c =
     let numbers = c.in_ok-numbers.numbers in
     let waiting = c.in_ok-waiting.waiting in
     let count = c.count_next-count.result in
-    IfOk-weaker c.state_at.result (λ state. state ≡ state_of c.args.path.now (place + 1) numbers waiting count)
-    (IsOffered c.args.netlist.now c.args.automaton.now c.args.path.now place c.args.now.now)
-    (λ state is. offers c.args.netlist.now c.args.automaton.now c.args.path.now place c.args.now.now numbers waiting count state
+    IfOk-weaker c.state_at.result (λ state. state ≡ state_of c.args.reading.path.now (place + 1) numbers waiting count)
+    (IsOffered c.args.reading.netlist.now c.args.reading.automaton.now c.args.reading.path.now place c.args.now.now)
+    (λ state is. offers c.args.reading.netlist.now c.args.reading.automaton.now c.args.reading.path.now place c.args.now.now numbers waiting count state
     c.in_ok-numbers.ensures.numbers c.in_ok-numbers.ensures.asked c.in_ok-waiting.ensures c.count_next-count.ensures.anew c.count_next-count.ensures.same
     c.requires.owes.count is) c.state_at.ensures

@@ -11,12 +11,12 @@ use Rattle.prover_open.proofs.states.owed_next.Goals as goal
 pub supported-requires-clause-among : goal.supported-requires-clause-among
 supported-requires-clause-among c =
     let all = c.as_slice-2.result.now in
-    (all-rising c.args.automaton.now c.len.result c.in_ok-all.all all c.len.ensures c.in_ok-all.ensures c.as_slice-2.ensures).below
+    (all-rising c.args.reading.automaton.now c.len.result c.in_ok-all.all all c.len.ensures c.in_ok-all.ensures c.as_slice-2.ensures).below
 
 pub returns-clause-numbers : goal.returns-clause-numbers
 returns-clause-numbers c =
-    let automaton = c.args.automaton.now in
-    let letter = letter_in c.args.netlist.now c.args.path.now c.args.place in
+    let automaton = c.args.reading.automaton.now in
+    let letter = letter_in c.args.reading.netlist.now c.args.reading.path.now c.args.place in
     let by = c.as_slice.result.now in
     let all = c.as_slice-2.result.now in
     let hinted = filter (bit c.args.hint.now) all in
@@ -27,8 +27,8 @@ returns-clause-numbers c =
 
 pub returns-clause-asked : goal.returns-clause-asked
 returns-clause-asked c =
-    let automaton = c.args.automaton.now in
-    let letter = letter_in c.args.netlist.now c.args.path.now c.args.place in
+    let automaton = c.args.reading.automaton.now in
+    let letter = letter_in c.args.reading.netlist.now c.args.reading.path.now c.args.place in
     let by = c.as_slice.result.now in
     let hinted = filter (bit c.args.hint.now) c.as_slice-2.result.now in
     IfOk-weaker c.supported.result (λ found. found ≡ filter (is_asked automaton letter by) hinted) (AreAsked automaton letter c.args.now.now.owed)
