@@ -1,7 +1,11 @@
--- Which formulas have a sequence that is too large.
+-- Which formulas have a sequence that is too large, and which limit a formula passes first.
 use Rattle.std.specs.Prelude.{◌⊎◌, ◌<◌}
-use Rattle.psl_tree.specs.declared.counts.TheConstants.{MOST_STATES}
-use Rattle.psl_tree.specs.Counts.{states_of}
+use Rattle.psl_tree.specs.declared.counts.TheConstants.{MOST_OBLIGATIONS, MOST_STATES}
+use Rattle.psl_tree.specs.declared.limit.Limit.{Limit}
+use Rattle.psl_tree.specs.declared.limit.Limit.TheVariants as limits
+use Rattle.psl_tree.specs.declared.limit.LimitFault.{LimitFault}
+use Rattle.psl_tree.specs.declared.limit.LimitFault.TheVariants.{TooLarge, NoMemory}
+use Rattle.psl_tree.specs.Counts.{obligations_of, states_of}
 use Rattle.psl_tree.specs.Trees.{Sequence, Formula, Now, NowStrong, Weak, Strong, Not, And, Next, Until, Suffix, Abort, SyncAbort, Clocked}
 
 -- some sequence of the formula has P
@@ -22,3 +26,15 @@ SomeSequence P (Clocked part _) = SomeSequence P part
 -- some sequence of the formula counts more states than a sequence may
 abbrev pub HasLargeSequence : Formula → Type 0
 HasLargeSequence formula = SomeSequence (λ sequence. MOST_STATES < states_of sequence) formula
+
+-- the limit of automata that the formula passes first
+abbrev pub PassesFirst : Formula → Limit → Type 0
+PassesFirst formula limits.Sere = HasLargeSequence formula
+PassesFirst formula limits.Automaton = (HasLargeSequence formula → ⊥) × (MOST_OBLIGATIONS < obligations_of formula)
+PassesFirst formula limits.Unroll = ⊥
+PassesFirst formula limits.Formula = ⊥
+
+-- such a limit, or want of memory
+abbrev pub MayPass : Formula → LimitFault → Type 0
+MayPass formula (TooLarge limit) = PassesFirst formula limit
+MayPass formula NoMemory = Unit {0}

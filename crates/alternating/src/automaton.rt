@@ -1,4 +1,4 @@
-ghost use Rattle.std.specs.Prelude.{◌≡◌, ◌↔◌, ◌+◌, ◌*◌, ◌^◌, ◌≤◌, ◌<◌, [], length, IsTrue, IfOk};
+ghost use Rattle.std.specs.Prelude.{◌≡◌, ◌↔◌, ◌+◌, ◌*◌, ◌^◌, ◌≤◌, ◌<◌, [], length, IsTrue, IfErr, IfOk};
 ghost use Rattle.psl_tree.specs.Clockless.{IsPlain};
 ghost use Rattle.psl_tree.specs.Followed.{Nothing, Tops, Bottoms};
 ghost use Rattle.psl_tree.specs.Counts.{obligations_of, states_of};
@@ -11,7 +11,7 @@ ghost use Rattle.alternating_theory.specs.Positive.{OwesWithin};
 ghost use Rattle.alternating_theory.specs.Built.{built, unmerged};
 ghost use Rattle.alternating_theory.specs.Trimmed.{trimmed};
 ghost use Rattle.alternating_theory.specs.Atoms.{KeepsAtoms};
-ghost use Rattle.alternating.specs.Limits.{HasLargeSequence};
+ghost use Rattle.alternating.specs.Limits.{HasLargeSequence, MayPass};
 ghost use Rattle.alternating.specs.Packed.{letter_of};
 ghost use Rattle.alternating.specs.Stepped.{stepped, values_of, StepsBack};
 ghost use Rattle.alternating.specs.Views.{positive_of, obligations_of_code, ObligationsWithin};
@@ -27,24 +27,11 @@ use crate::step::{Beyond, fill, step};
 use crate::trim::{kept, names_of};
 use crate::truths::Truths;
 use psl_base::NoMemory;
-use psl_tree::{Atoms, Fl, MOST_OBLIGATIONS, MOST_STATES, Sere, obligations, states};
+use psl_tree::{
+    Atoms, Fl, Limit, LimitFault, MOST_OBLIGATIONS, MOST_STATES, Sere, obligations, states,
+};
 use std::alloc::Global;
 use std::marker::Model;
-use thiserror::Error;
-
-/// Why there is no automaton of a formula.
-#[derive(Debug, Drop, Error)]
-pub enum AltFault {
-    /// A sequence of the formula counts more than 1,024 states.
-    #[error("a sequence counts more than 1024 states")]
-    SereTooLarge,
-    /// The formula counts more than 2,048 obligations.
-    #[error("the formula counts more than 2048 obligations")]
-    AutomatonTooLarge,
-    /// The allocator refused memory.
-    #[error("out of memory")]
-    NoMemory,
-}
 
 /// An alternating automaton. Contracts see it as its obligations in order, and the number of the one
 /// that is owed at the first place.
@@ -179,10 +166,13 @@ impl Alternating {
 /// The alternating automaton of a formula without clocks and synchronous aborts. On every finite word
 /// its value is satisfaction in the neutral view, with `top` past the last place in the weak view and
 /// with `bottom` in the strong view (IEEE 1850, Annex B). It accepts each word with a loop exactly where
-/// the word satisfies the formula. `SereTooLarge` comes exactly where a sequence of the formula counts
-/// more than 1,024 states; `AutomatonTooLarge` where none does and the formula counts more than 2,048
-/// obligations.
-pub fn of(alloc: Global, f: &Fl) -> Result<Alternating, AltFault>
+/// the word satisfies the formula.
+///
+/// # Errors
+///
+/// `Limit::Sere` comes exactly where a sequence of the formula counts more than 1,024 states, `Limit::Automaton` where none
+/// does and the formula counts more than 2,048 obligations, and no other limit. `NoMemory` if memory is refused.
+pub fn of(alloc: Global, f: &Fl) -> Result<Alternating, LimitFault>
     requires { IsPlain (formula_of f.now) }
     ensures built { IfOk result (λ automaton. automaton ≡ built (formula_of f.now)) }
     ensures values { IfOk result (λ automaton. ValuesOf automaton (formula_of f.now)) }
@@ -190,18 +180,19 @@ pub fn of(alloc: Global, f: &Fl) -> Result<Alternating, AltFault>
     ensures names { IfOk result (λ automaton. NamesOf automaton) }
     ensures size { IfOk result (λ automaton. SizeOf automaton (formula_of f.now)) }
     ensures atoms { IfOk result (λ automaton. KeepsAtoms automaton (formula_of f.now)) }
-    ensures sere_too_large { (result ≡ Err AltFault.SereTooLarge) ↔ HasLargeSequence (formula_of f.now) }
-    ensures too_large { (result ≡ Err AltFault.AutomatonTooLarge) ↔ ((HasLargeSequence (formula_of f.now) → ⊥) × (MOST_OBLIGATIONS < obligations_of (formula_of f.now))) }
+    ensures sere_too_large { (result ≡ Err (LimitFault.TooLarge Limit.Sere)) ↔ HasLargeSequence (formula_of f.now) }
+    ensures too_large { (result ≡ Err (LimitFault.TooLarge Limit.Automaton)) ↔ ((HasLargeSequence (formula_of f.now) → ⊥) × (MOST_OBLIGATIONS < obligations_of (formula_of f.now))) }
+    ensures fault { IfErr result (MayPass (formula_of f.now)) }
 {
     if has_large_sequence(f) {
-        return Err(AltFault::SereTooLarge);
+        return Err(LimitFault::TooLarge(Limit::Sere));
     }
     if obligations(f) > MOST_OBLIGATIONS {
-        return Err(AltFault::AutomatonTooLarge);
+        return Err(LimitFault::TooLarge(Limit::Automaton));
     }
     match finished(alloc, f) {
         Ok(automaton) => Ok(automaton),
-        Err(NoMemory) => Err(AltFault::NoMemory),
+        Err(NoMemory) => Err(LimitFault::NoMemory),
     }
 }
 

@@ -23,7 +23,7 @@ mod suffix;
 mod trim;
 mod truths;
 
-pub use automaton::{AltFault, Alternating, has_large_sequence, of};
+pub use automaton::{Alternating, has_large_sequence, of};
 pub use laws::values_and_letters;
 pub use positive::Positive;
 pub use truths::Truths;

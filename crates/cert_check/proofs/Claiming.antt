@@ -22,9 +22,11 @@ use Rattle.owed.specs.Violations.{violation_of}
 use Rattle.psl_tree.specs.declared.directive.Directive.{Directive}
 use Rattle.owed.specs.Sized.{IsSized}
 use Rattle.cert_check.specs.Claims.{AnswersBehind, asked_of, directive_of, queries_by, queries_for, queries_of}
-use Rattle.cert_check.specs.Limits.{ClausesIn, FitsFrom, HasCause, IsFault, FitsLimits, IsFaultBehind, IsFaultFrom, IsFormulaFault, IsLargeFrom, IsLargeIn, IsSmallFrom}
-use Rattle.cert_check.specs.declared.fault.CertFault.{CertFault}
-use Rattle.cert_check.specs.declared.fault.CertFault.TheVariants.{SereTooLarge, AutomatonTooLarge, UnrollTooLarge, FormulaTooLarge, NoMemory}
+use Rattle.cert_check.specs.Limits.{ClausesIn, FitsFrom, FitsLimits, IsFault, IsFaultBehind, IsFaultFrom, IsFormulaFault, IsLargeFrom, IsLargeIn, IsLimitBehind, IsSmallFrom}
+use Rattle.psl_tree.specs.declared.limit.Limit.{Limit}
+use Rattle.psl_tree.specs.declared.limit.Limit.TheVariants.{Sere, Automaton as OfAutomaton, Unroll, Formula as OfFormula}
+use Rattle.psl_tree.specs.declared.limit.LimitFault.{LimitFault}
+use Rattle.psl_tree.specs.declared.limit.LimitFault.TheVariants.{TooLarge, NoMemory}
 
 -- what holds of each element holds of one that is found
 by_test : (P : Directive → Type 0) (b : Bool) (first directive : Directive) (rest : Option Directive) → P first → (rest ≡ Some directive → P directive)
@@ -60,16 +62,16 @@ large_in Clausal design automaton header reading asked text large at = (large.0,
 
 module _ (design : Design) (unit : List Directive) (directive : Directive) (automaton : Automaton) (is : automaton ≡ violation_of unit directive) (header : Header)
     (sized : IsSized design header.window (plain_owed unit directive)) (reading : Reading) where
-  fault_at : (fault : CertFault) (asked : Asked) (text : List ℕ) → IsFormulaFault (IsLargeFrom header.form design (violation_of unit directive) header reading) fault
+  fault_at : (fault : LimitFault) (asked : Asked) (text : List ℕ) → IsFormulaFault (IsLargeFrom header.form design (violation_of unit directive) header reading) fault
       → IsAt asked (queries_for design (violation_of unit directive)) text (behind_header header) reading
       → IsFaultBehind design unit directive header (HasClauses asked (queries_for design (violation_of unit directive)) text header) fault
-  fault_at SereTooLarge asked text cause at = absurd cause
-  fault_at AutomatonTooLarge asked text cause at = absurd cause
-  fault_at UnrollTooLarge asked text cause at = absurd cause
-  fault_at FormulaTooLarge asked text cause at = (sized, large_in header.form design (violation_of unit directive) header reading asked text cause at)
+  fault_at (TooLarge Sere) asked text cause at = absurd cause
+  fault_at (TooLarge OfAutomaton) asked text cause at = absurd cause
+  fault_at (TooLarge Unroll) asked text cause at = absurd cause
+  fault_at (TooLarge OfFormula) asked text cause at = (sized, large_in header.form design (violation_of unit directive) header reading asked text cause at)
   fault_at NoMemory asked text cause at = tt
 
-  pub fault_behind : (fault : CertFault) → IsFormulaFault (IsLargeFrom header.form design automaton header reading) fault → IsFaultFrom design unit directive header reading fault
+  pub fault_behind : (fault : LimitFault) → IsFormulaFault (IsLargeFrom header.form design automaton header reading) fault → IsFaultFrom design unit directive header reading fault
   fault_behind fault cause = λ asked text at.
       fault_at fault asked text (subst (λ (a : Automaton). IsFormulaFault (IsLargeFrom header.form design a header reading) fault) is cause) at
 
@@ -116,34 +118,27 @@ same_limits design unit number asked text bytes header other directive first rea
     subst (λ (d : Directive). FitsLimits design unit d header (ClausesIn design unit number bytes header)) two
     (subst (λ (h : Header). FitsLimits design unit first h (ClausesIn design unit number bytes h)) one by_text)
 
--- the first limit that is passed
-pub same_fault : (design : Design) (unit : List Directive) (number : ℕ) (asked : Asked) (text bytes : List ℕ) (header : Header) (directive : Directive) (reading : Reading) (fault : CertFault)
-    → asked ≡ asked_of unit number → text ≡ bytes → HasHeader asked text header → Some directive ≡ directive_of unit number
-    → ((queries : Queries) → IsAt asked queries text (behind_header header) reading) → IsFaultFrom design unit directive header reading fault → IsFault design unit number bytes fault
-same_fault design unit number asked text bytes header directive reading fault same is has there at fault_is =
-    cause_of fault (record {
-      header = header;
-      directive = directive;
-      has = subst (λ (t : List ℕ). HasHeader (asked_of unit number) t header) is (subst (λ (a : Asked). HasHeader a text header) same has);
-      is = sym there;
-      fault_is = by_text;
-    })
-  where
-    here : IsFaultBehind design unit directive header (HasClauses asked (queries_for design (violation_of unit directive)) text header) fault
-    here = fault_is asked text (at (queries_for design (violation_of unit directive)))
+-- the limit that is passed
+module _ (design : Design) (unit : List Directive) (number : ℕ) (asked : Asked) (text bytes : List ℕ) (header : Header) (directive : Directive) (reading : Reading)
+    (same : asked ≡ asked_of unit number) (is : text ≡ bytes) (has : HasHeader asked text header) (there : Some directive ≡ directive_of unit number)
+    (at : (queries : Queries) → IsAt asked queries text (behind_header header) reading) where
+  same_behind : (limit : Limit) → IsFaultFrom design unit directive header reading (TooLarge limit)
+      → IsLimitBehind design unit directive header (ClausesIn design unit number bytes header) limit
+  same_behind limit fault_is =
+      let here : IsLimitBehind design unit directive header (HasClauses asked (queries_for design (violation_of unit directive)) text header) limit =
+      fault_is asked text (at (queries_for design (violation_of unit directive))) in
+      let by_found : IsLimitBehind design unit directive header (HasClauses asked (queries_of design unit number) text header) limit =
+      subst (λ (f : Option Directive). IsLimitBehind design unit directive header (HasClauses asked (queries_by design unit f) text header) limit) there here in
+      let by_asked : IsLimitBehind design unit directive header (HasClauses (asked_of unit number) (queries_of design unit number) text header) limit =
+      subst (λ (a : Asked). IsLimitBehind design unit directive header (HasClauses a (queries_of design unit number) text header) limit) same by_found in
+      subst (λ (t : List ℕ). IsLimitBehind design unit directive header (HasClauses (asked_of unit number) (queries_of design unit number) t header) limit) is by_asked
 
-    by_found : IsFaultBehind design unit directive header (HasClauses asked (queries_of design unit number) text header) fault
-    by_found = subst (λ (f : Option Directive). IsFaultBehind design unit directive header (HasClauses asked (queries_by design unit f) text header) fault) there here
-
-    by_asked : IsFaultBehind design unit directive header (HasClauses (asked_of unit number) (queries_of design unit number) text header) fault
-    by_asked = subst (λ (a : Asked). IsFaultBehind design unit directive header (HasClauses a (queries_of design unit number) text header) fault) same by_found
-
-    by_text : IsFaultBehind design unit directive header (ClausesIn design unit number bytes header) fault
-    by_text = subst (λ (t : List ℕ). IsFaultBehind design unit directive header (HasClauses (asked_of unit number) (queries_of design unit number) t header) fault) is by_asked
-
-    cause_of : (fault : CertFault) → HasCause design unit number bytes fault → IsFault design unit number bytes fault
-    cause_of SereTooLarge cause = cause
-    cause_of AutomatonTooLarge cause = cause
-    cause_of UnrollTooLarge cause = cause
-    cause_of FormulaTooLarge cause = cause
-    cause_of NoMemory cause = tt
+  pub same_fault : (fault : LimitFault) → IsFaultFrom design unit directive header reading fault → IsFault design unit number bytes fault
+  same_fault (TooLarge limit) fault_is = record {
+    header = header;
+    directive = directive;
+    has = subst (λ (t : List ℕ). HasHeader (asked_of unit number) t header) is (subst (λ (a : Asked). HasHeader a text header) same has);
+    is = sym there;
+    limit_is = same_behind limit fault_is;
+  }
+  same_fault NoMemory fault_is = tt

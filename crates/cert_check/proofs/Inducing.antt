@@ -21,7 +21,7 @@ use Rattle.joint_theory.specs.Bits.{joint_width}
 use Rattle.netlist.specs.Design.{Design}
 use Rattle.cert_check.specs.Claims.{AnswersAt, bad_query, initial_query, queries_for, step_query}
 use Rattle.cert_check.specs.Limits.{AreClausesTooLarge, ClausesFrom, FewClauses, IsFormulaFault, ManyClauses}
-use Rattle.cert_check.specs.declared.fault.CertFault.{CertFault}
+use Rattle.psl_tree.specs.declared.limit.LimitFault.{LimitFault}
 use Rattle.cert_check.proofs.Sizes.{IsOf, fault_for, query_is}
 
 module _ (design : Design) (automaton : Automaton) (header : Header) (begin : Reading) where
@@ -53,7 +53,7 @@ module _ (design : Design) (automaton : Automaton) (header : Header) (begin : Re
         few (subst (λ cs. AreClausesTooLarge design automaton header.visits cs)
         (one_clauses asked (queries_for design automaton) text header header others clauses has (read_clauses_are asked text at)) large)
 
-    pub clauses_fault : (fault : CertFault) → IsFormulaFault (AreClausesTooLarge design automaton header.visits clauses) fault
+    pub clauses_fault : (fault : LimitFault) → IsFormulaFault (AreClausesTooLarge design automaton header.visits clauses) fault
         → IsFormulaFault (ManyClauses design automaton header begin) fault
     clauses_fault fault cause =
         fault_for (AreClausesTooLarge design automaton header.visits clauses) (ManyClauses design automaton header begin) fault
@@ -61,7 +61,7 @@ module _ (design : Design) (automaton : Automaton) (header : Header) (begin : Re
 
 -- the joint states that were made
 pub joined_fault : (design : Design) (automaton : Automaton) (visits : ℕ) (clauses : List (List ℤ)) (joint : Joined)
-    → joint ≡ record { design = design; automaton = automaton; visits = visits } → (fault : CertFault)
+    → joint ≡ record { design = design; automaton = automaton; visits = visits } → (fault : LimitFault)
     → IsFormulaFault (AreClausesTooLarge joint.design joint.automaton joint.visits clauses) fault → IsFormulaFault (AreClausesTooLarge design automaton visits clauses) fault
 joined_fault design automaton visits clauses joint is fault cause =
     subst (λ (j : Joined). IsFormulaFault (AreClausesTooLarge j.design j.automaton j.visits clauses) fault) is cause

@@ -16,8 +16,9 @@ use Rattle.netlist.specs.Design.{Design}
 use Rattle.joint_theory.specs.Reaching.{bad_variables, initial_variables, query_bad, query_initial, query_step, step_variables}
 use Rattle.cert_check.specs.Claims.{bad_query, initial_query, step_query, window_query}
 use Rattle.cert_check.specs.Faults.{of_formula}
-use Rattle.cert_check.specs.declared.fault.CertFault.{CertFault}
-use Rattle.cert_check.specs.declared.fault.CertFault.TheVariants.{SereTooLarge, AutomatonTooLarge, UnrollTooLarge, FormulaTooLarge, NoMemory}
+use Rattle.psl_tree.specs.declared.limit.Limit.TheVariants.{Sere, Automaton as OfAutomaton, Unroll, Formula as OfFormula}
+use Rattle.psl_tree.specs.declared.limit.LimitFault.{LimitFault}
+use Rattle.psl_tree.specs.declared.limit.LimitFault.TheVariants.{TooLarge, NoMemory}
 use Rattle.cert_check.specs.Limits.{AreClausesTooLarge, AreTooLarge, IsBadLarge, IsFormulaFault, IsInitialLarge, IsStepLarge}
 
 -- one that was built is not too large
@@ -50,6 +51,13 @@ module _ (design : Design) (automaton : Automaton) (header : Header) (joint : Jo
       inr (subst (λ (j : Joined). IsTooLarge (induction_variables j.design j.automaton j.visits header.window) (induction j.design j.automaton j.visits header.window)) is (large refl))
   of_induction formulas.NoMemory large = tt
 
+  pub of_base : (fault : CnfFault)
+      → (fault ≡ formulas.TooLarge → IsTooLarge (base_variables joint.design joint.automaton joint.visits header.window) (base joint.design joint.automaton joint.visits header.window))
+      → IsFormulaFault (AreTooLarge design automaton header.visits header.window) (of_formula fault)
+  of_base formulas.TooLarge large =
+      inl (subst (λ (j : Joined). IsTooLarge (base_variables j.design j.automaton j.visits header.window) (base j.design j.automaton j.visits header.window)) is (large refl))
+  of_base formulas.NoMemory large = tt
+
   pub both_fit : (first second : Cnf) → IsBase joint header.window first → clause_words first.clauses ≤ MOST_WORDS → IsInduction joint header.window second
       → clause_words second.clauses ≤ MOST_WORDS → AreTooLarge design automaton header.visits header.window → ⊥
   both_fit first second one few two less (inl large) =
@@ -75,11 +83,11 @@ formula_fault P formulas.TooLarge large = large refl
 formula_fault P formulas.NoMemory large = tt
 
 -- what is too large for one reason
-pub fault_for : (P Q : Type 0) (fault : CertFault) → (P → Q) → IsFormulaFault P fault → IsFormulaFault Q fault
-fault_for P Q SereTooLarge of cause = absurd cause
-fault_for P Q AutomatonTooLarge of cause = absurd cause
-fault_for P Q UnrollTooLarge of cause = absurd cause
-fault_for P Q FormulaTooLarge of cause = of cause
+pub fault_for : (P Q : Type 0) (fault : LimitFault) → (P → Q) → IsFormulaFault P fault → IsFormulaFault Q fault
+fault_for P Q (TooLarge Sere) of cause = absurd cause
+fault_for P Q (TooLarge OfAutomaton) of cause = absurd cause
+fault_for P Q (TooLarge Unroll) of cause = absurd cause
+fault_for P Q (TooLarge OfFormula) of cause = of cause
 fault_for P Q NoMemory of cause = tt
 
 -- the formulas of clauses

@@ -19,10 +19,11 @@ use Rattle.owed.specs.Owed.{plain_owed}
 use Rattle.owed.specs.Violations.{violation_of}
 use Rattle.psl_tree.specs.declared.directive.Directive.{Directive}
 use Rattle.owed.specs.Sized.{IsRefused, IsSized}
-use Rattle.owed.specs.declared.limits.LimitFault.TheVariants as limits
+use Rattle.psl_tree.specs.declared.limit.Limit.{Limit}
+use Rattle.psl_tree.specs.declared.limit.Limit.TheVariants as limits
 use Rattle.cert_check.specs.Claims.{asked_of, bad_query, directive_of, initial_query, queries_for, queries_of, step_query}
-use Rattle.cert_check.specs.declared.fault.CertFault.{CertFault}
-use Rattle.cert_check.specs.declared.fault.CertFault.TheVariants.{SereTooLarge, AutomatonTooLarge, UnrollTooLarge, FormulaTooLarge, NoMemory}
+use Rattle.psl_tree.specs.declared.limit.LimitFault.{LimitFault}
+use Rattle.psl_tree.specs.declared.limit.LimitFault.TheVariants.{TooLarge, NoMemory}
 
 -- one of both formulas of a window is too large
 abbrev pub AreTooLarge : Design → Automaton → ℕ → ℕ → Type 0
@@ -69,15 +70,19 @@ pub record FitsLimits (design : Design) (unit : List Directive) (directive : Dir
   pub formulas : IsLarge design (violation_of unit directive) header behind → ⊥
 
 -- the first limit that is passed
-abbrev pub IsFaultBehind : Design → List Directive → Directive → Header → (List (List ℤ) → Type 0) → CertFault → Type 0
-IsFaultBehind design unit directive header behind SereTooLarge =
-    IsRefused design header.window (plain_owed unit directive) limits.SereTooLarge
-IsFaultBehind design unit directive header behind AutomatonTooLarge =
-    IsRefused design header.window (plain_owed unit directive) limits.AutomatonTooLarge
-IsFaultBehind design unit directive header behind UnrollTooLarge =
-    IsRefused design header.window (plain_owed unit directive) limits.UnrollTooLarge
-IsFaultBehind design unit directive header behind FormulaTooLarge =
+abbrev pub IsLimitBehind : Design → List Directive → Directive → Header → (List (List ℤ) → Type 0) → Limit → Type 0
+IsLimitBehind design unit directive header behind limits.Sere =
+    IsRefused design header.window (plain_owed unit directive) limits.Sere
+IsLimitBehind design unit directive header behind limits.Automaton =
+    IsRefused design header.window (plain_owed unit directive) limits.Automaton
+IsLimitBehind design unit directive header behind limits.Unroll =
+    IsRefused design header.window (plain_owed unit directive) limits.Unroll
+IsLimitBehind design unit directive header behind limits.Formula =
     IsSized design header.window (plain_owed unit directive) × IsLarge design (violation_of unit directive) header behind
+
+-- such a limit, or want of memory
+abbrev pub IsFaultBehind : Design → List Directive → Directive → Header → (List (List ℤ) → Type 0) → LimitFault → Type 0
+IsFaultBehind design unit directive header behind (TooLarge limit) = IsLimitBehind design unit directive header behind limit
 IsFaultBehind design unit directive header behind NoMemory = Unit {0}
 
 -- the clauses behind a header of a text, for the directive of a number
@@ -85,19 +90,17 @@ abbrev pub ClausesIn : Design → List Directive → ℕ → List ℕ → Header
 ClausesIn design unit number text header clauses =
     HasClauses (asked_of unit number) (queries_of design unit number) text header clauses
 
--- the text has a header of a certificate of the directive, and a limit is passed; want of memory has no cause
-pub record HasCause (design : Design) (unit : List Directive) (number : ℕ) (text : List ℕ) (fault : CertFault) : Type 0 where
+-- the text has a header of a certificate of the directive, and this limit is passed
+pub record PassesLimit (design : Design) (unit : List Directive) (number : ℕ) (text : List ℕ) (limit : Limit) : Type 0 where
   pub header : Header
   pub directive : Directive
   pub has : HasHeader (asked_of unit number) text header
   pub is : directive_of unit number ≡ Some directive
-  pub fault_is : IsFaultBehind design unit directive header (ClausesIn design unit number text header) fault
+  pub limit_is : IsLimitBehind design unit directive header (ClausesIn design unit number text header) limit
 
-abbrev pub IsFault : Design → List Directive → ℕ → List ℕ → CertFault → Type 0
-IsFault design unit number text SereTooLarge = HasCause design unit number text SereTooLarge
-IsFault design unit number text AutomatonTooLarge = HasCause design unit number text AutomatonTooLarge
-IsFault design unit number text UnrollTooLarge = HasCause design unit number text UnrollTooLarge
-IsFault design unit number text FormulaTooLarge = HasCause design unit number text FormulaTooLarge
+-- want of memory has no cause
+abbrev pub IsFault : Design → List Directive → ℕ → List ℕ → LimitFault → Type 0
+IsFault design unit number text (TooLarge limit) = PassesLimit design unit number text limit
 IsFault design unit number text NoMemory = Unit {0}
 
 -- the clauses that a text has behind a header, where it was read as far as that header
@@ -135,16 +138,16 @@ FitsFrom design unit directive header reading =
     → IsAt asked (queries_for design (violation_of unit directive)) text (behind_header header) reading
     → FitsLimits design unit directive header (HasClauses asked (queries_for design (violation_of unit directive)) text header)
 
-abbrev pub IsFaultFrom : Design → List Directive → Directive → Header → Reading → CertFault → Type 0
+abbrev pub IsFaultFrom : Design → List Directive → Directive → Header → Reading → LimitFault → Type 0
 IsFaultFrom design unit directive header reading fault =
     (asked : Asked) (text : List ℕ)
     → IsAt asked (queries_for design (violation_of unit directive)) text (behind_header header) reading
     → IsFaultBehind design unit directive header (HasClauses asked (queries_for design (violation_of unit directive)) text header) fault
 
 -- a formula is too large, or memory was refused
-abbrev pub IsFormulaFault : Type 0 → CertFault → Type 0
-IsFormulaFault large SereTooLarge = ⊥
-IsFormulaFault large AutomatonTooLarge = ⊥
-IsFormulaFault large UnrollTooLarge = ⊥
-IsFormulaFault large FormulaTooLarge = large
+abbrev pub IsFormulaFault : Type 0 → LimitFault → Type 0
+IsFormulaFault large (TooLarge limits.Sere) = ⊥
+IsFormulaFault large (TooLarge limits.Automaton) = ⊥
+IsFormulaFault large (TooLarge limits.Unroll) = ⊥
+IsFormulaFault large (TooLarge limits.Formula) = large
 IsFormulaFault large NoMemory = Unit {0}

@@ -1,20 +1,17 @@
 // A certificate, from its first byte to its last.
-ghost use Rattle.std.specs.Prelude.{◌≡◌, ◌≤◌, Ok, Some, length, All, IfOk, IfErr, OnOk};
+ghost use Rattle.std.specs.Prelude.{◌≡◌, ◌≤◌, Ok, Some, length, IfOk, IfErr, OnOk};
+ghost use Rattle.psl_tree.specs.Directives.{AreOver, IsOver};
 ghost use Rattle.cert_theory.specs.declared.answer.CertAnswer.{CertAnswer};
 ghost use Rattle.cert_theory.specs.declared.header.Header.{Header};
 ghost use Rattle.cert_theory.specs.Headers.{HasHeader};
 ghost use Rattle.cert_theory.specs.Texts.{IsAnswer};
 ghost use Rattle.owed.specs.Violations.{violation_of};
 ghost use Rattle.psl_base.specs.Places.{file_limit};
-ghost use Rattle.psl_tree.specs.Atoms.{AtomsOfFormula};
-ghost use Rattle.psl_tree.specs.Names.{AtomInRange};
-ghost use Rattle.psl_tree.specs.Trees.{formula_of};
 ghost use Rattle.psl_tree.specs.declared.directive.Directive.{Directive};
 ghost use Rattle.run_terms.specs.Automata.{IsSound, TestsSignals};
 ghost use Rattle.cert_check.specs.Claims.{AnswersBehind, IsProved, asked_of as asked_for, directive_of as directive_at, queries_of};
 ghost use Rattle.cert_check.specs.Limits.{ClausesIn, FitsFrom, FitsLimits, IsFault, IsFaultFrom};
 
-use crate::CertFault;
 use crate::claim::{Claim, asked_of, directive_of};
 use crate::lines::check_lines;
 use crate::soundness::claim_holds;
@@ -22,7 +19,7 @@ use cert_lines::{Reading, read_header};
 use cert_theory::{CertAnswer, Header};
 use netlist::Netlist;
 use owed::{assumed_size, check_sizes, violation};
-use psl_tree::Unit;
+use psl_tree::{LimitFault, Unit};
 use run_gates::automaton_law;
 use std::alloc::Global;
 
@@ -42,8 +39,8 @@ pub fn check_cert(
     assertion: u32,
     netlist: &Netlist,
     bytes: &[u8],
-) -> Result<CertAnswer, CertFault>
-    requires in_range { All (λ directive. AtomsOfFormula (AtomInRange netlist.now.names) (formula_of directive.formula)) unit.now }
+) -> Result<CertAnswer, LimitFault>
+    requires in_range { AreOver netlist.now.names unit.now }
     requires few { length bytes.now ≤ file_limit }
     ensures answer { IfOk result (IsAnswer (asked_for unit.now assertion)
         (queries_of netlist.now unit.now assertion) bytes.now) }
@@ -78,9 +75,9 @@ fn check_claim(
     claim: Claim<'_>,
     header: Header,
     reading: &mut Reading<'_>,
-) -> Result<CertAnswer, CertFault>
-    requires unit { All (λ directive. AtomsOfFormula (AtomInRange claim.netlist.now.names) (formula_of directive.formula)) claim.unit.now }
-    requires directive { AtomsOfFormula (AtomInRange claim.netlist.now.names) (formula_of claim.directive.now.formula) }
+) -> Result<CertAnswer, LimitFault>
+    requires unit { AreOver claim.netlist.now.names claim.unit.now }
+    requires directive { IsOver claim.netlist.now.names claim.directive.now }
     requires visits { header.visits ≤ 16 }
     requires least { 1 ≤ header.window }
     requires most { header.window ≤ 1000 }

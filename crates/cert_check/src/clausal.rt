@@ -10,7 +10,7 @@ ghost use Rattle.cert_check.specs.Claims.{AnswersAt, bad_query, initial_query, s
 ghost use Rattle.cert_check.specs.Limits.{AreClausesTooLarge, FewClauses, IsBadLarge, IsFormulaFault};
 ghost use Rattle.cert_check.specs.Limits.{IsInitialLarge, IsStepLarge, ManyClauses};
 
-use crate::CertFault;
+use crate::fault::of_formula;
 use crate::formulas::formula_is_small;
 use alternating::Alternating;
 use cert_lines::{Reading, Refusal, check_section, read_clauses};
@@ -18,6 +18,7 @@ use cert_theory::{CertAnswer, Header, Section};
 use clauses::Clauses;
 use joint::{Joint, joint};
 use netlist::Netlist;
+use psl_tree::LimitFault;
 use std::alloc::Global;
 
 /// Checks what is left of a certificate behind its header: the clauses first, and then, where none of their lines is
@@ -28,7 +29,7 @@ pub(crate) fn check_clausal(
     violation: &Alternating,
     header: Header,
     reading: &mut Reading<'_>,
-) -> Result<CertAnswer, CertFault>
+) -> Result<CertAnswer, LimitFault>
     requires tests { TestsSignals netlist.now violation.now }
     requires visits { header.visits ≤ 16 }
     ensures answer { IfOk result (AnswersAt netlist.now violation.now (InClauses header []) reading.old) }
@@ -61,7 +62,7 @@ fn check_clauses(
     clauses: &Clauses,
     header: Header,
     reading: &mut Reading<'_>,
-) -> Result<CertAnswer, CertFault>
+) -> Result<CertAnswer, LimitFault>
     requires tests { TestsSignals netlist.now violation.now }
     requires visits { header.visits ≤ 16 }
     requires within { IsTrue (clauses_within (joint_width netlist.now violation.now header.visits) clauses.now) }
@@ -70,7 +71,10 @@ fn check_clauses(
     ensures fits { OnOk result (AreClausesTooLarge netlist.now violation.now header.visits clauses.now → ⊥) }
     ensures fault { IfErr result (IsFormulaFault (AreClausesTooLarge netlist.now violation.now header.visits clauses.now)) }
 {
-    let joint = joint(alloc, netlist, violation, header.visits)?;
+    let joint = match joint(alloc, netlist, violation, header.visits) {
+        Ok(joint) => joint,
+        Err(fault) => return Err(of_formula(fault)),
+    };
     later_formulas_are_small(alloc, &joint, clauses)?;
     let answer = check_logs(alloc, &joint, clauses, header, reading)?;
     Ok(answer)
@@ -82,17 +86,23 @@ fn later_formulas_are_small(
     alloc: Global,
     joint: &Joint<'_>,
     clauses: &Clauses,
-) -> Result<(), CertFault>
+) -> Result<(), LimitFault>
     requires within { IsTrue (clauses_within (joint_width joint.now.design joint.now.automaton joint.now.visits) clauses.now) }
     ensures step { OnOk result (IsStepLarge joint.now.design joint.now.automaton joint.now.visits clauses.now → ⊥) }
     ensures bad { OnOk result (IsBadLarge joint.now.design joint.now.automaton joint.now.visits clauses.now → ⊥) }
     ensures fault { IfErr result (IsFormulaFault
         (AreClausesTooLarge joint.now.design joint.now.automaton joint.now.visits clauses.now)) }
 {
-    let step = joint.query_step(alloc, clauses)?;
+    let step = match joint.query_step(alloc, clauses) {
+        Ok(step) => step,
+        Err(fault) => return Err(of_formula(fault)),
+    };
     formula_is_small(&step);
     drop(step);
-    let bad = joint.query_bad(alloc, clauses)?;
+    let bad = match joint.query_bad(alloc, clauses) {
+        Ok(bad) => bad,
+        Err(fault) => return Err(of_formula(fault)),
+    };
     formula_is_small(&bad);
     Ok(())
 }
@@ -105,7 +115,7 @@ fn check_logs(
     clauses: &Clauses,
     header: Header,
     reading: &mut Reading<'_>,
-) -> Result<CertAnswer, CertFault>
+) -> Result<CertAnswer, LimitFault>
     requires within { IsTrue (clauses_within (joint_width joint.now.design joint.now.automaton joint.now.visits) clauses.now) }
     requires visits { joint.now.visits ≡ header.visits }
     ensures answer { IfOk result (AnswersAt joint.now.design joint.now.automaton
@@ -133,7 +143,7 @@ fn check_initial(
     clauses: &Clauses,
     header: Header,
     reading: &mut Reading<'_>,
-) -> Result<Option<Refusal>, CertFault>
+) -> Result<Option<Refusal>, LimitFault>
     requires within { IsTrue (clauses_within (joint_width joint.now.design joint.now.automaton joint.now.visits) clauses.now) }
     ensures stands { IfOk result (λ refusal. refusal ≡ None → StandsBehind header sections.Initial
         (initial_query joint.now.design joint.now.automaton joint.now.visits clauses.now) reading.old reading.new) }
@@ -143,7 +153,10 @@ fn check_initial(
     ensures fault { IfErr result (IsFormulaFault
         (AreClausesTooLarge joint.now.design joint.now.automaton joint.now.visits clauses.now)) }
 {
-    let initial = joint.query_initial(alloc, clauses)?;
+    let initial = match joint.query_initial(alloc, clauses) {
+        Ok(initial) => initial,
+        Err(fault) => return Err(of_formula(fault)),
+    };
     formula_is_small(&initial);
     let refusal = check_section(alloc, header, Section::Initial, &initial, reading)?;
     Ok(refusal)
@@ -156,7 +169,7 @@ fn check_step(
     clauses: &Clauses,
     header: Header,
     reading: &mut Reading<'_>,
-) -> Result<Option<Refusal>, CertFault>
+) -> Result<Option<Refusal>, LimitFault>
     requires within { IsTrue (clauses_within (joint_width joint.now.design joint.now.automaton joint.now.visits) clauses.now) }
     ensures stands { IfOk result (λ refusal. refusal ≡ None → StandsBehind header sections.Step
         (step_query joint.now.design joint.now.automaton joint.now.visits clauses.now) reading.old reading.new) }
@@ -165,7 +178,10 @@ fn check_step(
     ensures fault { IfErr result (IsFormulaFault
         (AreClausesTooLarge joint.now.design joint.now.automaton joint.now.visits clauses.now)) }
 {
-    let step = joint.query_step(alloc, clauses)?;
+    let step = match joint.query_step(alloc, clauses) {
+        Ok(step) => step,
+        Err(fault) => return Err(of_formula(fault)),
+    };
     let refusal = check_section(alloc, header, Section::Step, &step, reading)?;
     Ok(refusal)
 }
@@ -177,7 +193,7 @@ fn check_bad(
     clauses: &Clauses,
     header: Header,
     reading: &mut Reading<'_>,
-) -> Result<Option<Refusal>, CertFault>
+) -> Result<Option<Refusal>, LimitFault>
     requires within { IsTrue (clauses_within (joint_width joint.now.design joint.now.automaton joint.now.visits) clauses.now) }
     ensures stands { IfOk result (λ refusal. refusal ≡ None → StandsBehind header sections.Bad
         (bad_query joint.now.design joint.now.automaton joint.now.visits clauses.now) reading.old reading.new) }
@@ -186,7 +202,10 @@ fn check_bad(
     ensures fault { IfErr result (IsFormulaFault
         (AreClausesTooLarge joint.now.design joint.now.automaton joint.now.visits clauses.now)) }
 {
-    let bad = joint.query_bad(alloc, clauses)?;
+    let bad = match joint.query_bad(alloc, clauses) {
+        Ok(bad) => bad,
+        Err(fault) => return Err(of_formula(fault)),
+    };
     let refusal = check_section(alloc, header, Section::Bad, &bad, reading)?;
     Ok(refusal)
 }

@@ -8,13 +8,14 @@ ghost use Rattle.cert_theory.specs.Phases.Phase.{InSection};
 ghost use Rattle.cert_check.specs.Claims.{AnswersAt};
 ghost use Rattle.cert_check.specs.Limits.{AreTooLarge, IsFormulaFault};
 
-use crate::CertFault;
+use crate::fault::of_formula;
 use alternating::Alternating;
 use cert_lines::{Reading, check_section};
 use cert_theory::{CertAnswer, Header, Section};
 use clauses::Cnf;
 use joint::joint;
 use netlist::Netlist;
+use psl_tree::LimitFault;
 use std::alloc::Global;
 
 /// Checks what is left of a certificate behind its header. Both formulas are built before a line is looked at, so that it
@@ -25,7 +26,7 @@ pub(crate) fn check_windowed(
     violation: &Alternating,
     header: Header,
     reading: &mut Reading<'_>,
-) -> Result<CertAnswer, CertFault>
+) -> Result<CertAnswer, LimitFault>
     requires tests { TestsSignals netlist.now violation.now }
     requires visits { header.visits ≤ 16 }
     requires window { 1 ≤ header.window }
@@ -33,19 +34,31 @@ pub(crate) fn check_windowed(
     ensures fits { OnOk result (AreTooLarge netlist.now violation.now header.visits header.window → ⊥) }
     ensures fault { IfErr result (IsFormulaFault (AreTooLarge netlist.now violation.now header.visits header.window)) }
 {
-    let joint = joint(alloc, netlist, violation, header.visits)?;
-    let early = joint.induction(alloc, header.window)?;
+    let joint = match joint(alloc, netlist, violation, header.visits) {
+        Ok(joint) => joint,
+        Err(fault) => return Err(of_formula(fault)),
+    };
+    let early = match joint.induction(alloc, header.window) {
+        Ok(early) => early,
+        Err(fault) => return Err(of_formula(fault)),
+    };
     formula_is_small(&early);
     drop(early);
 
-    let base = joint.base(alloc, header.window)?;
+    let base = match joint.base(alloc, header.window) {
+        Ok(base) => base,
+        Err(fault) => return Err(of_formula(fault)),
+    };
     formula_is_small(&base);
     if let Some(refusal) = check_section(alloc, header, Section::Base, &base, reading)? {
         return Ok(CertAnswer::Refused(refusal.reason, refusal.line));
     }
     drop(base);
 
-    let induction = joint.induction(alloc, header.window)?;
+    let induction = match joint.induction(alloc, header.window) {
+        Ok(induction) => induction,
+        Err(fault) => return Err(of_formula(fault)),
+    };
     if let Some(refusal) = check_section(alloc, header, Section::Induction, &induction, reading)? {
         return Ok(CertAnswer::Refused(refusal.reason, refusal.line));
     }

@@ -12,4 +12,3 @@ mod soundness;
 
 pub use cert_theory::{CertAnswer, CertReason};
 pub use checking::check_cert;
-pub use fault::CertFault;

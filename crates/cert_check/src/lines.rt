@@ -4,13 +4,13 @@ ghost use Rattle.run_terms.specs.Automata.{TestsSignals};
 ghost use Rattle.cert_check.specs.Claims.{AnswersBehind};
 ghost use Rattle.cert_check.specs.Limits.{IsFormulaFault, IsLargeFrom, IsSmallFrom};
 
-use crate::CertFault;
 use crate::clausal::check_clausal;
 use crate::formulas::check_windowed;
 use alternating::Alternating;
 use cert_lines::Reading;
 use cert_theory::{CertAnswer, Form, Header};
 use netlist::Netlist;
+use psl_tree::LimitFault;
 use std::alloc::Global;
 
 /// Checks what is left of a certificate behind its header, by its form.
@@ -20,7 +20,7 @@ pub(crate) fn check_lines(
     violation: &Alternating,
     header: Header,
     reading: &mut Reading<'_>,
-) -> Result<CertAnswer, CertFault>
+) -> Result<CertAnswer, LimitFault>
     requires tests { TestsSignals netlist.now violation.now }
     requires visits { header.visits ≤ 16 }
     requires window { 1 ≤ header.window }

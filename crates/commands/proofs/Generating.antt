@@ -1,13 +1,12 @@
 -- What `gen` gives: the made recording is read as it was made, and its one directive can be judged.
 use Rattle.std.proofs.Common.{◌≡◌, ◌⊎◌, inl, inr, refl, sym, ◌∙◌, ap, subst, ℕ, ◌≤◌, List, [], ◌∷◌, None, Ok, arith}
 use Rattle.std.specs.Prelude.{Result, All, Any, codes, is_ok, IsOk}
-use Rattle.std.proofs.lemmas.List.Elements.{All-cons, All-get_or, All-nil}
-use Rattle.std.proofs.lemmas.Option.{get_or_from_slice_get, slice_get_within}
+use Rattle.std.proofs.lemmas.List.Elements.{All-cons, All-nil}
 use Rattle.alternating.specs.Limits.{HasLargeSequence}
 use Rattle.psl_tree.specs.Atoms.{AtomsOfFormula}
 use Rattle.psl_tree.specs.Counts.{formula_size, obligations_of}
 use Rattle.psl_tree.specs.Plain.{plain}
-use Rattle.psl_tree.specs.declared.counts.TheConstants.{MOST_OBLIGATIONS}
+use Rattle.psl_tree.specs.declared.counts.TheConstants.{MOST_CONSTRUCTORS, MOST_OBLIGATIONS}
 use Rattle.psl_tree.specs.Names.{AtomInRange}
 use Rattle.psl_tree.specs.declared.atom.Atom.{Atom}
 use Rattle.psl_tree.specs.declared.directive.Directive.{Directive}
@@ -21,10 +20,12 @@ use Rattle.vcd_reader.specs.declared.unknown.Unknown.TheVariants.{Zero}
 use Rattle.vcd_reader.specs.Meaning.{reading}
 use Rattle.vcd_reader.specs.Rules.{sample_limit}
 use Rattle.vcd_reader.specs.Sampled.{Sampled, letters_of}
-use Rattle.wave_judge.specs.Faults.{IsFirstFault, IsJudgeFault, IsJudgeable, IsRefused}
+use Rattle.wave_judge.specs.Faults.{IsFirstRefused, IsJudgeFault, IsJudgeable}
 use Rattle.wave_judge.specs.Judged.{AreVerdicts}
-use Rattle.wave_judge.specs.declared.fault.JudgeFault.{JudgeFault}
-use Rattle.wave_judge.specs.declared.fault.JudgeFault.TheVariants as faults
+use Rattle.psl_tree.specs.declared.limit.Limit.{Limit}
+use Rattle.psl_tree.specs.declared.limit.UnitFault.{UnitFault}
+use Rattle.wave_judge.proofs.Faults.{not_both}
+use Rattle.psl_tree.specs.declared.limit.UnitFault.TheVariants as faults
 use Rattle.wave_judge.specs.declared.verdict.Verdict.{Verdict}
 
 -- a made recording has no fault
@@ -62,8 +63,8 @@ answered-in-range names unit named answers =
     subst (λ (all : List Name). All (λ (d : Directive). AtomsOfFormula (AtomInRange all) (formula_of d.formula)) unit) (sym named)
     (of-answered (AtomsOfFormula (AtomInRange made_names)) unit answers (tt, (request-named, answer-named)))
 
-pub answered-small : (unit : List Directive) → AreAnswered unit → All (λ directive. formula_size (formula_of directive.formula) ≤ 4096) unit
-answered-small unit answers = of-answered (λ f. formula_size f ≤ 4096) unit answers (omega arith)
+pub answered-small : (unit : List Directive) → AreAnswered unit → All (λ directive. formula_size (formula_of directive.formula) ≤ MOST_CONSTRUCTORS) unit
+answered-small unit answers = of-answered (λ f. formula_size f ≤ MOST_CONSTRUCTORS) unit answers (omega arith)
 
 pub made-verdicts : (seed samples : ℕ) (recording : Sampled) (unit : List Directive) (verdicts : List Verdict) → samples ≤ sample_limit → recording ≡ made_sampled Zero seed samples
     → AreAnswered unit → AreVerdicts (letters_of recording) unit verdicts → AreMade seed samples verdicts
@@ -89,19 +90,10 @@ answered-judgeable unit (directive, is, answers) =
       obligations = subst (λ (f : Formula). obligations_of (plain f None) ≤ MOST_OBLIGATIONS) (sym answers.formula) (omega arith);
     }))
 
-judgeable-stands : (directive : Directive) (fault : JudgeFault) → IsJudgeable directive → IsRefused directive fault → ⊥
-judgeable-stands directive (faults.Sere number) is refused = is.sequences refused.1
-judgeable-stands directive (faults.Automaton number) is refused = omega (arith, is.obligations, refused.2)
-judgeable-stands directive faults.NoMemory is refused = refused
-
-not-refused : (unit : List Directive) (fault : JudgeFault) → AreAnswered unit → IsFirstFault unit fault → ⊥
-not-refused unit fault answers first =
-    let within = slice_get_within unit first.place first.directive first.here in
-    let here = All-get_or IsJudgeable unit first.place first.directive within (answered-judgeable unit answers) in
-    judgeable-stands first.directive fault (subst IsJudgeable (get_or_from_slice_get unit first.place first.directive first.directive first.here) here) first.refused
+not-refused : (unit : List Directive) (number : ℕ) (limit : Limit) → AreAnswered unit → IsFirstRefused unit number limit → ⊥
+not-refused unit number limit answers first = not_both unit number limit (answered-judgeable unit answers) first
 
 -- so the judge has no fault to tell but want of memory
-pub memory-alone : (unit : List Directive) (fault : JudgeFault) → AreAnswered unit → IsJudgeFault unit fault → fault ≡ faults.NoMemory
-memory-alone unit (faults.Sere number) answers is = absurd (not-refused unit (faults.Sere number) answers is)
-memory-alone unit (faults.Automaton number) answers is = absurd (not-refused unit (faults.Automaton number) answers is)
+pub memory-alone : (unit : List Directive) (fault : UnitFault) → AreAnswered unit → IsJudgeFault unit fault → fault ≡ faults.NoMemory
+memory-alone unit (faults.TooLarge number limit) answers is = absurd (not-refused unit number limit answers is)
 memory-alone unit faults.NoMemory answers is = refl

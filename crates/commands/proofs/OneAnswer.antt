@@ -1,6 +1,6 @@
 -- Words over contents have one first refusal, or none.
 use Rattle.std.proofs.Common.{◌≡◌, refl, sym, ◌∙◌, ap, subst, ℕ, ◌<◌, ◌^◌, Bool, List, [], map, Option, None, Some, Ok, Err, arith, inl, inr}
-use Rattle.std.specs.Prelude.{◌≢◌, Result}
+use Rattle.std.specs.Prelude.{◌≢◌, Result, All}
 use Rattle.blif_model.specs.declared.fault.BlifFault.{BlifFault}
 use Rattle.blif_reader.proofs.Readings.{reading-one}
 use Rattle.blif_reader.specs.Meaning.{IsReading}
@@ -37,16 +37,16 @@ use Rattle.psl_parser.specs.declared.fault.ParseFault.{ParseFault}
 use Rattle.psl_tree.specs.declared.directive.Directive.{Directive}
 use Rattle.psl_tree.specs.declared.name.Name.{Name}
 use Rattle.commands.proofs.Alike.{Agree, alike-err, alike-ok, agree-faults, agree-told, agree-then, agree-content}
-use Rattle.commands.proofs.SameChecks.{one-checked-of}
+use Rattle.commands.proofs.SameChecks.{one-checked-of, same-limit-fault}
 use Rattle.commands.proofs.SameOwed.{are-within, same-first-refused}
 use Rattle.commands.proofs.SameUnits.{SameUnit, all-judgeable, same-first, same-said}
 use Rattle.commands.proofs.Unknowns.{one-known}
-use Rattle.commands.specs.Diagnostics.{lex_diagnostic, parse_diagnostic, layer_diagnostic, judge_diagnostic, vcd_diagnostic, blif_diagnostic}
+use Rattle.commands.specs.Diagnostics.{lex_diagnostic, parse_diagnostic, layer_diagnostic, judge_diagnostic, limit_fault, vcd_diagnostic, blif_diagnostic}
 use Rattle.commands.specs.Checks.{CertReading, CertStage, CheckStage}
 use Rattle.commands.specs.Commands.{CommandStage, FirstRefusal, MeaningStage, findings_outcome, replayed_outcome, wave_outcome}
 use Rattle.commands.specs.Faults.{missing_in, of_none}
 use Rattle.commands.specs.Generated.{GeneratedStage}
-use Rattle.commands.specs.Provings.{FoundReading, ProveStage, size_fault}
+use Rattle.commands.specs.Provings.{FoundReading, ProveStage}
 use Rattle.commands.specs.Replays.{ReplayReading, ReplayStage, ReplayedReading, replayed_of}
 use Rattle.commands.specs.Stages.{AndThen, OfFile, Then}
 use Rattle.commands.specs.Waves.{TokensReading, TreeReading, UnitReading, UnitStage, TextAnd, DirectivesReading}
@@ -64,6 +64,7 @@ use Rattle.commands.specs.declared.outcome.Outcome.{Outcome}
 use Rattle.commands.specs.declared.outcome.Outcome.TheVariants.{Checked, Shown}
 use Rattle.commands.specs.declared.outcome.Settled.{Settled}
 use Rattle.commands.specs.declared.prove.Found.{Found}
+use Rattle.commands.specs.declared.reason.Diagnostic.{Diagnostic}
 use Rattle.commands.specs.declared.reason.Reason.{Reason}
 use Rattle.commands.specs.declared.reason.Reason.TheVariants.{Usage, NoMemory}
 use Rattle.commands.specs.declared.replayed.Replayed.{Replayed}
@@ -79,9 +80,9 @@ use Rattle.vcd_reader.specs.Rules.{sample_limit}
 use Rattle.vcd_reader.specs.Sampled.{Sampled}
 use Rattle.vcd_reader.specs.declared.fault.VcdFault.{VcdFault}
 use Rattle.wave_judge.proofs.Faults.{one_fault as one_judge_fault, not_both as judged_or_not}
-use Rattle.wave_judge.specs.Faults.{IsFirstFault, IsJudgeFault}
-use Rattle.wave_judge.specs.declared.fault.JudgeFault.{JudgeFault}
-use Rattle.wave_judge.specs.declared.fault.JudgeFault.TheVariants as judge
+use Rattle.wave_judge.specs.Faults.{IsJudgeFault, IsJudgeable}
+use Rattle.psl_tree.specs.declared.limit.UnitFault.{UnitFault}
+use Rattle.psl_tree.specs.declared.limit.UnitFault.TheVariants as units
 use Rattle.wave_judge.specs.declared.verdict.Verdict.{Verdict}
 
 -- any two values
@@ -246,18 +247,28 @@ one-directives name names t u same =
 
 -- verdicts
 
-first-fault : (u : List Directive) (fault : JudgeFault) → ((judge_diagnostic u fault).reason ≢ NoMemory) → IsJudgeFault u fault → IsFirstFault u fault
-first-fault u (judge.Sere n) other h = h
-first-fault u (judge.Automaton n) other h = h
-first-fault u judge.NoMemory other h = absurd (other refl)
+one-limit-said : (u v : List Directive) (c d : UnitFault) → SameUnit u v → ((judge_diagnostic u c).reason ≢ NoMemory) → ((judge_diagnostic v d).reason ≢ NoMemory)
+    → IsJudgeFault u c → IsJudgeFault v d → judge_diagnostic u c ≡ judge_diagnostic v d
+one-limit-said u v (units.TooLarge n l) (units.TooLarge m k) s some none h is =
+    same-said u v (units.TooLarge n l) s ∙ ap (judge_diagnostic v) (one_judge_fault v n m l k (same-first u v n l s h) is)
+one-limit-said u v (units.TooLarge n l) units.NoMemory s some none h is = absurd (none refl)
+one-limit-said u v units.NoMemory d s some none h is = absurd (some refl)
+
+judged-or-limit : (v : List Directive) (d : UnitFault) → ((judge_diagnostic v d).reason ≢ NoMemory) → All IsJudgeable v → IsJudgeFault v d → ⊥
+judged-or-limit v (units.TooLarge n l) none all is = judged_or_not v n l all is
+judged-or-limit v units.NoMemory none all is = none refl
+
+moved-judge-fault : (u v : List Directive) (c : UnitFault) → SameUnit u v → IsJudgeFault u c → IsJudgeFault v c
+moved-judge-fault u v (units.TooLarge n l) s is = same-first u v n l s is
+moved-judge-fault u v units.NoMemory s is = tt
 
 one-judged : (name : List ℕ) (r : Sampled) (u v : List Directive) → SameUnit u v → Agree (Any-two {A = List Verdict}) (JudgeReading name r u) (JudgeReading name r v)
 one-judged name r u v s =
     agree-told name (judge_diagnostic u) (judge_diagnostic v) (AreJudged r u) (AreJudged r v) (IsJudgeFault u) (IsJudgeFault v) (Any-two {A = List Verdict})
     (λ _ _ _ _. tt)
-    (λ c d n m h k. same-said u v c s ∙ ap (judge_diagnostic v) (one_judge_fault v c d (same-first u v c s (first-fault u c n h)) (first-fault v d m k)))
-    (λ w d n h k. judged_or_not v d (all-judgeable u v s h.judgeable) (first-fault v d n k))
-    (λ c w n h k. judged_or_not v c k.judgeable (same-first u v c s (first-fault u c n h)))
+    (λ c d n m h k. one-limit-said u v c d s n m h k)
+    (λ w d n h k. judged-or-limit v d n (all-judgeable u v s h.judgeable) k)
+    (λ c w n h k. judged-or-limit v c (λ is. n (ap (λ (x : Diagnostic). x.reason) (same-said u v c s) ∙ is)) k.judgeable (moved-judge-fault u v c s h))
 
 one-settled : (points : Bool) (unknown : Unknown) (unit name : List ℕ) (r : Sampled) (u v : List Directive) → SameUnit u v
     → Agree (Any-two {A = Judgement}) (SettledReading points unknown unit name r u) (SettledReading points unknown unit name r v)
@@ -308,16 +319,22 @@ one-subject unit netlist files =
     agree-then SameCircuit SameSubject (CircuitStage unit netlist files) (CircuitStage unit netlist files) (SubjectReading unit) (SubjectReading unit)
     (one-circuit unit netlist files) (one-directives-of unit)
 
+-- what is told of the fault of a unit
+abbrev told-of : List ℕ → List ℕ → List Directive → UnitFault → Fault
+told-of unit netlist v (units.TooLarge number limit) = limit_fault unit netlist v number limit
+told-of unit netlist v units.NoMemory = of_none NoMemory
+
 one-found-of : (unit netlist : List ℕ) (limits : Limits) (wanted : Wanted) (design : Design) (u v : List Directive) → SameUnit u v
     → Agree (Any-two {A = Found}) (FoundReading unit netlist limits wanted (record { netlist = design; directives = u }))
     (FoundReading unit netlist limits wanted (record { netlist = design; directives = v }))
 one-found-of unit netlist limits wanted design u v s (Ok a) (Ok b) h k = tt
-one-found-of unit netlist limits wanted design u v s (Ok a) (Err g) h (c, first, _) =
-    absurd (within_or_not design limits.depth limits.covers v c (are-within design limits.depth limits.covers u v s h.0) first)
-one-found-of unit netlist limits wanted design u v s (Err f) (Ok b) (c, first, _) k =
-    absurd (within_or_not design limits.depth limits.covers v c k.0 (same-first-refused design limits.depth limits.covers u v s c first))
-one-found-of unit netlist limits wanted design u v s (Err f) (Err g) (c, first, e) (d, first', e') =
-    e ∙ ap (size_fault unit netlist) (one_size_fault design limits.depth limits.covers v c d (same-first-refused design limits.depth limits.covers u v s c first) first') ∙ sym e'
+one-found-of unit netlist limits wanted design u v s (Ok a) (Err g) h (c, limit, first, _) =
+    absurd (within_or_not design limits.depth limits.covers v c limit (are-within design limits.depth limits.covers u v s h.0) first)
+one-found-of unit netlist limits wanted design u v s (Err f) (Ok b) (c, limit, first, _) k =
+    absurd (within_or_not design limits.depth limits.covers v c limit k.0 (same-first-refused design limits.depth limits.covers u v s c limit first))
+one-found-of unit netlist limits wanted design u v s (Err f) (Err g) (c, limit, first, e) (d, next, first', e') =
+    let same = one_size_fault design limits.depth limits.covers v c d limit next (same-first-refused design limits.depth limits.covers u v s c limit first) first' in
+    e ∙ same-limit-fault u v s unit netlist c limit ∙ ap (told-of unit netlist v) same ∙ sym e'
 
 one-found : (unit netlist : List ℕ) (limits : Limits) (wanted : Wanted) (i j : Subject) → SameSubject i j
     → Agree (Any-two {A = Found}) (FoundReading unit netlist limits wanted i) (FoundReading unit netlist limits wanted j)

@@ -1,6 +1,6 @@
 -- What is told while `prove` works, by what was read and by the words.
 use Rattle.std.proofs.Common.{◌≡◌, refl, ap, ◌∙◌, ℕ, Bool, true, false, List, [], ◌∷◌, length, inl, inr, arith}
-use Rattle.std.specs.Prelude.{◌⊎◌, Result, Ok, Err, OnErr}
+use Rattle.std.specs.Prelude.{Result, Ok, Err, OnErr}
 use Rattle.command_line.specs.Commands.Meaning.{prove}
 use Rattle.command_line.specs.Evidences.{Wanted}
 use Rattle.command_line.specs.declared.Limits.{Limits}
@@ -12,7 +12,7 @@ use Rattle.psl_base.specs.Sink.{SinkState, AddsAll, with_bytes}
 use Rattle.commands.proofs.Staging.{none-unread}
 use Rattle.commands.specs.Commands.{IsCommand}
 use Rattle.commands.specs.Faults.{of_none}
-use Rattle.commands.specs.Progress.{HasProgress, LosesProgress, MayHaveProgress, Progresses, StopsTelling, aloud, lost, progress_line, quiet}
+use Rattle.commands.specs.Progress.{LosesProgress, MayHaveProgress, Progresses, StopsTelling, aloud, lost, progress_line, quiet}
 use Rattle.commands.specs.Rows.{OfReading, OfWriting, cause_of}
 use Rattle.commands.specs.Stages.{Gives, IsUnread}
 use Rattle.commands.specs.Waves.{SubjectStage}

@@ -12,8 +12,9 @@ use Rattle.psl_tree.specs.declared.directive.Directive.{Directive}
 use Rattle.commands.specs.Diagnostics.{lex_diagnostic, parse_diagnostic, layer_diagnostic, judge_diagnostic}
 use Rattle.commands.specs.Rows.{OfText, cause_of}
 use Rattle.commands.specs.declared.reason.Reason.TheVariants.{NoMemory}
-use Rattle.wave_judge.specs.declared.fault.JudgeFault.{JudgeFault}
-use Rattle.wave_judge.specs.declared.fault.JudgeFault.TheVariants as judge
+use Rattle.psl_tree.specs.declared.limit.Limit.TheVariants.{Sere, Automaton, Unroll, Formula as OfFormula}
+use Rattle.psl_tree.specs.declared.limit.UnitFault.{UnitFault}
+use Rattle.psl_tree.specs.declared.limit.UnitFault.TheVariants as units
 
 pub lex-text : (fault : LexFault) → ((lex_diagnostic fault).reason ≢ NoMemory) → cause_of (lex_diagnostic fault).reason ≡ OfText
 lex-text lex.NoMemory other = absurd (other refl)
@@ -28,7 +29,10 @@ pub layer-text : (fault : LayerFault) → ((layer_diagnostic fault).reason ≢ N
 layer-text layer.NoMemory other = absurd (other refl)
 layer-text _ other = refl
 
-pub judge-text : (directives : List Directive) (fault : JudgeFault) → ((judge_diagnostic directives fault).reason ≢ NoMemory)
+pub judge-text : (directives : List Directive) (fault : UnitFault) → ((judge_diagnostic directives fault).reason ≢ NoMemory)
     → cause_of (judge_diagnostic directives fault).reason ≡ OfText
-judge-text directives judge.NoMemory other = absurd (other refl)
-judge-text directives _ other = refl
+judge-text directives units.NoMemory other = absurd (other refl)
+judge-text directives (units.TooLarge number Sere) other = refl
+judge-text directives (units.TooLarge number Automaton) other = refl
+judge-text directives (units.TooLarge number Unroll) other = refl
+judge-text directives (units.TooLarge number OfFormula) other = refl

@@ -1,13 +1,10 @@
 -- Of directives that are equal but for where the program keeps their parts, a certificate is not checked for one limit at
 -- most, and where it is checked, for none.
-use Rattle.std.proofs.Common.{◌≡◌, refl, sym, ◌∙◌, ap, subst, ℕ, ℤ, ◌==◌, Bool, true, false, cond, List, [], ◌∷◌, Option, None, Some, Ok, Err, arith}
-use Rattle.std.specs.Prelude.{◌≢◌}
+use Rattle.std.proofs.Common.{◌≡◌, refl, sym, ◌∙◌, ap, subst, ℕ, ℤ, ◌==◌, Bool, true, false, cond, List, [], ◌∷◌, Option, None, Some, Ok, Err}
 use Rattle.std.proofs.lemmas.Option.{same_Some}
 use Rattle.alternating_theory.specs.Obligations.{Automaton}
 use Rattle.cert_check.specs.Claims.{asked_of, directive_of as directive_at, has_claim, queries_by, queries_for, queries_of}
-use Rattle.cert_check.specs.Limits.{ClausesIn, FitsLimits, HasCause, IsFault, IsFaultBehind, IsLarge, IsLargeIn}
-use Rattle.cert_check.specs.declared.fault.CertFault.{CertFault}
-use Rattle.cert_check.specs.declared.fault.CertFault.TheVariants.{SereTooLarge, AutomatonTooLarge, UnrollTooLarge, FormulaTooLarge, NoMemory}
+use Rattle.cert_check.specs.Limits.{ClausesIn, FitsLimits, IsLarge, IsLargeIn, IsLimitBehind, PassesLimit}
 use Rattle.cert_theory.proofs.HeaderLines.{header_once}
 use Rattle.cert_theory.specs.Headers.{HasHeader}
 use Rattle.cert_theory.specs.Sections.{Queries}
@@ -17,17 +14,20 @@ use Rattle.cert_theory.specs.declared.header.Form.TheVariants.{Windowed, Clausal
 use Rattle.cert_theory.specs.declared.header.Asked.{Asked}
 use Rattle.cert_theory.specs.declared.header.Header.{Header}
 use Rattle.netlist.specs.Design.{Design}
-use Rattle.owed.specs.Owed.{is_asked}
 use Rattle.owed.specs.Violations.{violation_of}
 use Rattle.psl_layer_theory.specs.Answers.{Numbered, directive_of}
 use Rattle.psl_tree.specs.Trees.{Formula}
 use Rattle.psl_tree.specs.declared.directive.Directive.{Directive}
+use Rattle.owed.proofs.Limiting.{not_sized, one_limit}
+use Rattle.owed.specs.Owed.{is_asked, plain_owed}
 use Rattle.owed.specs.Sized.{IsRefused, IsSized}
-use Rattle.owed.specs.declared.limits.LimitFault.TheVariants as limits
+use Rattle.psl_tree.specs.declared.limit.Limit.{Limit}
+use Rattle.psl_tree.specs.declared.limit.Limit.TheVariants.{Sere, Automaton as OfAutomaton, Unroll, Formula as OfFormula}
 use Rattle.commands.proofs.Alike.{Agree}
 use Rattle.commands.proofs.SameOwed.{same-kind, same-owed, same-violation}
 use Rattle.commands.proofs.SameUnits.{SameUnit, heads, none-some, same-place, tails}
-use Rattle.commands.specs.Checks.{CertReading, IsUnchecked, cert_fault}
+use Rattle.commands.specs.Checks.{CertReading, IsUnchecked}
+use Rattle.commands.specs.Diagnostics.{limit_fault}
 use Rattle.commands.specs.Faults.{fault_in}
 use Rattle.commands.specs.declared.outcome.CheckedCert.{CheckedCert}
 use Rattle.commands.specs.declared.outcome.Fault.{Fault}
@@ -37,62 +37,40 @@ use Rattle.commands.specs.declared.subject.Subject.{Subject}
 -- one text has one limit that it passes
 
 module _ (design : Design) (unit : List Directive) (directive : Directive) (header : Header) (behind : List (List ℤ) → Type 0) where
-  fits-or-not : (fault : CertFault) → (fault ≢ NoMemory) → FitsLimits design unit directive header behind
-      → IsFaultBehind design unit directive header behind fault → ⊥
-  fits-or-not SereTooLarge other fits is = fits.sized.sequences is
-  fits-or-not AutomatonTooLarge other fits is = let le = fits.sized.obligations in let lt = is.1 in omega arith
-  fits-or-not UnrollTooLarge other fits is = let le = fits.sized.unrolled in let lt = is.2 in omega arith
-  fits-or-not FormulaTooLarge other fits is = fits.formulas is.1
-  fits-or-not NoMemory other fits is = other refl
+  fits-or-not : (limit : Limit) → FitsLimits design unit directive header behind → IsLimitBehind design unit directive header behind limit → ⊥
+  fits-or-not Sere fits is = not_sized design header.window (plain_owed unit directive) Sere fits.sized is
+  fits-or-not OfAutomaton fits is = not_sized design header.window (plain_owed unit directive) OfAutomaton fits.sized is
+  fits-or-not Unroll fits is = not_sized design header.window (plain_owed unit directive) Unroll fits.sized is
+  fits-or-not OfFormula fits is = fits.formulas is.1
 
-  one-behind : (f g : CertFault) → (f ≢ NoMemory) → (g ≢ NoMemory) → IsFaultBehind design unit directive header behind f
-      → IsFaultBehind design unit directive header behind g → f ≡ g
-  one-behind SereTooLarge SereTooLarge n m h k = refl
-  one-behind SereTooLarge AutomatonTooLarge n m h k = absurd (k.0 h)
-  one-behind SereTooLarge UnrollTooLarge n m h k = absurd (k.0 h)
-  one-behind SereTooLarge FormulaTooLarge n m h k = absurd (k.0.sequences h)
-  one-behind AutomatonTooLarge SereTooLarge n m h k = absurd (h.0 k)
-  one-behind AutomatonTooLarge AutomatonTooLarge n m h k = refl
-  one-behind AutomatonTooLarge UnrollTooLarge n m h k = absurd (let lt = h.1 in let le = k.1 in omega arith)
-  one-behind AutomatonTooLarge FormulaTooLarge n m h k = absurd (let lt = h.1 in let le = k.0.obligations in omega arith)
-  one-behind UnrollTooLarge SereTooLarge n m h k = absurd (h.0 k)
-  one-behind UnrollTooLarge AutomatonTooLarge n m h k = absurd (let le = h.1 in let lt = k.1 in omega arith)
-  one-behind UnrollTooLarge UnrollTooLarge n m h k = refl
-  one-behind UnrollTooLarge FormulaTooLarge n m h k = absurd (let lt = h.2 in let le = k.0.unrolled in omega arith)
-  one-behind FormulaTooLarge SereTooLarge n m h k = absurd (h.0.sequences k)
-  one-behind FormulaTooLarge AutomatonTooLarge n m h k = absurd (let le = h.0.obligations in let lt = k.1 in omega arith)
-  one-behind FormulaTooLarge UnrollTooLarge n m h k = absurd (let le = h.0.unrolled in let lt = k.2 in omega arith)
-  one-behind FormulaTooLarge FormulaTooLarge n m h k = refl
-  one-behind NoMemory g n m h k = absurd (n refl)
-  one-behind f NoMemory n m h k = absurd (m refl)
+  -- a limit of what is owed comes before that of the formulas, and one of these first
+  one-behind : (f g : Limit) → IsLimitBehind design unit directive header behind f → IsLimitBehind design unit directive header behind g → f ≡ g
+  one-behind Sere OfFormula h k = absurd (not_sized design header.window (plain_owed unit directive) Sere k.0 h)
+  one-behind OfAutomaton OfFormula h k = absurd (not_sized design header.window (plain_owed unit directive) OfAutomaton k.0 h)
+  one-behind Unroll OfFormula h k = absurd (not_sized design header.window (plain_owed unit directive) Unroll k.0 h)
+  one-behind OfFormula Sere h k = absurd (not_sized design header.window (plain_owed unit directive) Sere h.0 k)
+  one-behind OfFormula OfAutomaton h k = absurd (not_sized design header.window (plain_owed unit directive) OfAutomaton h.0 k)
+  one-behind OfFormula Unroll h k = absurd (not_sized design header.window (plain_owed unit directive) Unroll h.0 k)
+  one-behind OfFormula OfFormula h k = refl
+  one-behind Sere Sere h k = refl
+  one-behind Sere OfAutomaton h k = one_limit design header.window (plain_owed unit directive) Sere OfAutomaton h k
+  one-behind Sere Unroll h k = one_limit design header.window (plain_owed unit directive) Sere Unroll h k
+  one-behind OfAutomaton Sere h k = one_limit design header.window (plain_owed unit directive) OfAutomaton Sere h k
+  one-behind OfAutomaton OfAutomaton h k = refl
+  one-behind OfAutomaton Unroll h k = one_limit design header.window (plain_owed unit directive) OfAutomaton Unroll h k
+  one-behind Unroll Sere h k = one_limit design header.window (plain_owed unit directive) Unroll Sere h k
+  one-behind Unroll OfAutomaton h k = one_limit design header.window (plain_owed unit directive) Unroll OfAutomaton h k
+  one-behind Unroll Unroll h k = refl
 
 module _ (design : Design) (unit : List Directive) (number : ℕ) (text : List ℕ) where
-  abbrev Cause : CertFault → Type 0
-  Cause fault = HasCause design unit number text fault
-
-  -- what a fault but want of memory says
-  pub cause-of : (fault : CertFault) → (fault ≢ NoMemory) → IsFault design unit number text fault → Cause fault
-  cause-of SereTooLarge other h = h
-  cause-of AutomatonTooLarge other h = h
-  cause-of UnrollTooLarge other h = h
-  cause-of FormulaTooLarge other h = h
-  cause-of NoMemory other h = absurd (other refl)
-
-  pub fault-of : (fault : CertFault) → (fault ≢ NoMemory) → Cause fault → IsFault design unit number text fault
-  fault-of SereTooLarge other h = h
-  fault-of AutomatonTooLarge other h = h
-  fault-of UnrollTooLarge other h = h
-  fault-of FormulaTooLarge other h = h
-  fault-of NoMemory other h = absurd (other refl)
-
-  one-cause : (f g : CertFault) → (f ≢ NoMemory) → (g ≢ NoMemory) → Cause f → Cause g → f ≡ g
-  one-cause f g n m h k =
+  one-passed : (f g : Limit) → PassesLimit design unit number text f → PassesLimit design unit number text g → f ≡ g
+  one-passed f g h k =
       let headers : h.header ≡ k.header = header_once (asked_of unit number) text h.header k.header h.has k.has in
       let directives : h.directive ≡ k.directive = same_Some h.directive k.directive (sym h.is ∙ k.is) in
-      one-behind design unit k.directive k.header (ClausesIn design unit number text k.header) f g n m
-      (subst (λ (d : Directive). IsFaultBehind design unit d k.header (ClausesIn design unit number text k.header) f) directives
-      (subst (λ (x : Header). IsFaultBehind design unit h.directive x (ClausesIn design unit number text x) f) headers h.fault_is))
-      k.fault_is
+      one-behind design unit k.directive k.header (ClausesIn design unit number text k.header) f g
+      (subst (λ (d : Directive). IsLimitBehind design unit d k.header (ClausesIn design unit number text k.header) f) directives
+      (subst (λ (x : Header). IsLimitBehind design unit h.directive x (ClausesIn design unit number text x) f) headers h.limit_is))
+      k.limit_is
 
 -- the directives of one number in two such texts
 
@@ -157,41 +135,41 @@ module _ (design : Design) (u v : List Directive) (s : SameUnit u v) where
       (same-queries design u v s (directive_at u number) (directive_at v number) (same-found u v number s))
       (subst (λ (a : Asked). HasClauses a (queries_of design u number) text header clauses) (same-asked u v number s) has)
 
-  moved-behind : (d e : Directive) (header : Header) (behind other : List (List ℤ) → Type 0) (fault : CertFault) → directive_of d ≡ directive_of e
-      → ((clauses : List (List ℤ)) → behind clauses → other clauses) → IsFaultBehind design u d header behind fault → IsFaultBehind design v e header other fault
-  moved-behind d e header behind other SereTooLarge same move h =
-      subst (λ (f : Formula). IsRefused design header.window f limits.SereTooLarge) (same-owed u v d e s same) h
-  moved-behind d e header behind other AutomatonTooLarge same move h =
-      subst (λ (f : Formula). IsRefused design header.window f limits.AutomatonTooLarge) (same-owed u v d e s same) h
-  moved-behind d e header behind other UnrollTooLarge same move h =
-      subst (λ (f : Formula). IsRefused design header.window f limits.UnrollTooLarge) (same-owed u v d e s same) h
-  moved-behind d e header behind other FormulaTooLarge same move h = (
+  moved-behind : (d e : Directive) (header : Header) (behind other : List (List ℤ) → Type 0) (limit : Limit) → directive_of d ≡ directive_of e
+      → ((clauses : List (List ℤ)) → behind clauses → other clauses) → IsLimitBehind design u d header behind limit → IsLimitBehind design v e header other limit
+  moved-behind d e header behind other Sere same move h =
+      subst (λ (f : Formula). IsRefused design header.window f Sere) (same-owed u v d e s same) h
+  moved-behind d e header behind other OfAutomaton same move h =
+      subst (λ (f : Formula). IsRefused design header.window f OfAutomaton) (same-owed u v d e s same) h
+  moved-behind d e header behind other Unroll same move h =
+      subst (λ (f : Formula). IsRefused design header.window f Unroll) (same-owed u v d e s same) h
+  moved-behind d e header behind other OfFormula same move h = (
     subst (IsSized design header.window) (same-owed u v d e s same) h.0,
     moved-large header.form design (violation_of v e) header behind other move
         (subst (λ (a : Automaton). IsLarge design a header behind) (same-violation u v d e s same) h.1),
   )
-  moved-behind d e header behind other NoMemory same move h = tt
 
-  pub moved-cause : (number : ℕ) (text : List ℕ) (fault : CertFault) → HasCause design u number text fault → HasCause design v number text fault
-  moved-cause number text fault h =
+  pub moved-limit : (number : ℕ) (text : List ℕ) (limit : Limit) → PassesLimit design u number text limit → PassesLimit design v number text limit
+  moved-limit number text limit h =
       let at = other-found (directive_at u number) (directive_at v number) h.directive (same-found u v number s) h.is in
       record {
         header = h.header;
         directive = at.0;
         has = subst (λ (a : Asked). HasHeader a text h.header) (same-asked u v number s) h.has;
         is = at.1;
-        fault_is = moved-behind h.directive at.0 h.header (ClausesIn design u number text h.header) (ClausesIn design v number text h.header) fault at.2
-            (moved-clauses number text h.header) h.fault_is;
+        limit_is = moved-behind h.directive at.0 h.header (ClausesIn design u number text h.header) (ClausesIn design v number text h.header) limit at.2
+            (moved-clauses number text h.header) h.limit_is;
       }
 
-  same-cert-fault : (unit netlist : List ℕ) (number : ℕ) (fault : CertFault) → cert_fault unit netlist u number fault ≡ cert_fault unit netlist v number fault
-  same-cert-fault unit netlist number SereTooLarge =
-      ap (λ place. fault_in unit (record { reason = reasons.SereTooLarge; place = place })) (same-place u v number s)
-  same-cert-fault unit netlist number AutomatonTooLarge =
-      ap (λ place. fault_in unit (record { reason = reasons.AutomatonTooLarge; place = place })) (same-place u v number s)
-  same-cert-fault unit netlist number UnrollTooLarge = refl
-  same-cert-fault unit netlist number FormulaTooLarge = refl
-  same-cert-fault unit netlist number NoMemory = refl
+-- what is told of a limit
+pub same-limit-fault : (u v : List Directive) → SameUnit u v → (unit netlist : List ℕ) (number : ℕ) (limit : Limit)
+    → limit_fault unit netlist u number limit ≡ limit_fault unit netlist v number limit
+same-limit-fault u v s unit netlist number Sere =
+    ap (λ place. fault_in unit (record { reason = reasons.SereTooLarge; place = place })) (same-place u v number s)
+same-limit-fault u v s unit netlist number OfAutomaton =
+    ap (λ place. fault_in unit (record { reason = reasons.AutomatonTooLarge; place = place })) (same-place u v number s)
+same-limit-fault u v s unit netlist number Unroll = refl
+same-limit-fault u v s unit netlist number OfFormula = refl
 
 -- a text is checked, or one limit is told
 
@@ -205,8 +183,9 @@ module _ (unit netlist : List ℕ) (number : ℕ) (design : Design) (text : List
   not-unchecked : (u v : List Directive) → SameUnit u v → (checked : CheckedCert) (fault : Fault)
       → CertReading unit netlist number (of-design design u) text (Ok checked) → IsUnchecked unit netlist number (of-design design v) text fault → ⊥
   not-unchecked u v s checked fault h k =
-      let cause = moved-cause design v u (sym s) number text k.limit (cause-of design v number text k.limit k.is_limit k.passed) in
-      fits-or-not design u cause.directive cause.header (ClausesIn design u number text cause.header) k.limit k.is_limit (h.fits cause.header cause.directive cause.has cause.is) cause.fault_is
+      let passes = moved-limit design v u (sym s) number text k.limit k.passes in
+      fits-or-not design u passes.directive passes.header (ClausesIn design u number text passes.header) k.limit
+      (h.fits passes.header passes.directive passes.has passes.is) passes.limit_is
 
   pub one-checked-of : (u v : List Directive) → SameUnit u v
       → Agree Any-two (CertReading unit netlist number (of-design design u) text) (CertReading unit netlist number (of-design design v) text)
@@ -214,7 +193,5 @@ module _ (unit netlist : List ℕ) (number : ℕ) (design : Design) (text : List
   one-checked-of u v s (Ok a) (Err g) h k = absurd (not-unchecked u v s a g h k)
   one-checked-of u v s (Err f) (Ok b) h k = absurd (not-unchecked v u (sym s) b f k h)
   one-checked-of u v s (Err f) (Err g) h k =
-      let cause = moved-cause design u v s number text h.limit (cause-of design u number text h.limit h.is_limit h.passed) in
-      let limit : h.limit ≡ k.limit = one-cause design v number text h.limit k.limit h.is_limit k.is_limit cause
-      (cause-of design v number text k.limit k.is_limit k.passed) in
-      h.fault_is ∙ same-cert-fault design u v s unit netlist number h.limit ∙ ap (cert_fault unit netlist v number) limit ∙ sym k.fault_is
+      let limit : h.limit ≡ k.limit = one-passed design v number text h.limit k.limit (moved-limit design u v s number text h.limit h.passes) k.passes in
+      h.fault_is ∙ same-limit-fault u v s unit netlist number h.limit ∙ ap (limit_fault unit netlist v number) limit ∙ sym k.fault_is

@@ -6,14 +6,12 @@ use Rattle.std.proofs.lemmas.List.Elements.{All-nil, All-cons, All-head, All-tai
 use Rattle.alternating_theory.specs.Built.{built}
 use Rattle.alternating_theory.specs.Dual.{opposite_automaton}
 use Rattle.findings.specs.Sizes.{AreWithin, IsFirstRefused, IsRefused, IsWithin}
-use Rattle.findings.specs.declared.sizes.SizeFault.{SizeFault}
-use Rattle.findings.specs.declared.sizes.SizeFault.TheVariants as sizes
 use Rattle.netlist.specs.Design.{Design}
 use Rattle.owed.specs.Owed.{assumptions, conjunction, is_asked, is_assumption, plain_owed, under}
 use Rattle.owed.specs.Violations.{violation_of}
 use Rattle.owed.specs.Sized as sized
 use Rattle.owed.specs.Sized.{IsSized}
-use Rattle.owed.specs.declared.limits.LimitFault.TheVariants as limits
+use Rattle.psl_tree.specs.declared.limit.Limit.{Limit}
 use Rattle.psl_layer_theory.specs.Answers.{Numbered, directive_of}
 use Rattle.psl_tree.specs.Plain.{plain}
 use Rattle.psl_tree.specs.Trees.{Formula, formula_of}
@@ -63,24 +61,20 @@ module _ (design : Design) (depth : ℕ) (covers : Bool) (u v : List Directive) 
   pub are-within : AreWithin design depth covers u → AreWithin design depth covers v
   are-within a = all-within u v s a
 
-  same-refused : (d e : Directive) (fault : SizeFault) → directive_of d ≡ directive_of e → IsRefused design depth u d fault → IsRefused design depth v e fault
-  same-refused d e (sizes.SereTooLarge place) same r =
-      (r.0 ∙ ap (λ (n : Numbered). n.place) same, subst (λ (f : Formula). sized.IsRefused design depth f limits.SereTooLarge) (same-owed u v d e s same) r.1)
-  same-refused d e (sizes.AutomatonTooLarge place) same r = (
-    r.0 ∙ ap (λ (n : Numbered). n.place) same,
-    subst (λ (f : Formula). sized.IsRefused design depth f limits.AutomatonTooLarge) (same-owed u v d e s same) r.1,
+  same-refused : (d e : Directive) (number : ℕ) (limit : Limit) → directive_of d ≡ directive_of e → IsRefused design depth u d number limit
+      → IsRefused design depth v e number limit
+  same-refused d e number limit same r = (
+    r.0 ∙ ap (λ (n : Numbered). n.number) same,
+    subst (λ (f : Formula). sized.IsRefused design depth f limit) (same-owed u v d e s same) r.1,
   )
-  same-refused d e sizes.UnrollTooLarge same r =
-      subst (λ (f : Formula). sized.IsRefused design depth f limits.UnrollTooLarge) (same-owed u v d e s same) r
-  same-refused d e sizes.NoMemory same r = r
 
-  pub same-first-refused : (fault : SizeFault) → IsFirstRefused design depth covers u fault → IsFirstRefused design depth covers v fault
-  same-first-refused fault first =
+  pub same-first-refused : (number : ℕ) (limit : Limit) → IsFirstRefused design depth covers u number limit → IsFirstRefused design depth covers v number limit
+  same-first-refused number limit first =
       let at = there first.place u v first.directive s first.here in record {
         place = first.place;
         directive = at.0;
         here = at.1;
         is = ap (is_asked covers) (sym (same-kind first.directive at.0 at.2)) ∙ first.is;
         before = all-within (take first.place u) (take first.place v) (same-take first.place u v s) first.before;
-        refused = same-refused first.directive at.0 fault at.2 first.refused;
+        refused = same-refused first.directive at.0 number limit at.2 first.refused;
       }

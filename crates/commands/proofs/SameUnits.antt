@@ -1,24 +1,24 @@
 -- Directives that are equal but for where the program keeps their parts are judged alike.
-use Rattle.std.proofs.Common.{◌≡◌, refl, sym, ◌∙◌, ap, subst, ℕ, zero, suc, ◌≤◌, ◌<◌, ◌==◌, Bool, true, false, cond, List, [], ◌∷◌, map, take, Option, None, Some}
+use Rattle.std.proofs.Common.{◌≡◌, refl, sym, ◌∙◌, ap, subst, ℕ, zero, suc, ◌≤◌, ◌==◌, Bool, true, false, cond, List, [], ◌∷◌, map, take, Option, None, Some}
 use Rattle.std.specs.Prelude.{All, slice_get}
 use Rattle.std.specs.List.{find}
 use Rattle.std.specs.Option.{option_map}
 use Rattle.std.proofs.lemmas.List.{take-map}
 use Rattle.std.proofs.lemmas.List.Elements.{All-nil, All-cons, All-head, All-tail}
-use Rattle.alternating.specs.Limits.{HasLargeSequence}
+use Rattle.alternating.specs.Limits.{HasLargeSequence, PassesFirst}
 use Rattle.psl_base.specs.declared.place.Place.{Place}
 use Rattle.psl_layer_theory.specs.Answers.{Numbered, directive_of}
 use Rattle.psl_tree.specs.Plain.{plain}
 use Rattle.psl_tree.specs.Counts.{obligations_of}
 use Rattle.psl_tree.specs.Trees.{Formula}
 use Rattle.psl_tree.specs.declared.directive.Directive.{Directive}
-use Rattle.commands.specs.Diagnostics.{directive_place, judge_diagnostic}
+use Rattle.commands.specs.Diagnostics.{directive_place, judge_diagnostic, limit_reason}
 use Rattle.commands.specs.declared.reason.Diagnostic.{Diagnostic}
 use Rattle.commands.specs.declared.reason.Reason.{Reason}
-use Rattle.commands.specs.declared.reason.Reason.TheVariants.{SereTooLarge, AutomatonTooLarge}
-use Rattle.wave_judge.specs.Faults.{unclocked, IsJudgeable, IsRefused, IsFirstFault}
-use Rattle.wave_judge.specs.declared.fault.JudgeFault.{JudgeFault}
-use Rattle.wave_judge.specs.declared.fault.JudgeFault.TheVariants as judge
+use Rattle.wave_judge.specs.Faults.{unclocked, IsJudgeable, IsRefused, IsFirstRefused}
+use Rattle.psl_tree.specs.declared.limit.Limit.{Limit}
+use Rattle.psl_tree.specs.declared.limit.UnitFault.{UnitFault}
+use Rattle.psl_tree.specs.declared.limit.UnitFault.TheVariants as units
 
 abbrev pub SameUnit : List Directive → List Directive → Type 0
 SameUnit u v = map directive_of u ≡ map directive_of v
@@ -32,14 +32,9 @@ same-judgeable d e s j = record {
   obligations = subst (λ (f : Formula). obligations_of f ≤ 2048) (same-unclocked d e s) j.obligations;
 }
 
-same-refused : (d e : Directive) (fault : JudgeFault) → directive_of d ≡ directive_of e → IsRefused d fault → IsRefused e fault
-same-refused d e (judge.Sere n) s r = (r.0 ∙ ap (λ (x : Numbered). x.number) s, subst HasLargeSequence (same-unclocked d e s) r.1)
-same-refused d e (judge.Automaton n) s r = (
-  r.0 ∙ ap (λ (x : Numbered). x.number) s,
-  (λ h. r.1 (subst HasLargeSequence (sym (same-unclocked d e s)) h)),
-  subst (λ (f : Formula). 2048 < obligations_of f) (same-unclocked d e s) r.2,
-)
-same-refused d e judge.NoMemory s r = r
+same-refused : (d e : Directive) (number : ℕ) (limit : Limit) → directive_of d ≡ directive_of e → IsRefused d number limit → IsRefused e number limit
+same-refused d e number limit s r =
+    (r.0 ∙ ap (λ (x : Numbered). x.number) s, subst (λ (f : Formula). PassesFirst f limit) (same-unclocked d e s) r.1)
 
 pub heads : (d e : Directive) (u v : List Directive) → SameUnit (d ∷ u) (e ∷ v) → directive_of d ≡ directive_of e
 heads d e u v s = cc
@@ -67,14 +62,14 @@ there n (x ∷ u) [] d s is = absurd (none-some x u (sym s))
 there zero (x ∷ u) (y ∷ v) d s is = (y, refl, (let same : x ≡ d = cc in subst (λ (a : Directive). directive_of a ≡ directive_of y) same (heads x y u v s)))
 there (suc n) (x ∷ u) (y ∷ v) d s is = there n u v d (tails x y u v s) is
 
-pub same-first : (u v : List Directive) (fault : JudgeFault) → SameUnit u v → IsFirstFault u fault → IsFirstFault v fault
-same-first u v fault s first =
+pub same-first : (u v : List Directive) (number : ℕ) (limit : Limit) → SameUnit u v → IsFirstRefused u number limit → IsFirstRefused v number limit
+same-first u v number limit s first =
     let at = there first.place u v first.directive s first.here in record {
       place = first.place;
       directive = at.0;
       here = at.1;
       before = all-judgeable (take first.place u) (take first.place v) (same-take first.place u v s) first.before;
-      refused = same-refused first.directive at.0 fault at.2 first.refused;
+      refused = same-refused first.directive at.0 number limit at.2 first.refused;
     }
 
 -- the place of a directive, by its number
@@ -98,7 +93,6 @@ same-place u v number s = place-numbered u number ∙ ap (λ (all : List Numbere
 abbrev said-of : Reason → Option Place → Diagnostic
 said-of reason place = record { reason = reason; place = place }
 
-pub same-said : (u v : List Directive) (fault : JudgeFault) → SameUnit u v → judge_diagnostic u fault ≡ judge_diagnostic v fault
-same-said u v (judge.Sere n) s = ap (said-of SereTooLarge) (same-place u v n s)
-same-said u v (judge.Automaton n) s = ap (said-of AutomatonTooLarge) (same-place u v n s)
-same-said u v judge.NoMemory s = refl
+pub same-said : (u v : List Directive) (fault : UnitFault) → SameUnit u v → judge_diagnostic u fault ≡ judge_diagnostic v fault
+same-said u v (units.TooLarge n limit) s = ap (said-of (limit_reason limit)) (same-place u v n s)
+same-said u v units.NoMemory s = refl

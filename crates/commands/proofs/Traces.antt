@@ -8,6 +8,7 @@ use Rattle.findings.specs.Traceable.{AreTraceable, HasTraces}
 use Rattle.blif_laws.specs.Plain.{IsPlain}
 use Rattle.netlist.specs.Design.{Design}
 use Rattle.netlist.specs.Sound.{IsSound}
+use Rattle.psl_tree.specs.declared.counts.TheConstants.{MOST_CONSTRUCTORS}
 use Rattle.psl_tree.specs.Counts.{formula_size}
 use Rattle.psl_tree.specs.Names.{first_name}
 use Rattle.psl_tree.specs.Trees.{formula_of}
@@ -34,12 +35,12 @@ has-traces design sound plain few = record { words = has-words design sound plai
 
 -- recordings that the words ask for
 traceable-by : (design : Design) (directives : List Directive) (loops : ℕ) (buses : Bool) (prefix : Option (List ℕ)) → HasTraces design
-    → All (λ directive. formula_size (formula_of directive.formula) ≤ 4096) directives → loops ≤ 16
+    → All (λ directive. formula_size (formula_of directive.formula) ≤ MOST_CONSTRUCTORS) directives → loops ≤ 16
     → AreTraceable design directives (recordings_in (record { cert = None; vcd = prefix; loops = loops; buses = buses }))
 traceable-by design directives loops buses None traces small few = tt
 traceable-by design directives loops buses (Some prefix) traces small few = record { traces = traces; small = small; few = few }
 
 pub traceable : (design : Design) (directives : List Directive) (wanted : Wanted) → HasTraces design
-    → All (λ directive. formula_size (formula_of directive.formula) ≤ 4096) directives → wanted.loops ≤ 16
+    → All (λ directive. formula_size (formula_of directive.formula) ≤ MOST_CONSTRUCTORS) directives → wanted.loops ≤ 16
     → AreTraceable design directives (recordings_in wanted)
 traceable design directives wanted traces small few = traceable-by design directives wanted.loops wanted.buses wanted.vcd traces small few

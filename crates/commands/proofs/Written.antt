@@ -1,5 +1,5 @@
 -- A certificate that is written of a proof is passed, where the text and the netlist are as they were.
-use Rattle.std.proofs.Common.{◌≡◌, sym, ap, subst, ℕ, zero, suc, ◌≤◌, List, [], ◌∷◌, length, Option, None, Some, Ok, Err, arith, inl, inr}
+use Rattle.std.proofs.Common.{◌≡◌, sym, subst, ℕ, zero, suc, ◌≤◌, List, [], ◌∷◌, length, Option, None, Some, Ok, Err, arith, inl, inr}
 use Rattle.std.specs.Prelude.{Result, slice_get}
 use Rattle.cert_check.specs.Claims.{asked_of, directive_of as directive_at, queries_of}
 use Rattle.cert_theory.proofs.OneAnswer.{one_answer}
@@ -20,7 +20,7 @@ use Rattle.psl_base.specs.Places.{file_limit}
 use Rattle.psl_base.specs.Shelf.{Contents}
 use Rattle.psl_tree.specs.declared.directive.Directive.{Directive}
 use Rattle.commands.proofs.OneAnswer.{SameSubject, one-subject}
-use Rattle.commands.proofs.SameChecks.{cause-of, fault-of, moved-cause, same-asked, same-found, same-queries}
+use Rattle.commands.proofs.SameChecks.{moved-limit, same-asked, same-found, same-queries}
 use Rattle.commands.proofs.SameUnits.{SameUnit}
 use Rattle.commands.specs.Checks.{CertReading, CheckStage, Passes}
 use Rattle.commands.specs.Provings.{ProveStage, options_of, recordings_in}
@@ -81,8 +81,7 @@ passed-of unit netlist design u v number text (Ok checked) s passed is =
     one_answer (asked_of v number) (queries_of design v number) text checked.answer Passed is.answers
     (same-answer design u v s number text Passed passed.passed)
 passed-of unit netlist design u v number text (Err fault) s passed is =
-    let cause = moved-cause design v u (sym s) number text is.limit (cause-of design v number text is.limit is.is_limit is.passed) in
-    absurd (is.is_limit (passed.checked is.limit (fault-of design u number text is.limit is.is_limit cause)))
+    absurd (passed.checked is.limit (moved-limit design v u (sym s) number text is.limit is.passes))
 
 passed-by : (unit netlist : List ℕ) (i j : Subject) (number : ℕ) (text : List ℕ) (result : Result CheckedCert Fault) → SameSubject i j
     → IsPassedText i.netlist i.directives number text → CertReading unit netlist number j text result → Passes result

@@ -1,42 +1,23 @@
 -- What `check UNIT NETLIST NUMBER CERTIFICATE` gives: whether the text of a certificate shows that each run of the netlist
 -- satisfies what is owed of the directive of that number, an assertion or a cover.
-use Rattle.std.specs.Prelude.{◌≡◌, ◌≢◌, ℕ, List, Option, None, Some, Result, Ok, Err}
+use Rattle.std.specs.Prelude.{◌≡◌, ℕ, List, Option, None, Some, Result, Ok, Err}
 use Rattle.cert_check.specs.Claims.{IsProved, asked_of, directive_of, queries_of}
-use Rattle.cert_check.specs.Limits.{ClausesIn, FitsLimits, IsFault}
-use Rattle.cert_check.specs.declared.fault.CertFault.{CertFault}
-use Rattle.cert_check.specs.declared.fault.CertFault.TheVariants as limits
+use Rattle.cert_check.specs.Limits.{ClausesIn, FitsLimits, PassesLimit}
 use Rattle.cert_theory.specs.Headers.{HasHeader}
 use Rattle.cert_theory.specs.Texts.{IsAnswer}
 use Rattle.cert_theory.specs.declared.answer.CertAnswer.TheVariants.{Passed}
 use Rattle.cert_theory.specs.declared.header.Header.{Header}
+use Rattle.psl_tree.specs.declared.limit.Limit.{Limit}
 use Rattle.psl_base.specs.Shelf.{Contents}
 use Rattle.psl_tree.specs.declared.directive.Directive.{Directive}
 use Rattle.psl_tree.specs.declared.directive.Kind.{Kind}
 use Rattle.psl_tree.specs.declared.directive.Kind.TheVariants.{Assert, Assume, Cover}
-use Rattle.commands.specs.Diagnostics.{directive_place}
-use Rattle.commands.specs.Faults.{fault_in, of_file, of_none}
+use Rattle.commands.specs.Diagnostics.{limit_fault}
 use Rattle.commands.specs.Stages.{OfFile, Then}
 use Rattle.commands.specs.Waves.{SubjectStage}
 use Rattle.commands.specs.declared.outcome.CheckedCert.{CheckedCert}
 use Rattle.commands.specs.declared.outcome.Fault.{Fault}
-use Rattle.commands.specs.declared.reason.Diagnostic.{Diagnostic}
-use Rattle.commands.specs.declared.reason.Reason.{Reason}
-use Rattle.commands.specs.declared.reason.Reason.TheVariants as reasons
 use Rattle.commands.specs.declared.subject.Subject.{Subject}
-
--- what is said at the word of the directive of a number
-abbrev pub at_directive : Reason → List Directive → ℕ → Diagnostic
-at_directive reason directives number = record { reason = reason; place = directive_place directives number }
-
--- what is told of a certificate that is not checked: at the place of the directive in the text, or of the netlist
-abbrev pub cert_fault : List ℕ → List ℕ → List Directive → ℕ → CertFault → Fault
-cert_fault unit netlist directives number limits.SereTooLarge =
-    fault_in unit (at_directive reasons.SereTooLarge directives number)
-cert_fault unit netlist directives number limits.AutomatonTooLarge =
-    fault_in unit (at_directive reasons.AutomatonTooLarge directives number)
-cert_fault unit netlist directives number limits.UnrollTooLarge = of_file reasons.UnrollTooLarge netlist
-cert_fault unit netlist directives number limits.FormulaTooLarge = of_file reasons.FormulaTooLarge netlist
-cert_fault unit netlist directives number limits.NoMemory = of_none reasons.NoMemory
 
 -- as what a directive is answered for: a cover as one, and all else as an assertion
 abbrev pub answered_as : Kind → Kind
@@ -63,10 +44,9 @@ pub record IsChecked (subject : Subject) (number : ℕ) (content : List ℕ) (ch
 
 -- the text passes a limit behind a header that is not refused, and this is told of it
 pub record IsUnchecked (unit netlist : List ℕ) (number : ℕ) (subject : Subject) (content : List ℕ) (fault : Fault) : Type 0 where
-  pub limit : CertFault
-  pub passed : IsFault subject.netlist subject.directives number content limit
-  pub is_limit : limit ≢ limits.NoMemory
-  pub fault_is : fault ≡ cert_fault unit netlist subject.directives number limit
+  pub limit : Limit
+  pub passes : PassesLimit subject.netlist subject.directives number content limit
+  pub fault_is : fault ≡ limit_fault unit netlist subject.directives number limit
 
 abbrev pub CertReading : List ℕ → List ℕ → ℕ → Subject → List ℕ → Result CheckedCert Fault → Type 0
 CertReading unit netlist number subject content (Ok checked) = IsChecked subject number content checked

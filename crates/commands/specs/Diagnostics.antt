@@ -4,6 +4,8 @@ use Rattle.std.specs.List.{find}
 use Rattle.std.specs.Option.{option_map}
 use Rattle.blif_model.specs.declared.fault.BlifFault.{BlifFault}
 use Rattle.blif_model.specs.declared.fault.BlifFault.TheVariants as blif
+use Rattle.psl_tree.specs.declared.limit.Limit.{Limit}
+use Rattle.psl_tree.specs.declared.limit.Limit.TheVariants as limits
 use Rattle.psl_base.specs.Places.{place_at}
 use Rattle.psl_base.specs.declared.place.Place.{Place}
 use Rattle.psl_layer_theory.specs.declared.fault.LayerFault.{LayerFault}
@@ -14,13 +16,15 @@ use Rattle.psl_lexer.specs.declared.token.Token.{Token}
 use Rattle.psl_parser.specs.declared.fault.ParseFault.{ParseFault}
 use Rattle.psl_parser.specs.declared.fault.ParseFault.TheVariants as parse
 use Rattle.psl_tree.specs.declared.directive.Directive.{Directive}
-use Rattle.commands.specs.Faults.{at, whole}
+use Rattle.commands.specs.Faults.{at, fault_in, of_file, whole}
+use Rattle.commands.specs.declared.outcome.Fault.{Fault}
 use Rattle.commands.specs.declared.reason.Diagnostic.{Diagnostic}
+use Rattle.commands.specs.declared.reason.Reason.{Reason}
 use Rattle.commands.specs.declared.reason.Reason.TheVariants as reasons
 use Rattle.vcd_reader.specs.declared.fault.VcdFault.{VcdFault}
 use Rattle.vcd_reader.specs.declared.fault.VcdFault.TheVariants as vcd
-use Rattle.wave_judge.specs.declared.fault.JudgeFault.{JudgeFault}
-use Rattle.wave_judge.specs.declared.fault.JudgeFault.TheVariants as judge
+use Rattle.psl_tree.specs.declared.limit.UnitFault.{UnitFault}
+use Rattle.psl_tree.specs.declared.limit.UnitFault.TheVariants as units
 
 -- the bytes of a text
 
@@ -65,10 +69,27 @@ layer_diagnostic layer.NoMemory = whole reasons.NoMemory
 abbrev pub directive_place : List Directive → ℕ → Option Place
 directive_place directives number = option_map (λ (directive : Directive). directive.place) (find (λ (directive : Directive). directive.number == number) directives)
 
-abbrev pub judge_diagnostic : List Directive → JudgeFault → Diagnostic
-judge_diagnostic directives (judge.Sere number) = record { reason = reasons.SereTooLarge; place = directive_place directives number }
-judge_diagnostic directives (judge.Automaton number) = record { reason = reasons.AutomatonTooLarge; place = directive_place directives number }
-judge_diagnostic directives judge.NoMemory = whole reasons.NoMemory
+-- what is said at the word of the directive of a number
+abbrev pub at_directive : Reason → List Directive → ℕ → Diagnostic
+at_directive reason directives number = record { reason = reason; place = directive_place directives number }
+
+-- what a limit is called that is passed
+abbrev pub limit_reason : Limit → Reason
+limit_reason limits.Sere = reasons.SereTooLarge
+limit_reason limits.Automaton = reasons.AutomatonTooLarge
+limit_reason limits.Unroll = reasons.UnrollTooLarge
+limit_reason limits.Formula = reasons.FormulaTooLarge
+
+abbrev pub judge_diagnostic : List Directive → UnitFault → Diagnostic
+judge_diagnostic directives (units.TooLarge number limit) = at_directive (limit_reason limit) directives number
+judge_diagnostic directives units.NoMemory = whole reasons.NoMemory
+
+-- what is told of the directive of a number that passes a limit: at its place in the text, or of the netlist
+abbrev pub limit_fault : List ℕ → List ℕ → List Directive → ℕ → Limit → Fault
+limit_fault unit netlist directives number limits.Sere = fault_in unit (at_directive reasons.SereTooLarge directives number)
+limit_fault unit netlist directives number limits.Automaton = fault_in unit (at_directive reasons.AutomatonTooLarge directives number)
+limit_fault unit netlist directives number limits.Unroll = of_file reasons.UnrollTooLarge netlist
+limit_fault unit netlist directives number limits.Formula = of_file reasons.FormulaTooLarge netlist
 
 -- recordings
 

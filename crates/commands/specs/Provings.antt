@@ -6,30 +6,21 @@ use Rattle.findings.specs.Columns.{AreColumns}
 use Rattle.findings.specs.Entries.{AreFindings}
 use Rattle.findings.specs.Recordings.{Form}
 use Rattle.findings.specs.Sizes.{AreWithin, IsFirstRefused}
-use Rattle.findings.specs.declared.sizes.SizeFault.{SizeFault}
-use Rattle.findings.specs.declared.sizes.SizeFault.TheVariants as sizes
 use Rattle.netlist.specs.Design.{Design}
+use Rattle.psl_tree.specs.declared.limit.Limit.{Limit}
 use Rattle.prover.specs.declared.options.Options.{Options}
 use Rattle.psl_base.specs.Shelf.{Contents}
 use Rattle.psl_tree.specs.declared.directive.Directive.{Directive}
-use Rattle.commands.specs.Faults.{at, fault_in, of_none, whole}
+use Rattle.commands.specs.Diagnostics.{limit_fault}
 use Rattle.commands.specs.Stages.{Then}
 use Rattle.commands.specs.Waves.{SubjectStage}
 use Rattle.commands.specs.declared.outcome.Fault.{Fault}
 use Rattle.commands.specs.declared.prove.Found.{Found}
-use Rattle.commands.specs.declared.reason.Reason.TheVariants as reasons
 use Rattle.commands.specs.declared.subject.Subject.{Subject}
 
 -- how far the words ask for a proof
 abbrev pub options_of : Limits → Options
 options_of limits = record { depth = limits.depth; visits = limits.visits; steps = limits.steps; reach = limits.reach }
-
--- what is told of a directive that is too large: at its place in the text, or of the netlist
-abbrev pub size_fault : List ℕ → List ℕ → SizeFault → Fault
-size_fault unit netlist (sizes.SereTooLarge place) = fault_in unit (at reasons.SereTooLarge place)
-size_fault unit netlist (sizes.AutomatonTooLarge place) = fault_in unit (at reasons.AutomatonTooLarge place)
-size_fault unit netlist sizes.UnrollTooLarge = fault_in netlist (whole reasons.UnrollTooLarge)
-size_fault unit netlist sizes.NoMemory = of_none reasons.NoMemory
 
 -- which recordings are wanted
 abbrev pub recordings_in : Wanted → Option Form
@@ -45,8 +36,8 @@ abbrev pub FoundReading : List ℕ → List ℕ → Limits → Wanted → Subjec
 FoundReading unit netlist limits wanted subject (Ok found) =
     AreWithin subject.netlist limits.depth limits.covers subject.directives × IsFound subject.netlist limits wanted subject.directives found
 FoundReading unit netlist limits wanted subject (Err fault) =
-    (cause : SizeFault) × IsFirstRefused subject.netlist limits.depth limits.covers subject.directives cause
-    × (fault ≡ size_fault unit netlist cause)
+    (number : ℕ) × (limit : Limit) × IsFirstRefused subject.netlist limits.depth limits.covers subject.directives number limit
+    × (fault ≡ limit_fault unit netlist subject.directives number limit)
 
 -- `prove UNIT NETLIST`
 abbrev pub ProveStage : List ℕ → List ℕ → Limits → Wanted → Contents → Result Found Fault → Type 0

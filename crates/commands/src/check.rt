@@ -1,23 +1,20 @@
-ghost use Rattle.std.specs.Prelude.{◌≡◌, ◌≢◌, ◌⊎◌, ◌≤◌, ◌∷◌, [], length, All};
+ghost use Rattle.std.specs.Prelude.{◌≡◌, ◌≤◌, ◌∷◌, [], length};
 ghost use Rattle.std.specs.Option.{option_copied};
+ghost use Rattle.psl_tree.specs.Directives.{AreOver};
 ghost use Rattle.commands.specs.Checks as spec;
 ghost use Rattle.commands.specs.Checks.{CertReading, CertStage, CheckStage};
-ghost use Rattle.commands.specs.Faults.{of_none};
 ghost use Rattle.commands.specs.Stages.{IsStage, IsReading};
 ghost use Rattle.psl_base.specs.Places.{file_limit};
-ghost use Rattle.psl_tree.specs.Atoms.{AtomsOfFormula};
-ghost use Rattle.psl_tree.specs.Names.{AtomInRange};
-ghost use Rattle.psl_tree.specs.Trees.{formula_of};
 ghost use Rattle.cert_check.specs.Claims.{directive_of};
 
-use crate::faults::{at_directive, fault_in, of_none, whole};
+use crate::faults::{limit_fault, of_none};
 use crate::inputs::load;
 use crate::outcome::{CheckedCert, Fault};
 use crate::reason::Reason;
 use crate::subject::{Subject, load_subject};
-use cert_check::{CertFault, check_cert};
+use cert_check::check_cert;
 use psl_base::Shelf;
-use psl_tree::{Directive, Kind, Unit};
+use psl_tree::{Directive, Kind, LimitFault, Unit};
 use std::alloc::Global;
 
 /// What the words of `check` ask for: the names of the files, and the number of the directive.
@@ -51,7 +48,7 @@ fn check_file<F: Shelf>(
     subject: &Subject,
     question: Question<'_>,
 ) -> Result<CheckedCert, Fault>
-    requires { All (λ directive. AtomsOfFormula (AtomInRange subject.now.netlist.names) (formula_of directive.formula)) subject.now.directives }
+    requires { AreOver subject.now.netlist.names subject.now.directives }
     ensures { IsStage (question.entry.unit.now ∷ question.entry.netlist.now ∷ question.entry.certificate.now ∷ [])
         (CertStage question.entry.unit.now question.entry.netlist.now question.entry.number question.entry.certificate.now subject.now)
         (F.state files.old) (F.state files.new) result }
@@ -67,7 +64,7 @@ fn check_text(
     subject: &Subject,
     question: Question<'_>,
 ) -> Result<CheckedCert, Fault>
-    requires in_range { All (λ directive. AtomsOfFormula (AtomInRange subject.now.netlist.names) (formula_of directive.formula)) subject.now.directives }
+    requires in_range { AreOver subject.now.netlist.names subject.now.directives }
     requires few { length text.now ≤ file_limit }
     ensures { IsReading (question.entry.unit.now ∷ question.entry.netlist.now ∷ [])
         (CertReading question.entry.unit.now question.entry.netlist.now question.entry.number subject.now text.now) result }
@@ -78,7 +75,15 @@ fn check_text(
             kind: answered_kind(directives, question.number),
             answer,
         }),
-        Err(fault) => Err(cert_fault(alloc, question, directives, fault)),
+        Err(LimitFault::TooLarge(limit)) => Err(limit_fault(
+            alloc,
+            question.unit,
+            question.netlist,
+            directives,
+            question.number,
+            limit,
+        )),
+        Err(LimitFault::NoMemory) => Err(of_none(Reason::NoMemory)),
     }
 }
 
@@ -109,38 +114,5 @@ fn answered_as(kind: Kind) -> Kind
     match kind {
         Kind::Assert | Kind::Assume => Kind::Assert,
         Kind::Cover => Kind::Cover,
-    }
-}
-
-/// The fault of a certificate that is not checked: at the place of the directive in the text, or of the netlist. It may be
-/// want of memory.
-fn cert_fault(alloc: Global, question: Question<'_>, directives: &Unit, fault: CertFault) -> Fault
-    ensures { (result ≡ of_none Reason.NoMemory) ⊎ ((fault ≢ CertFault.NoMemory)
-        × (result ≡ spec.cert_fault question.entry.unit.now question.entry.netlist.now directives.now question.entry.number fault)) }
-{
-    let Question {
-        unit,
-        netlist,
-        number,
-        ..
-    } = question;
-    match fault {
-        CertFault::SereTooLarge => {
-            fault_in(
-                alloc,
-                unit,
-                at_directive(Reason::SereTooLarge, directives, number),
-            )
-        }
-        CertFault::AutomatonTooLarge => {
-            fault_in(
-                alloc,
-                unit,
-                at_directive(Reason::AutomatonTooLarge, directives, number),
-            )
-        }
-        CertFault::UnrollTooLarge => fault_in(alloc, netlist, whole(Reason::UnrollTooLarge)),
-        CertFault::FormulaTooLarge => fault_in(alloc, netlist, whole(Reason::FormulaTooLarge)),
-        CertFault::NoMemory => of_none(Reason::NoMemory),
     }
 }

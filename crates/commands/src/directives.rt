@@ -1,8 +1,6 @@
-ghost use Rattle.std.specs.Prelude.{◌≤◌, ◌∷◌, [], All, IfOk};
-ghost use Rattle.psl_tree.specs.Atoms.{AtomsOfFormula};
-ghost use Rattle.psl_tree.specs.Counts.{formula_size};
-ghost use Rattle.psl_tree.specs.Names.{AtomInRange, AreAlike};
-ghost use Rattle.psl_tree.specs.Trees.{formula_of};
+ghost use Rattle.std.specs.Prelude.{◌∷◌, [], IfOk};
+ghost use Rattle.psl_tree.specs.Directives.{AreOver, AreSmall};
+ghost use Rattle.psl_tree.specs.Names.{AreAlike};
 ghost use Rattle.commands.specs.Stages.{IsReading};
 ghost use Rattle.commands.specs.Waves.{DirectivesReading};
 
@@ -17,8 +15,8 @@ use std::alloc::Global;
 pub fn directives(alloc: Global, tree: &UnitTree, names: &Names, unit: &str) -> Result<Unit, Fault>
     requires { AreAlike names.now }
     ensures reading { IsReading (unit.now ∷ []) (DirectivesReading unit.now tree.now names.now) result }
-    ensures in_range { IfOk result (λ directives. All (λ directive. AtomsOfFormula (AtomInRange names.now) (formula_of directive.formula)) directives) }
-    ensures small { IfOk result (λ directives. All (λ directive. formula_size (formula_of directive.formula) ≤ 4096) directives) }
+    ensures in_range { IfOk result (λ directives. AreOver names.now directives) }
+    ensures small { IfOk result (λ directives. AreSmall directives) }
 {
     match resolve(alloc, tree, names) {
         Ok(directives) => Ok(directives),

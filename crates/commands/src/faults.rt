@@ -1,23 +1,19 @@
 // What the faults of texts, recordings, netlists and directives are called in a run, and where they stand.
 ghost use Rattle.std.specs.Prelude.{◌≡◌, ◌≢◌, ◌⊎◌, ◌≤◌, length};
 ghost use Rattle.psl_base.specs.Places.{file_limit};
-ghost use Rattle.commands.specs.Checks as checks;
 ghost use Rattle.commands.specs.Diagnostics as spec;
 ghost use Rattle.commands.specs.Faults.{at, whole, fault_in, missing_in, of_none};
-ghost use Rattle.commands.specs.Provings as provings;
 
 use crate::outcome::Fault;
 use crate::reason::{Diagnostic, Reason};
 use blif_reader::BlifFault;
-use findings::SizeFault;
 use psl_base::{NoMemory, Place, Text, place_of};
 use psl_layer_theory::LayerFault;
 use psl_lexer::{LexFault, Tokens};
 use psl_parser::ParseFault;
-use psl_tree::Unit;
+use psl_tree::{Limit, Unit, UnitFault};
 use std::alloc::Global;
 use vcd_reader::VcdFault;
-use wave_judge::JudgeFault;
 
 /// A fault of no file.
 pub fn of_none(reason: Reason) -> Fault
@@ -154,8 +150,8 @@ pub fn layer_diagnostic(fault: LayerFault) -> Diagnostic
 }
 
 /// What is said at the word of the first directive with a number.
-pub fn at_directive(reason: Reason, directives: &Unit, number: u32) -> Diagnostic
-    ensures { result ≡ checks.at_directive reason directives.now number }
+fn at_directive(reason: Reason, directives: &Unit, number: u32) -> Diagnostic
+    ensures { result ≡ spec.at_directive reason directives.now number }
 {
     Diagnostic {
         reason,
@@ -163,18 +159,25 @@ pub fn at_directive(reason: Reason, directives: &Unit, number: u32) -> Diagnosti
     }
 }
 
+/// What a limit is called that is passed.
+fn limit_reason(limit: Limit) -> Reason
+    ensures { result ≡ spec.limit_reason limit }
+{
+    match limit {
+        Limit::Sere => Reason::SereTooLarge,
+        Limit::Automaton => Reason::AutomatonTooLarge,
+        Limit::Unroll => Reason::UnrollTooLarge,
+        Limit::Formula => Reason::FormulaTooLarge,
+    }
+}
+
 /// What is said of a fault of directives: it stands at the word of the directive.
-pub fn judge_diagnostic(directives: &Unit, fault: JudgeFault) -> Diagnostic
+pub fn judge_diagnostic(directives: &Unit, fault: UnitFault) -> Diagnostic
     ensures { result ≡ spec.judge_diagnostic directives.now fault }
 {
     match fault {
-        JudgeFault::Sere(number) => at_directive(Reason::SereTooLarge, directives, number),
-        JudgeFault::Automaton(number) => at_directive(
-            Reason::AutomatonTooLarge,
-            directives,
-            number,
-        ),
-        JudgeFault::NoMemory => whole(Reason::NoMemory),
+        UnitFault::TooLarge(number, limit) => at_directive(limit_reason(limit), directives, number),
+        UnitFault::NoMemory => whole(Reason::NoMemory),
     }
 }
 
@@ -249,16 +252,24 @@ pub fn blif_diagnostic(fault: BlifFault) -> Diagnostic
     }
 }
 
-/// The fault of an assertion that is too large: at its place in the text, or of the netlist. It may be want of memory.
-pub fn size_fault(alloc: Global, unit: &str, netlist: &str, fault: SizeFault) -> Fault
-    ensures { (result ≡ of_none Reason.NoMemory) ⊎ (result ≡ provings.size_fault unit.now netlist.now fault) }
+/// The fault of the directive of a number that passes a limit: at its place in the text, or of the netlist. It may be want
+/// of memory.
+pub fn limit_fault(
+    alloc: Global,
+    unit: &str,
+    netlist: &str,
+    directives: &Unit,
+    number: u32,
+    limit: Limit,
+) -> Fault
+    ensures { (result ≡ of_none Reason.NoMemory)
+        ⊎ (result ≡ spec.limit_fault unit.now netlist.now directives.now number limit) }
 {
-    match fault {
-        SizeFault::SereTooLarge(place) => fault_in(alloc, unit, at(Reason::SereTooLarge, place)),
-        SizeFault::AutomatonTooLarge(place) => {
-            fault_in(alloc, unit, at(Reason::AutomatonTooLarge, place))
+    match limit {
+        Limit::Sere | Limit::Automaton => {
+            let diagnostic = at_directive(limit_reason(limit), directives, number);
+            fault_in(alloc, unit, diagnostic)
         }
-        SizeFault::UnrollTooLarge => fault_in(alloc, netlist, whole(Reason::UnrollTooLarge)),
-        SizeFault::NoMemory => of_none(Reason::NoMemory),
+        Limit::Unroll | Limit::Formula => fault_in(alloc, netlist, whole(limit_reason(limit))),
     }
 }

@@ -9,11 +9,11 @@ ghost use Rattle.vcd_reader.specs.Rules.{sample_limit};
 use crate::outcome::{Fault, Outcome};
 use psl_base::{Bytes, NoMemory, Place};
 use psl_sugar::{MeasuredBool, MeasuredFl, Strength, SugarFault};
-use psl_tree::{Atom, Directive, Edge, Kind, Unit};
+use psl_tree::{Atom, Directive, Edge, Kind, Unit, UnitFault};
 use std::alloc::Global;
 use vcd_reader::{Recording, Unknown, read_faultless};
 use vcd_writer::{make_recording, short_law};
-use wave_judge::{JudgeFault, Verdicts, judge};
+use wave_judge::{Verdicts, judge};
 
 /// Makes a recording from a seed and judges `assert always (req -> next! ack);` on it: `gen SEED SAMPLES`.
 pub fn generate(alloc: Global, seed: u32, samples: u32) -> Result<Outcome, Fault>
@@ -37,10 +37,9 @@ fn judge_made(alloc: Global, seed: u32, samples: u32) -> Result<(u64, Verdicts),
     let directives = answered_unit(alloc)?;
     match judge(alloc, &directives, &recording) {
         Ok(verdicts) => Ok((bytes, verdicts)),
-        Err(JudgeFault::NoMemory) => Err(NoMemory),
+        Err(UnitFault::NoMemory) => Err(NoMemory),
         // The one formula has no sequence, and few obligations.
-        Err(JudgeFault::Sere(_)) => unreachable!(),
-        Err(JudgeFault::Automaton(_)) => unreachable!(),
+        Err(UnitFault::TooLarge(_, _)) => unreachable!(),
     }
 }
 

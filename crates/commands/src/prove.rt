@@ -1,4 +1,5 @@
-ghost use Rattle.std.specs.Prelude.{◌≡◌, ◌≤◌, ◌∷◌, [], true, All, IfOk, IfErr, OnErr};
+ghost use Rattle.std.specs.Prelude.{◌≡◌, ◌≤◌, ◌∷◌, [], true, IfOk, IfErr, OnErr};
+ghost use Rattle.psl_tree.specs.Directives.{AreOver, AreSmall};
 ghost use Rattle.command_line.specs.Evidences.{evidence_of};
 ghost use Rattle.command_line.specs.Ranges.{AreInRange};
 ghost use Rattle.commands.specs.Progress.{progress_line, LosesProgress, MayHaveProgress};
@@ -11,12 +12,8 @@ ghost use Rattle.findings.specs.Sizes.{AreWithin};
 ghost use Rattle.findings.specs.Telling.{HaveTold, HaveToldPart, IsProveFault};
 ghost use Rattle.findings.specs.Traceable.{AreTraceable, HasTraces};
 ghost use Rattle.psl_base.specs.Shelf.{OnlyReads};
-ghost use Rattle.psl_tree.specs.Atoms.{AtomsOfFormula};
-ghost use Rattle.psl_tree.specs.Counts.{formula_size};
-ghost use Rattle.psl_tree.specs.Names.{AtomInRange};
-ghost use Rattle.psl_tree.specs.Trees.{formula_of};
 
-use crate::faults::{of_none, size_fault};
+use crate::faults::{limit_fault, of_none};
 use crate::outcome::Fault;
 use crate::progress::Progress;
 use crate::reason::Reason;
@@ -26,7 +23,7 @@ use findings::{Findings, Recordings, check_all, columns, prove_all};
 use netlist::{Netlist, soundness_law};
 use prover::{Options, ProveFault};
 use psl_base::{Failed, Shelf, Sink};
-use psl_tree::{Names, Unit};
+use psl_tree::{Names, Unit, UnitFault};
 use std::alloc::Global;
 
 /// What the words of `prove` ask for: the names of the files, how far a proof is sought, and which files are to be left.
@@ -79,9 +76,9 @@ fn prove_subject<E: Sink>(
     request: Request<'_>,
 ) -> Result<Result<Found, Fault>, Failed>
     requires range { AreInRange request.limits }
-    requires in_range { All (λ directive. AtomsOfFormula (AtomInRange subject.now.netlist.names) (formula_of directive.formula)) subject.now.directives }
+    requires in_range { AreOver subject.now.netlist.names subject.now.directives }
     requires numbered { AreNumbered subject.now.directives }
-    requires small { All (λ directive. formula_size (formula_of directive.formula) ≤ 4096) subject.now.directives }
+    requires small { AreSmall subject.now.directives }
     requires traces { HasTraces subject.now.netlist }
     requires loops { request.evidence.loops ≤ 16 }
     ensures reading { IfOk result (IsReading (request.entry.unit.now ∷ request.entry.netlist.now ∷ [])
@@ -100,7 +97,15 @@ fn prove_subject<E: Sink>(
             Err(ProveFault::NoMemory) => Ok(Err(of_none(Reason::NoMemory))),
             Err(ProveFault::Unwritten) => Err(Failed),
         },
-        Err(fault) => Ok(Err(size_fault(alloc, request.unit, request.netlist, fault))),
+        Err(UnitFault::TooLarge(number, limit)) => Ok(Err(limit_fault(
+            alloc,
+            request.unit,
+            request.netlist,
+            directives,
+            number,
+            limit,
+        ))),
+        Err(UnitFault::NoMemory) => Ok(Err(of_none(Reason::NoMemory))),
     }
 }
 
@@ -114,7 +119,7 @@ fn find<E: Sink>(
 ) -> Result<Found, ProveFault>
     requires range { AreInRange request.limits }
     requires within { AreWithin netlist.now request.limits.depth request.limits.covers directives.now }
-    requires in_range { All (λ directive. AtomsOfFormula (AtomInRange netlist.now.names) (formula_of directive.formula)) directives.now }
+    requires in_range { AreOver netlist.now.names directives.now }
     requires numbered { AreNumbered directives.now }
     requires traceable { AreTraceable netlist.now directives.now (recordings_in (evidence_of request.evidence)) }
     ensures found { IfOk result (IsFound netlist.now request.entry.limits (evidence_of request.entry.evidence) directives.now) }

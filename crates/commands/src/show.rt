@@ -1,8 +1,8 @@
-ghost use Rattle.std.specs.Prelude.{◌≡◌, ◌∷◌, [], All, map, None, IfOk};
+ghost use Rattle.std.specs.Prelude.{◌≡◌, ◌∷◌, [], map, None, IfOk};
+ghost use Rattle.psl_tree.specs.Directives.{AreOver, IsOver};
 ghost use Rattle.psl_tree.specs.Plain.{plain};
-ghost use Rattle.psl_tree.specs.Atoms.{AtomsOfFormula};
 ghost use Rattle.psl_tree.specs.Counts.{obligations_of, shown};
-ghost use Rattle.psl_tree.specs.Names.{AtomInRange, AreAlike};
+ghost use Rattle.psl_tree.specs.Names.{AreAlike};
 ghost use Rattle.psl_tree.specs.Trees.{formula_of};
 ghost use Rattle.commands.specs.Stages.{IsStage, IsReading};
 ghost use Rattle.commands.specs.Waves.{LinesReading, ShowStage, ShowNetlistStage, line_of};
@@ -50,7 +50,7 @@ fn lines(alloc: Global, tree: &UnitTree, names: &Names, unit: &str) -> Result<Li
 
 /// A line for each directive.
 fn lines_of(alloc: Global, directives: &[Directive], names: &Names) -> Result<Lines, NoMemory>
-    requires { All (λ directive. AtomsOfFormula (AtomInRange names.now) (formula_of directive.formula)) directives.now }
+    requires { AreOver names.now directives.now }
     ensures { IfOk result (λ lines. lines ≡ map (line_of names.now) directives.now) }
 {
     let mut lines = Lines::new(alloc);
@@ -62,7 +62,7 @@ fn lines_of(alloc: Global, directives: &[Directive], names: &Names) -> Result<Li
 
 /// The line of a directive.
 fn line_of(alloc: Global, directive: &Directive, names: &Names) -> Result<Line, NoMemory>
-    requires { AtomsOfFormula (AtomInRange names.now) (formula_of directive.now.formula) }
+    requires { IsOver names.now directive.now }
     ensures { IfOk result (λ line. line ≡ line_of names.now directive.now) }
 {
     Ok(Line {

@@ -1,10 +1,7 @@
-ghost use Rattle.std.specs.Prelude.{◌≤◌, ◌∷◌, [], All, IfOk};
+ghost use Rattle.std.specs.Prelude.{◌∷◌, [], IfOk};
+ghost use Rattle.psl_tree.specs.Directives.{AreOver, AreSmall};
 ghost use Rattle.findings.specs.Asked.{AreNumbered};
 ghost use Rattle.findings.specs.Traceable.{HasTraces};
-ghost use Rattle.psl_tree.specs.Atoms.{AtomsOfFormula};
-ghost use Rattle.psl_tree.specs.Counts.{formula_size};
-ghost use Rattle.psl_tree.specs.Names.{AtomInRange};
-ghost use Rattle.psl_tree.specs.Trees.{formula_of};
 ghost use Rattle.commands.specs.Stages.{IsStage, IsReading};
 ghost use Rattle.commands.specs.Waves.{SubjectReading, SubjectStage};
 
@@ -31,9 +28,9 @@ pub fn load_subject<F: Shelf>(
     netlist: &str,
 ) -> Result<Subject, Fault>
     ensures stage { IsStage (unit.now ∷ netlist.now ∷ []) (SubjectStage unit.now netlist.now) (F.state files.old) (F.state files.new) result }
-    ensures in_range { IfOk result (λ subject. All (λ directive. AtomsOfFormula (AtomInRange subject.netlist.names) (formula_of directive.formula)) subject.directives) }
+    ensures in_range { IfOk result (λ subject. AreOver subject.netlist.names subject.directives) }
     ensures numbered { IfOk result (λ subject. AreNumbered subject.directives) }
-    ensures small { IfOk result (λ subject. All (λ directive. formula_size (formula_of directive.formula) ≤ 4096) subject.directives) }
+    ensures small { IfOk result (λ subject. AreSmall subject.directives) }
     ensures traces { IfOk result (λ subject. HasTraces subject.netlist) }
 {
     let circuit = load_circuit(alloc, files, unit, netlist)?;
@@ -44,9 +41,9 @@ pub fn load_subject<F: Shelf>(
 fn subject_of(alloc: Global, circuit: Circuit, unit: &str) -> Result<Subject, Fault>
     requires traces { HasTraces circuit.netlist }
     ensures reading { IsReading (unit.now ∷ []) (SubjectReading unit.now circuit) result }
-    ensures in_range { IfOk result (λ subject. All (λ directive. AtomsOfFormula (AtomInRange subject.netlist.names) (formula_of directive.formula)) subject.directives) }
+    ensures in_range { IfOk result (λ subject. AreOver subject.netlist.names subject.directives) }
     ensures numbered { IfOk result (λ subject. AreNumbered subject.directives) }
-    ensures small { IfOk result (λ subject. All (λ directive. formula_size (formula_of directive.formula) ≤ 4096) subject.directives) }
+    ensures small { IfOk result (λ subject. AreSmall subject.directives) }
     ensures traces { IfOk result (λ subject. HasTraces subject.netlist) }
 {
     let Circuit { tree, netlist } = circuit;

@@ -1,8 +1,5 @@
-ghost use Rattle.std.specs.Prelude.{◌≡◌, ◌⊎◌, ◌<◌, ◌≤◌, ◌∷◌, [], length, All, IfOk, IfSome, is_some};
-ghost use Rattle.psl_tree.specs.Atoms.{AtomsOfFormula};
-ghost use Rattle.psl_tree.specs.Counts.{formula_size};
-ghost use Rattle.psl_tree.specs.Names.{AtomInRange};
-ghost use Rattle.psl_tree.specs.Trees.{formula_of};
+ghost use Rattle.std.specs.Prelude.{◌≡◌, ◌⊎◌, ◌<◌, ◌∷◌, [], length, IfOk, IfSome, is_some};
+ghost use Rattle.psl_tree.specs.Directives.{AreOver, AreSmall};
 ghost use Rattle.commands.specs.Faults.{of_none};
 ghost use Rattle.commands.specs.Stages.{IsStage, IsReading};
 ghost use Rattle.commands.specs.Settled.{AreSettled};
@@ -84,8 +81,8 @@ fn verdicts(
     name: &str,
     unknown: Unknown,
 ) -> Result<Verdicts, Fault>
-    requires in_range { All (λ directive. AtomsOfFormula (AtomInRange recording.now.names) (formula_of directive.formula)) directives.now }
-    requires small { All (λ directive. formula_size (formula_of directive.formula) ≤ 4096) directives.now }
+    requires in_range { AreOver recording.now.names directives.now }
+    requires small { AreSmall directives.now }
     ensures reading { IsReading (unit.now ∷ name.now ∷ []) (KnownReading unknown unit.now name.now recording.now directives.now) result }
     ensures judged { IfOk result (AreJudged recording.now directives.now) }
 {
@@ -103,8 +100,8 @@ fn settled(
     verdicts: &Verdicts,
     points: bool,
 ) -> Result<Option<Settlements>, NoMemory>
-    requires in_range { All (λ directive. AtomsOfFormula (AtomInRange recording.now.names) (formula_of directive.formula)) directives.now }
-    requires small { All (λ directive. formula_size (formula_of directive.formula) ≤ 4096) directives.now }
+    requires in_range { AreOver recording.now.names directives.now }
+    requires small { AreSmall directives.now }
     requires judged { AreJudged recording.now directives.now verdicts.now }
     ensures settled { IfOk result (AreSettled points recording.now directives.now verdicts.now) }
     ensures asked { IfOk result (λ settled. is_some settled ≡ points) }
@@ -119,7 +116,7 @@ fn settled(
 
 /// The first sample that is refused, counted from 0.
 fn first_refused(directives: &Unit, recording: &Recording, unknown: Unknown) -> Option<u32>
-    requires { All (λ directive. AtomsOfFormula (AtomInRange recording.now.names) (formula_of directive.formula)) directives.now }
+    requires { AreOver recording.now.names directives.now }
     ensures first { IsFirstRefused unknown recording.now directives.now result }
     ensures within { IfSome result (λ sample. sample < length recording.now.samples) }
 {
@@ -145,8 +142,8 @@ pub(crate) fn judged(
     recording: &Recording,
     unit: &str,
 ) -> Result<Verdicts, Fault>
-    requires in_range { All (λ directive. AtomsOfFormula (AtomInRange recording.now.names) (formula_of directive.formula)) directives.now }
-    requires small { All (λ directive. formula_size (formula_of directive.formula) ≤ 4096) directives.now }
+    requires in_range { AreOver recording.now.names directives.now }
+    requires small { AreSmall directives.now }
     ensures { IsReading (unit.now ∷ []) (JudgeReading unit.now recording.now directives.now) result }
 {
     match judge(alloc, directives, recording) {

@@ -5,9 +5,11 @@ use Rattle.std.proofs.lemmas.Nat.{mul-le}
 use Rattle.std.proofs.lemmas.Option.{same_Some}
 use Rattle.cdcl.specs.Evidence as solver
 use Rattle.cert_check.specs.Claims.{asked_of, directive_of, has_claim, queries_by, queries_of}
-use Rattle.cert_check.specs.Limits.{ClausesIn, HasCause, IsFault, IsFaultBehind}
-use Rattle.cert_check.specs.declared.fault.CertFault.{CertFault}
-use Rattle.cert_check.specs.declared.fault.CertFault.TheVariants.{SereTooLarge, AutomatonTooLarge, UnrollTooLarge, FormulaTooLarge, NoMemory}
+use Rattle.cert_check.specs.Limits.{ClausesIn, IsFault, IsLimitBehind, PassesLimit}
+use Rattle.psl_tree.specs.declared.limit.LimitFault.{LimitFault}
+use Rattle.psl_tree.specs.declared.limit.LimitFault.TheVariants.{TooLarge, NoMemory}
+use Rattle.psl_tree.specs.declared.limit.Limit.{Limit}
+use Rattle.psl_tree.specs.declared.limit.Limit.TheVariants.{Sere, Automaton as OfAutomaton, Unroll, Formula as OfFormula}
 use Rattle.cert_theory.proofs.HeaderLines.{header_once}
 use Rattle.cert_theory.proofs.OneAnswer.{one_answer}
 use Rattle.cert_theory.specs.Headers.{HasHeader, MayBe}
@@ -89,40 +91,30 @@ module _ (design : Design) (unit : List Directive) (d : Directive) (options : Op
 
   -- what it says of itself passes no limit
   within-limits : IsSized design options.depth (plain_owed unit d) → (version : Version) (certificate : Certificate) → IsProved design unit d options certificate
-      → (behind : List (List ℤ) → Type 0) (fault : CertFault) → IsFaultBehind design unit d (header_of version certificate) behind fault → fault ≡ NoMemory
-  within-limits sized version certificate proved behind SereTooLarge cause = absurd (sized.sequences cause)
-  within-limits sized version certificate proved behind AutomatonTooLarge cause =
-      absurd (let few = sized.obligations in let many = cause.1 in omega (arith, few, many))
-  within-limits sized version certificate proved behind UnrollTooLarge cause =
+      → (behind : List (List ℤ) → Type 0) (limit : Limit) → IsLimitBehind design unit d (header_of version certificate) behind limit → ⊥
+  within-limits sized version certificate proved behind Sere cause = sized.sequences cause
+  within-limits sized version certificate proved behind OfAutomaton cause =
+      let few = sized.obligations in let many = cause.1 in omega (arith, few, many)
+  within-limits sized version certificate proved behind Unroll cause =
       let bulk = bulk_of design (plain_owed unit d) in
       let few : suc options.depth * suc options.depth * bulk ≤ MOST_WORK = sized.unrolled in
       let many : MOST_WORK < suc certificate.window * suc certificate.window * bulk = cause.2 in
-      absurd (omega (arith, few, many, less-work certificate.window options.depth bulk proved.within))
-  within-limits sized version certificate proved behind FormulaTooLarge cause = elim cause.1 as (λ _. FormulaTooLarge ≡ NoMemory) [
-    | inl large ↦ absurd (proved.base.fits large)
-    | inr large ↦ absurd (proved.induction.fits large)
+      omega (arith, few, many, less-work certificate.window options.depth bulk proved.within)
+  within-limits sized version certificate proved behind OfFormula cause = elim cause.1 as (λ _. ⊥) [
+    | inl large ↦ proved.base.fits large
+    | inr large ↦ proved.induction.fits large
   ]
-  within-limits sized version certificate proved behind NoMemory cause = refl
 
   -- a limit that is passed is passed by its own header
-  by-header : (there : directive_of unit d.number ≡ Some d) (text : List ℕ) (says : Header) → HasHeader (asked_of unit d.number) text says
-      → ((fault : CertFault) → IsFaultBehind design unit d says (ClausesIn design unit d.number text says) fault → fault ≡ NoMemory)
-      → (fault : CertFault) → HasCause design unit d.number text fault → fault ≡ NoMemory
-  by-header there text says has none fault cause =
+  pub no-limit : directive_of unit d.number ≡ Some d → (text : List ℕ) (says : Header) → HasHeader (asked_of unit d.number) text says
+      → ((limit : Limit) → IsLimitBehind design unit d says (ClausesIn design unit d.number text says) limit → ⊥)
+      → (limit : Limit) → PassesLimit design unit d.number text limit → ⊥
+  no-limit there text says has none limit cause =
       let header : cause.header ≡ says = header_once (asked_of unit d.number) text cause.header says cause.has has in
       let directive : cause.directive ≡ d = same_Some cause.directive d (sym cause.is ∙ there) in
-      none fault
-      (subst (λ (e : Directive). IsFaultBehind design unit e says (ClausesIn design unit d.number text says) fault) directive
-      (subst (λ (h : Header). IsFaultBehind design unit cause.directive h (ClausesIn design unit d.number text h) fault) header cause.fault_is))
-
-  pub no-fault : directive_of unit d.number ≡ Some d → (text : List ℕ) (says : Header) → HasHeader (asked_of unit d.number) text says
-      → ((fault : CertFault) → IsFaultBehind design unit d says (ClausesIn design unit d.number text says) fault → fault ≡ NoMemory)
-      → (fault : CertFault) → IsFault design unit d.number text fault → fault ≡ NoMemory
-  no-fault there text says has none SereTooLarge cause = by-header there text says has none SereTooLarge cause
-  no-fault there text says has none AutomatonTooLarge cause = by-header there text says has none AutomatonTooLarge cause
-  no-fault there text says has none UnrollTooLarge cause = by-header there text says has none UnrollTooLarge cause
-  no-fault there text says has none FormulaTooLarge cause = by-header there text says has none FormulaTooLarge cause
-  no-fault there text says has none NoMemory cause = refl
+      none limit
+      (subst (λ (e : Directive). IsLimitBehind design unit e says (ClausesIn design unit d.number text says) limit) directive
+      (subst (λ (h : Header). IsLimitBehind design unit cause.directive h (ClausesIn design unit d.number text h) limit) header cause.limit_is))
 
 -- what is found of a task
 pub passed-for : (task : Task) → IsProvable task → IsAskedOf task.unit.now task.directive.now → task.options.depth ≤ 1000 → task.directive.now.number ≤ 4294967295
@@ -138,17 +130,17 @@ passed-for task provable numbered depth few finding is certificate same = λ ver
     let shows = evidence design unit d task.options numbered few provable.visits depth certificate proved in
     record {
       passed = text_passes (asked_of unit d.number) (queries_of design unit d.number) version certificate shows;
-      checked = no-fault design unit d task.options numbered.is text says (text_header (asked_of unit d.number) (queries_of design unit d.number) version certificate shows)
+      checked = no-limit design unit d task.options numbered.is text says (text_header (asked_of unit d.number) (queries_of design unit d.number) version certificate shows)
           (within-limits design unit d task.options provable.sized version certificate proved (ClausesIn design unit d.number text says));
     }
 
 -- so it is passed by whoever answers as the checker does
 pub result-passed : (design : Design) (unit : List Directive) (number : ℕ) (text : List ℕ) → IsPassedText design unit number text
-    → (result : Result CertAnswer CertFault)
+    → (result : Result CertAnswer LimitFault)
     → IfOk result (IsAnswer (asked_of unit number) (queries_of design unit number) text)
     → IfErr result (IsFault design unit number text)
     → (result ≡ Ok Passed) ⊎ (result ≡ Err NoMemory)
 result-passed design unit number text is (Ok answer) answers fails =
     inl (ap (λ (a : CertAnswer). Ok a) (one_answer (asked_of unit number) (queries_of design unit number) text answer Passed answers is.passed))
-result-passed design unit number text is (Err fault) answers fails =
-    inr (ap (λ (f : CertFault). Err f) (is.checked fault fails))
+result-passed design unit number text is (Err (TooLarge limit)) answers fails = absurd (is.checked limit fails)
+result-passed design unit number text is (Err NoMemory) answers fails = inr refl

@@ -1,10 +1,10 @@
 -- The text of a certificate of clauses that the prover gives is passed, and passes no limit of the checker.
-use Rattle.std.proofs.Common.{◌≡◌, ◌∙◌, refl, sym, ap, subst, ℕ, ℤ, suc, ◌*◌, ◌<◌, ◌≤◌, List, [], ◌++◌, Option, inl, inr, arith, append_assoc}
+use Rattle.std.proofs.Common.{◌≡◌, ◌∙◌, sym, ap, subst, ℕ, ℤ, suc, ◌*◌, ◌<◌, ◌≤◌, List, [], ◌++◌, Option, inl, inr, arith, append_assoc}
 use Rattle.std.specs.Bool.{IsTrue}
 use Rattle.cert_check.specs.Claims.{asked_of, bad_query, initial_query, has_claim, queries_by, queries_of, step_query}
-use Rattle.cert_check.specs.Limits.{AreClausesTooLarge, ClausesIn, IsFaultBehind}
-use Rattle.cert_check.specs.declared.fault.CertFault.{CertFault}
-use Rattle.cert_check.specs.declared.fault.CertFault.TheVariants.{SereTooLarge, AutomatonTooLarge, UnrollTooLarge, FormulaTooLarge, NoMemory}
+use Rattle.cert_check.specs.Limits.{AreClausesTooLarge, ClausesIn, IsLimitBehind}
+use Rattle.psl_tree.specs.declared.limit.Limit.{Limit}
+use Rattle.psl_tree.specs.declared.limit.Limit.TheVariants.{Sere, Automaton as OfAutomaton, Unroll, Formula as OfFormula}
 use Rattle.cert_theory.proofs.ClausesOnce.{one_clauses}
 use Rattle.cert_theory.proofs.HeaderLines.{header_lacks}
 use Rattle.cert_theory.specs.Headers.{MayBe}
@@ -49,7 +49,7 @@ use Rattle.reach_frames.specs.declared.stop.ReachQuery.TheVariants as queries
 use Rattle.owed.specs.Sized.{IsSized, bulk_of}
 use Rattle.findings.specs.Asked.{IsAskedOf}
 use Rattle.findings.specs.Entries.{IsPassedText}
-use Rattle.findings.proofs.Certified.{drops-live, less-work, no-fault}
+use Rattle.findings.proofs.Certified.{drops-live, less-work, no-limit}
 use Rattle.findings.proofs.JointSizes.{few-bits, small-circuit}
 
 -- a log of the search shows it
@@ -163,19 +163,18 @@ module _ (design : Design) (unit : List Directive) (d : Directive) (options : Op
   -- what the text says of itself passes no limit
   within-limits : IsSized design options.depth (plain_owed unit d) → 1 ≤ options.depth → options.visits ≤ 16
       → (behind : List (List ℤ) → Type 0) → ((clauses : List (List ℤ)) → behind clauses → clauses ≡ certificate.clauses)
-      → (fault : CertFault) → IsFaultBehind design unit d (inductive_header certificate) behind fault → fault ≡ NoMemory
-  within-limits sized some visits behind one SereTooLarge cause = absurd (sized.sequences cause)
-  within-limits sized some visits behind one AutomatonTooLarge cause =
-      absurd (let few = sized.obligations in let many = cause.1 in omega (arith, few, many))
-  within-limits sized some visits behind one UnrollTooLarge cause =
+      → (limit : Limit) → IsLimitBehind design unit d (inductive_header certificate) behind limit → ⊥
+  within-limits sized some visits behind one Sere cause = sized.sequences cause
+  within-limits sized some visits behind one OfAutomaton cause =
+      let few = sized.obligations in let many = cause.1 in omega (arith, few, many)
+  within-limits sized some visits behind one Unroll cause =
       let bulk = bulk_of design (plain_owed unit d) in
       let few : suc options.depth * suc options.depth * bulk ≤ MOST_WORK = sized.unrolled in
       let many : MOST_WORK < suc 1 * suc 1 * bulk = cause.2 in
-      absurd (omega (arith, few, many, less-work 1 options.depth bulk some))
-  within-limits sized some visits behind one FormulaTooLarge cause =
-      absurd (none-large visits
-      (subst (AreClausesTooLarge design (violation_of unit d) certificate.visits) (one cause.1.0 cause.1.1) cause.1.2))
-  within-limits sized some visits behind one NoMemory cause = refl
+      omega (arith, few, many, less-work 1 options.depth bulk some)
+  within-limits sized some visits behind one OfFormula cause =
+      none-large visits
+      (subst (AreClausesTooLarge design (violation_of unit d) certificate.visits) (one cause.1.0 cause.1.1) cause.1.2)
 
 -- what is found of a task
 pub passed-reach : (task : Task) → IsProvable task → IsAskedOf task.unit.now task.directive.now → task.directive.now.number ≤ 4294967295
@@ -194,7 +193,7 @@ passed-reach task provable numbered few finding is certificate same =
     let is_evidence = evidence design unit d task.options certificate proved numbered few provable.visits in
     record {
       passed = inductive_passes asks shows certificate is_evidence;
-      checked = no-fault design unit d task.options numbered.is text says (inductive_begins asks shows certificate is_evidence)
+      checked = no-limit design unit d task.options numbered.is text says (inductive_begins asks shows certificate is_evidence)
           (within-limits design unit d task.options certificate proved provable.sized provable.depth provable.visits (ClausesIn design unit d.number text says)
           (λ clauses has. one_clauses asks shows text says says clauses certificate.clauses has (has-clauses asks shows certificate is_evidence)));
     }

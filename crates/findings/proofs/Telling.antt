@@ -1,5 +1,5 @@
 -- What is told of one directive behind what was told of others.
-use Rattle.std.proofs.Common.{◌≡◌, refl, sym, ap, ◌∙◌, subst, ℕ, ◌+◌, ◌<◌, Bool as Truth, true, List, [], ◌∷◌, ◌++◌, length, append-nil, map}
+use Rattle.std.proofs.Common.{◌≡◌, sym, ap, ◌∙◌, subst, ℕ, ◌<◌, Bool as Truth, true, List, [], ◌++◌, length, map}
 use Rattle.std.specs.Prelude.{All, slice_index_or}
 use Rattle.std.specs.List.{flat_map, Contains}
 use Rattle.std.proofs.lemmas.List.Concat.{flat_map-append}

@@ -1,9 +1,7 @@
 -- What is found out of the directives of a text that are asked.
 use Rattle.std.specs.Prelude.{◌≡◌, ℕ, Bool as Truth, List, [], ◌∷◌, Option}
 use Rattle.cert_check.specs.Claims.{asked_of, queries_of}
-use Rattle.cert_check.specs.Limits.{IsFault}
-use Rattle.cert_check.specs.declared.fault.CertFault.{CertFault}
-use Rattle.cert_check.specs.declared.fault.CertFault.TheVariants.{NoMemory}
+use Rattle.cert_check.specs.Limits.{PassesLimit}
 use Rattle.cert_theory.specs.Printed.{cert_text, inductive_text}
 use Rattle.cert_theory.specs.Texts.{IsAnswer}
 use Rattle.cert_theory.specs.declared.answer.CertAnswer.TheVariants.{Passed}
@@ -11,6 +9,7 @@ use Rattle.cert_theory.specs.declared.certificate.Certificate.{Certificate}
 use Rattle.cert_theory.specs.declared.certificate.InductiveCert.{InductiveCert}
 use Rattle.cert_theory.specs.declared.header.Version.{Version}
 use Rattle.netlist.specs.Design.{Design}
+use Rattle.psl_tree.specs.declared.limit.Limit.{Limit}
 use Rattle.prover.specs.Findings.{IsFinding}
 use Rattle.prover.specs.declared.finding.Finding.TheVariants.{Proved, ProvedReach}
 use Rattle.prover.specs.declared.options.Options.{Options}
@@ -23,7 +22,7 @@ use Rattle.findings.specs.declared.entry.FindingEntry.{FindingEntry}
 -- memory is refused.
 pub record IsPassedText (design : Design) (unit : List Directive) (number : ℕ) (text : List ℕ) : Type 0 where
   pub passed : IsAnswer (asked_of unit number) (queries_of design unit number) text Passed
-  pub checked : (fault : CertFault) → IsFault design unit number text fault → fault ≡ NoMemory
+  pub checked : (limit : Limit) → PassesLimit design unit number text limit → ⊥
 
 -- so is that of a certificate, in either version
 abbrev pub IsPassedFor : Design → List Directive → ℕ → Certificate → Type 0

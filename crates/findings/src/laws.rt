@@ -2,7 +2,7 @@
 ghost use Rattle.std.specs.Prelude.{◌≡◌, ◌⊎◌, ℕ, Bool, List, length, Option, Result, Ok, Err, IfOk, IfErr};
 ghost use Rattle.cert_check.specs.Claims.{asked_of, queries_of};
 ghost use Rattle.cert_check.specs.Limits.{IsFault};
-ghost use Rattle.cert_check.specs.declared.fault.CertFault.{CertFault};
+ghost use Rattle.psl_tree.specs.declared.limit.LimitFault.{LimitFault};
 ghost use Rattle.cert_theory.specs.Printed.{cert_text, inductive_text};
 ghost use Rattle.cert_theory.specs.Texts.{IsAnswer};
 ghost use Rattle.cert_theory.specs.declared.answer.CertAnswer.{CertAnswer};
@@ -26,17 +26,17 @@ ghost use Rattle.psl_tree.specs.declared.directive.Directive.{Directive};
 /// a text in either version, and one of clauses has one text. What is said of its result is what `check_cert` says of it.
 pub fn passed_law()
     ensures passed { (design : Design) (unit : List Directive) (options : Options) (wanted : Option Form) (directive : Directive)
-        (entry : FindingEntry) (certificate : Certificate) (version : Version) (result : Result CertAnswer CertFault)
+        (entry : FindingEntry) (certificate : Certificate) (version : Version) (result : Result CertAnswer LimitFault)
         → IsEntry design unit options wanted directive entry → entry.finding ≡ Proved certificate
         → IfOk result (IsAnswer (asked_of unit entry.number) (queries_of design unit entry.number) (cert_text version certificate))
         → IfErr result (IsFault design unit entry.number (cert_text version certificate))
-        → (result ≡ Ok CertAnswer.Passed) ⊎ (result ≡ Err CertFault.NoMemory) }
+        → (result ≡ Ok CertAnswer.Passed) ⊎ (result ≡ Err LimitFault.NoMemory) }
     ensures passed_reach { (design : Design) (unit : List Directive) (options : Options) (wanted : Option Form) (directive : Directive)
-        (entry : FindingEntry) (certificate : InductiveCert) (result : Result CertAnswer CertFault)
+        (entry : FindingEntry) (certificate : InductiveCert) (result : Result CertAnswer LimitFault)
         → IsEntry design unit options wanted directive entry → entry.finding ≡ ProvedReach certificate
         → IfOk result (IsAnswer (asked_of unit entry.number) (queries_of design unit entry.number) (inductive_text certificate))
         → IfErr result (IsFault design unit entry.number (inductive_text certificate))
-        → (result ≡ Ok CertAnswer.Passed) ⊎ (result ≡ Err CertFault.NoMemory) }
+        → (result ≡ Ok CertAnswer.Passed) ⊎ (result ≡ Err LimitFault.NoMemory) }
 {}
 
 /// A law of the definitions: the letters on which the recording of a path is judged are the first ones of the word of each

@@ -14,4 +14,4 @@ pub use laws::{held_letters_law, passed_law};
 pub use names::columns;
 pub use proving::prove_all;
 pub use recording::{Recorded, Recordings};
-pub use sizes::{SizeFault, check_all};
+pub use sizes::check_all;

@@ -1,4 +1,5 @@
-ghost use Rattle.std.specs.Prelude.{◌≡◌, ◌≤◌, ◌∷◌, [], All, IfOk, IfErr};
+ghost use Rattle.std.specs.Prelude.{◌≡◌, ◌≤◌, ◌∷◌, [], IfOk, IfErr};
+ghost use Rattle.psl_tree.specs.Directives.{AreOver};
 ghost use Rattle.findings.specs.Asked.{AreNumbered, IsAskedOf};
 ghost use Rattle.findings.specs.Entries.{AreFindings, IsEntry};
 ghost use Rattle.findings.specs.Recordings.{wanted_of};
@@ -7,9 +8,6 @@ ghost use Rattle.findings.specs.Telling.{HaveTold, IsEntryFault, IsProveFault};
 ghost use Rattle.findings.specs.Traceable.{AreTraceable};
 ghost use Rattle.prover.specs.Tasks.{IsProvable};
 ghost use Rattle.prover.specs.Telling.{HasToldFor};
-ghost use Rattle.psl_tree.specs.Atoms.{AtomsOfFormula};
-ghost use Rattle.psl_tree.specs.Names.{AtomInRange};
-ghost use Rattle.psl_tree.specs.Trees.{formula_of};
 
 use crate::entry::{FindingEntry, Findings};
 use crate::recording::{Recordings, recorded_of};
@@ -40,7 +38,7 @@ pub fn prove_all<W: Wording, E: Sink>(
     err: &mut E,
 ) -> Result<Findings, ProveFault>
     requires within { AreWithin netlist.now options.depth covers unit.now }
-    requires in_range { All (λ directive. AtomsOfFormula (AtomInRange netlist.now.names) (formula_of directive.formula)) unit.now }
+    requires in_range { AreOver netlist.now.names unit.now }
     requires numbered { AreNumbered unit.now }
     requires depth { 1 ≤ options.depth }
     requires most { options.depth ≤ 1000 }

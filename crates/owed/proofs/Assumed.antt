@@ -1,11 +1,11 @@
 -- What is assumed by one directive more; and rewriting clocks goes through what is owed.
-use Rattle.std.proofs.Common.{◌≡◌, refl, sym, ◌∙◌, ap, List, [], ◌∷◌, ◌++◌, map, fold, Bool as Truth, true, false, if◌then◌else◌, Option, None, Some}
+use Rattle.std.proofs.Common.{◌≡◌, refl, ◌∙◌, ap, List, [], ◌∷◌, ◌++◌, map, fold, Bool as Truth, true, false, if◌then◌else◌, Option, None, Some}
 use Rattle.psl_tree.specs.Plain.{plain}
 use Rattle.psl_tree.specs.Trees.{Formula, And, formula_of}
 use Rattle.psl_tree.specs.declared.directive.Directive.{Directive}
 use Rattle.psl_tree.specs.declared.directive.Kind.{Kind}
 use Rattle.psl_tree.specs.declared.directive.Kind.TheVariants.{Assert, Assume, Cover}
-use Rattle.owed.specs.Owed.{is_assumption, assumptions, joined, conjunction, under, plain_assumed, with_directive, owed, plain_owed}
+use Rattle.owed.specs.Owed.{is_assumption, assumptions, joined, conjunction, under, plain_assumed, with_directive, plain_owed}
 
 abbrev pub plain_of : Formula → Formula
 plain_of formula = plain formula None

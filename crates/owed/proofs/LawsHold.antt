@@ -1,5 +1,5 @@
 -- What is owed says that the claim holds if the assumptions are satisfied.
-use Rattle.std.proofs.Common.{◌≡◌, refl, sym, subst, ◌↔◌, ℕ, List, [], ◌∷◌, fold, Option, None, Some, All}
+use Rattle.std.proofs.Common.{◌≡◌, sym, subst, ◌↔◌, List, [], ◌∷◌, fold, Option, None, Some, All}
 use Rattle.std.proofs.lemmas.List.Elements.{All-cons, All-nil, All-head, All-tail}
 use Rattle.clock_rewrite.proofs.Stable.{stable}
 use mathlib.Core.Path.{fun_ext}

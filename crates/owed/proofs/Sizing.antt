@@ -1,5 +1,5 @@
 -- Sizes of formulas under what is assumed.
-use Rattle.std.proofs.Common.{◌≡◌, sym, subst, List, Option, None, Some}
+use Rattle.std.proofs.Common.{sym, subst, List, Option, None, Some}
 use Rattle.psl_tree.specs.Plain.{plain}
 use Rattle.psl_tree.specs.Trees.{Formula, And, Not, formula_of}
 use Rattle.psl_tree.specs.declared.directive.Directive.{Directive}

@@ -1,5 +1,5 @@
 -- The automaton of the violations accepts the word of a run exactly where it does not satisfy what is owed.
-use Rattle.std.proofs.Common.{◌≡◌, refl, ap, subst, sym, ◌↔◌, ◌<◌, ℕ, zero, suc, nat_lt, ◌-◌, ◌%◌, Bool as Truth, true, false, if◌then◌else◌, List, [], ◌∷◌, map, length, slice_get, Option, None, Some, ◌∙◌, arith}
+use Rattle.std.proofs.Common.{◌≡◌, refl, ap, subst, sym, ◌↔◌, ◌<◌, ℕ, zero, suc, nat_lt, ◌-◌, ◌%◌, Bool as Truth, true, false, if◌then◌else◌, List, [], ◌∷◌, map, length, slice_get, Option, None, Some, ◌∙◌}
 use mathlib.Core.Path.{fun_ext}
 use Rattle.std.proofs.lemmas.List.{length-map}
 use Rattle.std.proofs.lemmas.List.FromFn.{length-range_with_len}
@@ -8,7 +8,6 @@ use Rattle.alternating_theory.proofs.LoopLawsHold.{loops}
 use Rattle.alternating_theory.specs.Acceptance.{Accepts}
 use Rattle.alternating_theory.specs.LoopLaws.{LoopsOf}
 use Rattle.alternating_theory.proofs.Negations.{opposite_built}
-use Rattle.alternating_theory.specs.Built.{built}
 use Rattle.alternating_theory.specs.Obligations.{Automaton}
 use Rattle.clock_rewrite.proofs.Clockless.{plain_plain}
 use Rattle.clock_rewrite.proofs.Meaning.{plain_words}
@@ -18,9 +17,9 @@ use Rattle.netlist.specs.Runs.{bits_of, letters_from, word}
 use Rattle.netlist.specs.declared.run.Run.{Run}
 use Rattle.psl_tree.proofs.Choice.{iff-trans}
 use Rattle.psl_tree.specs.Satisfaction.{Sat}
-use Rattle.psl_tree.specs.Trace.{Trace, trace_of, after, for_ever, dual, dual_at, dual_letter}
+use Rattle.psl_tree.specs.Trace.{Trace, trace_of, for_ever, dual, dual_at, dual_letter}
 use Rattle.psl_tree.specs.Letters.{letter_at}
-use Rattle.psl_tree.specs.Trees.{Formula, Not}
+use Rattle.psl_tree.specs.Trees.{Not}
 use Rattle.psl_tree.specs.declared.directive.Directive.{Directive}
 use Rattle.psl_tree.specs.declared.letter.Letter.{Letter}
 use Rattle.owed.specs.Owed.{owed, plain_owed}

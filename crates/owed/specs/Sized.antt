@@ -6,8 +6,10 @@ use Rattle.psl_tree.specs.Counts.{formula_size, obligations_of}
 use Rattle.psl_tree.specs.Trees.{Formula}
 use Rattle.psl_tree.specs.declared.counts.TheConstants.{MOST_OBLIGATIONS}
 use Rattle.gates.specs.declared.limits.TheConstants.{MOST_WORK}
-use Rattle.owed.specs.declared.limits.LimitFault.{LimitFault}
-use Rattle.owed.specs.declared.limits.LimitFault.TheVariants.{SereTooLarge, AutomatonTooLarge, UnrollTooLarge, NoMemory}
+use Rattle.psl_tree.specs.declared.limit.Limit.{Limit}
+use Rattle.psl_tree.specs.declared.limit.Limit.TheVariants as limits
+use Rattle.psl_tree.specs.declared.limit.LimitFault.{LimitFault}
+use Rattle.psl_tree.specs.declared.limit.LimitFault.TheVariants.{TooLarge, NoMemory}
 
 -- how much of a netlist and a formula stands at each position
 abbrev pub bulk_of : Design → Formula → ℕ
@@ -24,11 +26,16 @@ pub record IsSized (design : Design) (depth : ℕ) (formula : Formula) : Type 0 
   pub obligations : obligations_of formula ≤ MOST_OBLIGATIONS
   pub unrolled : work_of design depth formula ≤ MOST_WORK
 
--- the first of these limits that it passes
-abbrev pub IsRefused : Design → ℕ → Formula → LimitFault → Type 0
-IsRefused design depth formula SereTooLarge = HasLargeSequence formula
-IsRefused design depth formula AutomatonTooLarge =
+-- the first of these limits that it passes; how large the formulas are that are made of it is told elsewhere
+abbrev pub IsRefused : Design → ℕ → Formula → Limit → Type 0
+IsRefused design depth formula limits.Sere = HasLargeSequence formula
+IsRefused design depth formula limits.Automaton =
     (HasLargeSequence formula → ⊥) × (MOST_OBLIGATIONS < obligations_of formula)
-IsRefused design depth formula UnrollTooLarge =
+IsRefused design depth formula limits.Unroll =
     (HasLargeSequence formula → ⊥) × (obligations_of formula ≤ MOST_OBLIGATIONS) × (MOST_WORK < work_of design depth formula)
-IsRefused design depth formula NoMemory = Unit {0}
+IsRefused design depth formula limits.Formula = ⊥
+
+-- such a limit, or want of memory
+abbrev pub MayRefuse : Design → ℕ → Formula → LimitFault → Type 0
+MayRefuse design depth formula (TooLarge limit) = IsRefused design depth formula limit
+MayRefuse design depth formula NoMemory = Unit {0}

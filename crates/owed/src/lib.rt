@@ -12,6 +12,6 @@ mod violations;
 pub use formula::owed;
 pub use kinds::is_asked;
 pub use laws::{owes, violating_runs};
-pub use limits::{LimitFault, check_sizes};
+pub use limits::check_sizes;
 pub use size::{Size, assumed_size, owed_size};
 pub use violations::violation;

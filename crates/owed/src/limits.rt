@@ -3,7 +3,7 @@ ghost use Rattle.std.specs.Prelude.{◌≡◌, ◌-◌, ◌^◌, ◌<◌, ◌≤
 ghost use Rattle.gates.specs.declared.limits.TheConstants.{MOST_WORK};
 ghost use Rattle.owed.specs.Owed.{plain_assumed, plain_owed};
 ghost use Rattle.owed.specs.Sizes.{AreSizesOf, IsSizeOf};
-ghost use Rattle.owed.specs.Sized.{IsSized, IsRefused, work_of};
+ghost use Rattle.owed.specs.Sized.{IsSized, MayRefuse, work_of};
 ghost use Rattle.psl_tree.specs.declared.counts.TheConstants.{MOST_OBLIGATIONS};
 ghost use Rattle.psl_tree.specs.Trees.{Formula};
 ghost use Rattle.psl_tree.specs.declared.directive.Directive.{Directive};
@@ -11,38 +11,8 @@ ghost use Rattle.psl_tree.specs.declared.directive.Directive.{Directive};
 use crate::size::{Size, owed_size};
 use gates::fits;
 use netlist::Netlist;
-use psl_base::NoMemory;
-use psl_tree::{Directive, MOST_OBLIGATIONS};
+use psl_tree::{Directive, Limit, LimitFault, MOST_OBLIGATIONS};
 use std::alloc::Global;
-use thiserror::Error;
-
-/// Which limit a directive passes.
-#[derive(Clone, Copy, Debug, PartialEq, Eq, Drop, Error)]
-pub enum LimitFault {
-    /// A sequence of what is owed counts more than 1,024 states.
-    #[error("a sequence counts more than 1024 states")]
-    SereTooLarge,
-    /// What is owed counts more than 2,048 obligations.
-    #[error("the formula counts more than 2048 obligations")]
-    AutomatonTooLarge,
-    /// The netlist and what is owed are too large for so many positions.
-    #[error("too large to be unrolled")]
-    UnrollTooLarge,
-    /// The allocator refused memory.
-    #[error("out of memory")]
-    NoMemory,
-}
-
-impl From<NoMemory> for LimitFault {
-    ghost use Rattle.std.specs.Prelude.{◌≡◌};
-    ghost use Rattle.owed.specs.declared.limits.LimitFault.{LimitFault};
-
-    ghost from_gives = { λ refused fault. fault ≡ LimitFault.NoMemory };
-
-    fn from(_refused: NoMemory) -> LimitFault {
-        LimitFault::NoMemory
-    }
-}
 
 /// Whether what is owed of a directive is within the limits of formulas up to a depth or a window, which have one position
 /// more, where `assumed_size` has told how large what its text assumes is. Nothing of it is built but one formula at a
@@ -50,7 +20,8 @@ impl From<NoMemory> for LimitFault {
 ///
 /// # Errors
 ///
-/// The first of the limits that it passes, in the order of the faults; and `NoMemory` if memory is refused.
+/// The first of the limits that it passes, in their order; that of formulas is told by those who make them. `NoMemory` if
+/// memory is refused.
 pub fn check_sizes(
     alloc: Global,
     directive: &Directive,
@@ -62,17 +33,17 @@ pub fn check_sizes(
     ensures sized { OnOk result ((unit : List Directive) → AreSizesOf assumed (plain_assumed unit)
         → IsSized netlist.now depth (plain_owed unit directive.now)) }
     ensures fault { IfErr result (λ fault. (unit : List Directive) → AreSizesOf assumed (plain_assumed unit)
-        → IsRefused netlist.now depth (plain_owed unit directive.now) fault) }
+        → MayRefuse netlist.now depth (plain_owed unit directive.now) fault) }
 {
     let size = owed_size(alloc, directive, assumed)?;
     if size.has_large_sequence {
-        return Err(LimitFault::SereTooLarge);
+        return Err(LimitFault::TooLarge(Limit::Sere));
     }
     if size.obligations > MOST_OBLIGATIONS {
-        return Err(LimitFault::AutomatonTooLarge);
+        return Err(LimitFault::TooLarge(Limit::Automaton));
     }
     if is_bulky(netlist, size, depth) {
-        return Err(LimitFault::UnrollTooLarge);
+        return Err(LimitFault::TooLarge(Limit::Unroll));
     }
     Ok(())
 }

@@ -7,9 +7,9 @@ ghost use Rattle.psl_tree.specs.Counts.{obligations_of};
 ghost use Rattle.psl_tree.specs.declared.counts.TheConstants.{MOST_OBLIGATIONS};
 
 use crate::formula::owed;
-use alternating::{AltFault, Alternating, of};
+use alternating::{Alternating, of};
 use psl_base::NoMemory;
-use psl_tree::{Directive, Unit};
+use psl_tree::{Directive, LimitFault, Unit};
 use std::alloc::Global;
 
 /// The automaton of the words that violate what is owed of a directive of a text: of the words with a loop it accepts
@@ -29,7 +29,7 @@ pub fn violation(alloc: Global, unit: &Unit, directive: &Directive) -> Result<Al
             let dual = automaton.dual(alloc)?;
             Ok(dual)
         }
-        Err(AltFault::NoMemory) => Err(NoMemory),
-        Err(AltFault::SereTooLarge | AltFault::AutomatonTooLarge) => unreachable!(),
+        Err(LimitFault::NoMemory) => Err(NoMemory),
+        Err(LimitFault::TooLarge(_)) => unreachable!(),
     }
 }

@@ -7,6 +7,7 @@ use Rattle.std.proofs.lemmas.Bool.{ltb-false}
 use Rattle.std.proofs.lemmas.List.Elements.{All-cons, All-head, All-nil, All-tail}
 use Rattle.psl_grammar.specs.declared.tree.UnitTree as code_tree
 use Rattle.psl_tree.specs.Atoms.{AtomsOfFormula}
+use Rattle.psl_tree.specs.declared.counts.TheConstants.{MOST_CONSTRUCTORS}
 use Rattle.psl_tree.specs.Counts.{formula_size}
 use Rattle.psl_tree.specs.Names.{AreAlike, AtomInRange}
 use Rattle.psl_tree.specs.Trees.{Formula, formula_of}
@@ -38,14 +39,14 @@ module _ (P : Formula → Type 0) where
   carried asked unit same each =
       directives-have unit (subst (All (λ (one : Numbered). P one.formula)) (sym same) (numbered-have 1 asked each))
 
-by-test : (test : Bool) (one : Asked) (more : List Asked) → is_too_large one ≡ test → (first_too_large more ≡ None → All (λ each. formula_size each.formula ≤ 4096) more)
-    → option_map (λ (asked : Asked). asked.place) (if test then Some one else find is_too_large more) ≡ None → All (λ each. formula_size each.formula ≤ 4096) (one ∷ more)
+by-test : (test : Bool) (one : Asked) (more : List Asked) → is_too_large one ≡ test → (first_too_large more ≡ None → All (λ each. formula_size each.formula ≤ MOST_CONSTRUCTORS) more)
+    → option_map (λ (asked : Asked). asked.place) (if test then Some one else find is_too_large more) ≡ None → All (λ each. formula_size each.formula ≤ MOST_CONSTRUCTORS) (one ∷ more)
 by-test true one more large rest none = absurd cc
 by-test false one more fits rest none =
-    All-cons (λ (each : Asked). formula_size each.formula ≤ 4096) one more (ltb-false 4096 (formula_size one.formula) fits) (rest none)
+    All-cons (λ (each : Asked). formula_size each.formula ≤ MOST_CONSTRUCTORS) one more (ltb-false MOST_CONSTRUCTORS (formula_size one.formula) fits) (rest none)
 
-each-small : (asked : List Asked) → first_too_large asked ≡ None → All (λ one. formula_size one.formula ≤ 4096) asked
-each-small [] none = All-nil (λ (one : Asked). formula_size one.formula ≤ 4096)
+each-small : (asked : List Asked) → first_too_large asked ≡ None → All (λ one. formula_size one.formula ≤ MOST_CONSTRUCTORS) asked
+each-small [] none = All-nil (λ (one : Asked). formula_size one.formula ≤ MOST_CONSTRUCTORS)
 each-small (one ∷ more) none = by-test (is_too_large one) one more refl (each-small more) none
 
 -- the atoms of the directives are in range
@@ -56,6 +57,6 @@ ranged tree names (Err fault) longer alike = tt
 
 -- their formulas are small
 pub small : (tree : code_tree.UnitTree) (names : List Name) (result : Result (List Directive) LayerFault) → IsLonger [] (kernel names tree) result
-    → IfOk result (λ unit. All (λ directive. formula_size (formula_of directive.formula) ≤ 4096) unit)
-small tree names (Ok unit) longer = carried (λ (formula : Formula). formula_size formula ≤ 4096) (kernel names tree) unit longer.1 (each-small (kernel names tree) longer.0)
+    → IfOk result (λ unit. All (λ directive. formula_size (formula_of directive.formula) ≤ MOST_CONSTRUCTORS) unit)
+small tree names (Ok unit) longer = carried (λ (formula : Formula). formula_size formula ≤ MOST_CONSTRUCTORS) (kernel names tree) unit longer.1 (each-small (kernel names tree) longer.0)
 small tree names (Err fault) longer = tt

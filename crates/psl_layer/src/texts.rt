@@ -1,14 +1,12 @@
 // Whole texts.
-ghost use Rattle.std.specs.Prelude.{◌≡◌, ◌≤◌, ◌++◌, [], All, List, IfOk, IfErr};
+ghost use Rattle.std.specs.Prelude.{◌≡◌, ◌++◌, [], List, IfOk, IfErr};
+ghost use Rattle.psl_tree.specs.Directives.{AreOver, AreSmall};
 ghost use Rattle.psl_layer_theory.specs.Answers.{IsUnit, IsLayerFault};
 ghost use Rattle.psl_layer_theory.specs.Directives as spec;
 ghost use Rattle.psl_layer_theory.specs.FirstFlaw as flaws;
 ghost use Rattle.psl_layer_theory.specs.Flaws.{statements_flaws, units_flaws, tree_flaws};
 ghost use Rattle.psl_layer_theory.specs.declared.fault.Flaw.{Flaw as spec_flaw};
-ghost use Rattle.psl_tree.specs.Atoms.{AtomsOfFormula};
-ghost use Rattle.psl_tree.specs.Counts.{formula_size};
-ghost use Rattle.psl_tree.specs.Names.{AreAlike, AtomInRange};
-ghost use Rattle.psl_tree.specs.Trees.{formula_of};
+ghost use Rattle.psl_tree.specs.Names.{AreAlike};
 ghost use Rattle.psl_layer.specs.Outcomes.{IsOutcome};
 
 use crate::asked::with_list;
@@ -105,8 +103,8 @@ fn fault_of(flaw: Flaw) -> LayerFault
 pub fn resolve(alloc: Global, tree: &UnitTree, names: &Names) -> Result<Unit, LayerFault>
     ensures unit { IfOk result (IsUnit tree.now names.now) }
     ensures fault { IfErr result (IsLayerFault tree.now names.now) }
-    ensures in_range { AreAlike names.now → IfOk result (λ unit. All (λ directive. AtomsOfFormula (AtomInRange names.now) (formula_of directive.formula)) unit) }
-    ensures small { IfOk result (λ unit. All (λ directive. formula_size (formula_of directive.formula) ≤ 4096) unit) }
+    ensures in_range { AreAlike names.now → IfOk result (λ unit. AreOver names.now unit) }
+    ensures small { IfOk result (λ unit. AreSmall unit) }
 {
     let buses = bus_names(alloc, names)?;
     let index = PathIndex::of(alloc, names, &buses)?;

@@ -4,6 +4,7 @@ use Rattle.std.specs.List.{find}
 use Rattle.std.specs.Option.{option_map}
 use Rattle.psl_base.specs.declared.place.Place.{Place}
 use Rattle.psl_grammar.specs.declared.tree.UnitTree as code_tree
+use Rattle.psl_tree.specs.declared.counts.TheConstants.{MOST_CONSTRUCTORS}
 use Rattle.psl_tree.specs.Counts.{formula_size}
 use Rattle.psl_tree.specs.Trees.{Formula, formula_of}
 use Rattle.psl_tree.specs.declared.directive.Directive.{Directive}
@@ -38,7 +39,7 @@ directive_of directive =
 
 -- a formula has more constructors than the 4,096 that it may have
 abbrev pub is_too_large : Asked → Truth
-is_too_large asked = nat_lt 4096 (formula_size asked.formula)
+is_too_large asked = nat_lt MOST_CONSTRUCTORS (formula_size asked.formula)
 
 -- the place of the first directive whose formula is too large, if there is one
 abbrev pub first_too_large : List Asked → Option Place

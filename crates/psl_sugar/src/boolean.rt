@@ -1,5 +1,6 @@
 ghost use Rattle.std.specs.Prelude.{◌≡◌, ◌≤◌, IfOk};
 ghost use Rattle.psl_tree.specs.Counts.{boolean_size};
+ghost use Rattle.psl_tree.specs.declared.counts.TheConstants.{MOST_CONSTRUCTORS};
 ghost use Rattle.psl_tree.specs.Trees.{boolean_of, Const, Test, Not, And, Or};
 ghost use Rattle.psl_sugar.specs.Budget.{GivesBoolean};
 
@@ -22,6 +23,7 @@ pub struct MeasuredBool {
 impl Model for MeasuredBool {
     ghost use Rattle.std.specs.Prelude.{◌≡◌, ◌≤◌};
     ghost use Rattle.psl_tree.specs.Counts.{boolean_size};
+    ghost use Rattle.psl_tree.specs.declared.counts.TheConstants.{MOST_CONSTRUCTORS};
     ghost use Rattle.psl_tree.specs.Trees.{Boolean, boolean_of};
     ghost use Rattle.psl_tree.specs.Codes.{boolean_code};
 
@@ -31,7 +33,7 @@ impl Model for MeasuredBool {
 
     ghost view = { λ test. boolean_of test.tree };
 
-    ghost invariant = { λ test. (boolean_size (boolean_of test.tree) ≡ test.size) × (test.size ≤ 4096) };
+    ghost invariant = { λ test. (boolean_size (boolean_of test.tree) ≡ test.size) × (test.size ≤ MOST_CONSTRUCTORS) };
 }
 
 // Written out, so that a caller's proof sees one call where a value is dropped.
@@ -130,7 +132,7 @@ impl MeasuredBool {
     /// How many constructors the expression has.
     pub fn size(&self) -> u32
         ensures size { result ≡ boolean_size self.now }
-        ensures bound { result ≤ 4096 }
+        ensures bound { result ≤ MOST_CONSTRUCTORS }
     {
         self.size
     }

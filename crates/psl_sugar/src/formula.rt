@@ -1,5 +1,6 @@
 ghost use Rattle.std.specs.Prelude.{◌≡◌, ◌≤◌, IfOk};
 ghost use Rattle.psl_tree.specs.Counts.{formula_size};
+ghost use Rattle.psl_tree.specs.declared.counts.TheConstants.{MOST_CONSTRUCTORS};
 ghost use Rattle.psl_tree.specs.Trees.{formula_of, Now, NowStrong, Weak, Strong, Not, And, Next, Until, Suffix, Abort, SyncAbort, Clocked};
 ghost use Rattle.psl_sugar.specs.Budget.{GivesFormula};
 
@@ -22,6 +23,7 @@ pub struct MeasuredFl {
 impl Model for MeasuredFl {
     ghost use Rattle.std.specs.Prelude.{◌≡◌, ◌≤◌};
     ghost use Rattle.psl_tree.specs.Counts.{formula_size};
+    ghost use Rattle.psl_tree.specs.declared.counts.TheConstants.{MOST_CONSTRUCTORS};
     ghost use Rattle.psl_tree.specs.Trees.{Formula, formula_of};
     ghost use Rattle.psl_sugar.specs.Codes.{formula_code};
 
@@ -31,7 +33,7 @@ impl Model for MeasuredFl {
 
     ghost view = { λ formula. formula_of formula.tree };
 
-    ghost invariant = { λ formula. (formula_size (formula_of formula.tree) ≡ formula.size) × (formula.size ≤ 4096) };
+    ghost invariant = { λ formula. (formula_size (formula_of formula.tree) ≡ formula.size) × (formula.size ≤ MOST_CONSTRUCTORS) };
 }
 
 // Written out, so that a caller's proof sees one call where a value is dropped.
@@ -204,7 +206,7 @@ impl MeasuredFl {
     /// How many constructors the formula has, those of its sequences and Booleans among them.
     pub fn size(&self) -> u32
         ensures size { result ≡ formula_size self.now }
-        ensures bound { result ≤ 4096 }
+        ensures bound { result ≤ MOST_CONSTRUCTORS }
     {
         self.size
     }

@@ -1,5 +1,6 @@
 ghost use Rattle.std.specs.Prelude.{◌≡◌, ◌≤◌, IfOk};
 ghost use Rattle.psl_tree.specs.Counts.{sequence_size};
+ghost use Rattle.psl_tree.specs.declared.counts.TheConstants.{MOST_CONSTRUCTORS};
 ghost use Rattle.psl_tree.specs.Trees.{sequence_of, Empty, One, Concat, Fuse, Either, Both, Star, Clocked};
 ghost use Rattle.psl_sugar.specs.Budget.{GivesSequence};
 
@@ -22,6 +23,7 @@ pub struct MeasuredSere {
 impl Model for MeasuredSere {
     ghost use Rattle.std.specs.Prelude.{◌≡◌, ◌≤◌};
     ghost use Rattle.psl_tree.specs.Counts.{sequence_size};
+    ghost use Rattle.psl_tree.specs.declared.counts.TheConstants.{MOST_CONSTRUCTORS};
     ghost use Rattle.psl_tree.specs.Trees.{Sequence, sequence_of};
     ghost use Rattle.psl_sugar.specs.Codes.{sequence_code};
 
@@ -31,7 +33,7 @@ impl Model for MeasuredSere {
 
     ghost view = { λ sequence. sequence_of sequence.tree };
 
-    ghost invariant = { λ sequence. (sequence_size (sequence_of sequence.tree) ≡ sequence.size) × (sequence.size ≤ 4096) };
+    ghost invariant = { λ sequence. (sequence_size (sequence_of sequence.tree) ≡ sequence.size) × (sequence.size ≤ MOST_CONSTRUCTORS) };
 }
 
 // Written out, so that a caller's proof sees one call where a value is dropped.
@@ -175,7 +177,7 @@ impl MeasuredSere {
     /// How many constructors the sequence has, those of its Booleans among them.
     pub fn size(&self) -> u32
         ensures size { result ≡ sequence_size self.now }
-        ensures bound { result ≤ 4096 }
+        ensures bound { result ≤ MOST_CONSTRUCTORS }
     {
         self.size
     }

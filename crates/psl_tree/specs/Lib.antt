@@ -3,6 +3,7 @@ pub mod Classical
 pub mod Clockless
 pub mod Codes
 pub mod Counts
+pub mod Directives
 pub mod Dropped
 pub mod Evaluated
 pub mod Followed

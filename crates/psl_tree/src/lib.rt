@@ -14,6 +14,7 @@ mod counts;
 mod directive;
 mod fl;
 mod letter;
+mod limit;
 mod name;
 mod range;
 mod rows;
@@ -25,6 +26,7 @@ pub use counts::{MOST_CONSTRUCTORS, MOST_OBLIGATIONS, MOST_STATES, measure, obli
 pub use directive::{Directive, Kind, Unit};
 pub use fl::Fl;
 pub use letter::{Letter, Letters, Word, holds};
+pub use limit::{Limit, LimitFault, UnitFault};
 pub use name::{Name, Names};
 pub use range::{are_in_range, is_in_range};
 pub use rows::worked_examples;

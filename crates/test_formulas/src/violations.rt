@@ -4,10 +4,10 @@ ghost use Rattle.psl_tree.specs.Clockless.{IsPlain};
 ghost use Rattle.psl_tree.specs.Trees.{formula_of};
 ghost use Rattle.run_terms.specs.Automata.{TestsSignals};
 
-use alternating::{AltFault, Alternating, of};
+use alternating::{Alternating, of};
 use netlist::Netlist;
 use psl_base::{NoMemory, boxed};
-use psl_tree::{Atom, Bool, Edge, Fl, are_in_range};
+use psl_tree::{Atom, Bool, Edge, Fl, LimitFault, are_in_range};
 use std::alloc::Global;
 use std::test::Fail;
 
@@ -108,7 +108,7 @@ pub(crate) fn automaton(
     }
     match of(alloc, &formula) {
         Ok(automaton) => Ok(automaton),
-        Err(AltFault::NoMemory) => Err(NoMemory.into()),
+        Err(LimitFault::NoMemory) => Err(NoMemory.into()),
         Err(_) => Err("too large".into()),
     }
 }

@@ -1,7 +1,7 @@
-ghost use Rattle.std.specs.Prelude.{◌<◌, ◌≤◌, length, All, IfOk};
-ghost use Rattle.psl_tree.specs.Atoms.{AtomsOfFormula};
+ghost use Rattle.std.specs.Prelude.{◌<◌, ◌≤◌, length, IfOk};
+ghost use Rattle.psl_tree.specs.Directives.{AreOver, AreSmall};
+ghost use Rattle.psl_tree.specs.declared.counts.TheConstants.{MOST_CONSTRUCTORS};
 ghost use Rattle.psl_tree.specs.Counts.{formula_size};
-ghost use Rattle.psl_tree.specs.Names.{AtomInRange};
 ghost use Rattle.psl_tree.specs.Trees.{formula_of};
 
 use crate::fault::Fault;
@@ -41,8 +41,8 @@ fn tree_of(alloc: Global, text: &str) -> Result<UnitTree, Fault> {
 
 /// The directives of a text over the names of a recording.
 fn directives(alloc: Global, text: &str, recording: &Recording) -> Result<Unit, Fault>
-    ensures in_range { IfOk result (λ unit. All (λ directive. AtomsOfFormula (AtomInRange recording.now.names) (formula_of directive.formula)) unit) }
-    ensures small { IfOk result (λ unit. All (λ directive. formula_size (formula_of directive.formula) ≤ 4096) unit) }
+    ensures in_range { IfOk result (λ unit. AreOver recording.now.names unit) }
+    ensures small { IfOk result (λ unit. AreSmall unit) }
 {
     let tree = tree_of(alloc, text)?;
     Ok(resolve(alloc, &tree, recording.names())?)
@@ -64,8 +64,8 @@ fn letter(holds: bool) -> char {
 
 /// The verdicts of the judge.
 fn judged(alloc: Global, unit: &Unit, recording: &Recording) -> Result<String, Fault>
-    requires in_range { All (λ directive. AtomsOfFormula (AtomInRange recording.now.names) (formula_of directive.formula)) unit.now }
-    requires small { All (λ directive. formula_size (formula_of directive.formula) ≤ 4096) unit.now }
+    requires in_range { AreOver recording.now.names unit.now }
+    requires small { AreSmall unit.now }
 {
     let mut shown = String::new(alloc);
     for verdict in judge(alloc, unit, recording)?.as_slice() {
@@ -120,7 +120,7 @@ fn difference_on(alloc: Global, row: &Row, recording: &Recording) -> Result<Opti
 
 /// The directives of a text over the names of a recording without samples.
 fn directives_alone(alloc: Global, text: &str) -> Result<Unit, Fault>
-    ensures { IfOk result (λ unit. All (λ directive. formula_size (formula_of directive.formula) ≤ 4096) unit) }
+    ensures { IfOk result (λ unit. AreSmall unit) }
 {
     let recording = recording(alloc, NO_SAMPLES)?;
     directives(alloc, text, &recording)
@@ -135,7 +135,7 @@ struct Said {
 }
 
 fn said_of(alloc: Global, unit: &Unit, word: &Word) -> Result<Said, Fault>
-    requires small { All (λ directive. formula_size (formula_of directive.formula) ≤ 4096) unit.now }
+    requires small { AreSmall unit.now }
     requires looped { 0 < length word.now.looped }
 {
     let mut said = Said {
@@ -154,7 +154,7 @@ fn said_of(alloc: Global, unit: &Unit, word: &Word) -> Result<Said, Fault>
 
 /// What is said of a formula.
 fn answers_of(alloc: Global, formula: &Fl, word: &Word) -> Result<[bool; 3], Fault>
-    requires small { formula_size (formula_of formula.now) ≤ 4096 }
+    requires small { formula_size (formula_of formula.now) ≤ MOST_CONSTRUCTORS }
     requires looped { 0 < length word.now.looped }
 {
     let formula = unclock(alloc, formula, None)?;
@@ -219,7 +219,7 @@ fn size_difference(alloc: Global, row: &Row) -> Result<Option<String>, Fault> {
 
 /// How many obligations the automaton of a formula has.
 fn obligations_of(alloc: Global, formula: &Fl) -> Result<u32, Fault>
-    requires { formula_size (formula_of formula.now) ≤ 4096 }
+    requires { formula_size (formula_of formula.now) ≤ MOST_CONSTRUCTORS }
 {
     let formula = unclock(alloc, formula, None)?;
     let automaton = of(alloc, &formula)?;

@@ -1,12 +1,11 @@
-use alternating::AltFault;
 use psl_base::NoMemory;
 use psl_layer_theory::LayerFault;
 use psl_lexer::LexFault;
 use psl_parser::ParseFault;
+use psl_tree::{LimitFault, UnitFault};
 use std::alloc::{AllocError, AllocFailed};
 use std::{fmt, io};
 use vcd_reader::VcdFault;
-use wave_judge::JudgeFault;
 
 /// Why the rows of a file are not compared.
 #[derive(Debug, Drop)]
@@ -82,14 +81,14 @@ impl From<VcdFault> for Fault {
     }
 }
 
-impl From<JudgeFault> for Fault {
-    fn from(_fault: JudgeFault) -> Fault {
+impl From<UnitFault> for Fault {
+    fn from(_fault: UnitFault) -> Fault {
         Fault::Refused
     }
 }
 
-impl From<AltFault> for Fault {
-    fn from(_fault: AltFault) -> Fault {
+impl From<LimitFault> for Fault {
+    fn from(_fault: LimitFault) -> Fault {
         Fault::Refused
     }
 }

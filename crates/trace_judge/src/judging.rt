@@ -1,11 +1,7 @@
 ghost use Rattle.std.specs.Prelude.{◌≡◌, ◌≤◌, length, nat_lt, IfOk};
+ghost use Rattle.psl_tree.specs.Directives.{IsOver, IsSmall};
 ghost use Rattle.netlist.specs.Runs.{IsMade};
 ghost use Rattle.psl_base.specs.Places.{file_limit};
-ghost use Rattle.psl_tree.specs.Atoms.{AtomsOfFormula};
-ghost use Rattle.psl_tree.specs.Counts.{formula_size};
-ghost use Rattle.psl_tree.specs.Names.{AtomInRange};
-ghost use Rattle.psl_tree.specs.Trees.{formula_of};
-ghost use Rattle.psl_tree.specs.declared.counts.TheConstants.{MOST_CONSTRUCTORS};
 ghost use Rattle.trace.specs.Trace.{trace_text};
 ghost use Rattle.trace_judge.specs.Verdicts.{IsJudged, IsJudgedUpTo, IsReadable};
 ghost use Rattle.vcd_reader.specs.Sampled.{letters_of};
@@ -15,11 +11,11 @@ ghost use Rattle.wave_judge.specs.Judged.{IsVerdict};
 use crate::reading::read_trace;
 use netlist::{Netlist, Run, soundness_law};
 use psl_base::{Bytes, NoMemory};
-use psl_tree::Directive;
+use psl_tree::{Directive, UnitFault};
 use std::alloc::Global;
 use trace::{trace_length, write_trace};
 use vcd_reader::Recording;
-use wave_judge::{JudgeFault, Verdict, judge_one};
+use wave_judge::{Verdict, judge_one};
 
 /// A run of a netlist, or another stem and loop of its valuations, and how often the loop is written.
 #[derive(Clone, Copy)]
@@ -54,8 +50,8 @@ pub fn judge_trace(
     most: u64,
 ) -> Result<Option<JudgedTrace>, NoMemory>
     requires readable { IsReadable traced.netlist.now traced.run.now traced.loops }
-    requires in_range { AtomsOfFormula (AtomInRange traced.netlist.now.names) (formula_of directive.now.formula) }
-    requires small { formula_size (formula_of directive.now.formula) ≤ MOST_CONSTRUCTORS }
+    requires in_range { IsOver traced.netlist.now.names directive.now }
+    requires small { IsSmall directive.now }
     requires judgeable { IsJudgeable directive.now }
     requires limit { most ≤ file_limit }
     ensures { IfOk result (IsJudgedUpTo most traced.entry.netlist.now traced.entry.run.now traced.entry.loops directive.now) }
@@ -79,8 +75,8 @@ fn is_longer(alloc: Global, traced: Traced<'_>, most: u64) -> Result<bool, NoMem
 /// The same of a trace that is no longer than a file may be.
 fn judged(alloc: Global, traced: Traced<'_>, directive: &Directive) -> Result<JudgedTrace, NoMemory>
     requires readable { IsReadable traced.netlist.now traced.run.now traced.loops }
-    requires in_range { AtomsOfFormula (AtomInRange traced.netlist.now.names) (formula_of directive.now.formula) }
-    requires small { formula_size (formula_of directive.now.formula) ≤ MOST_CONSTRUCTORS }
+    requires in_range { IsOver traced.netlist.now.names directive.now }
+    requires small { IsSmall directive.now }
     requires judgeable { IsJudgeable directive.now }
     requires short { length (trace_text traced.netlist.now traced.run.now traced.loops) ≤ file_limit }
     ensures { IfOk result (IsJudged traced.entry.netlist.now traced.entry.run.now traced.entry.loops directive.now) }
@@ -102,15 +98,14 @@ fn verdict_on(
     recording: &Recording,
     directive: &Directive,
 ) -> Result<Verdict, NoMemory>
-    requires in_range { AtomsOfFormula (AtomInRange recording.now.names) (formula_of directive.now.formula) }
-    requires small { formula_size (formula_of directive.now.formula) ≤ MOST_CONSTRUCTORS }
+    requires in_range { IsOver recording.now.names directive.now }
+    requires small { IsSmall directive.now }
     requires judgeable { IsJudgeable directive.now }
     ensures { IfOk result (IsVerdict (letters_of recording.now) directive.now) }
 {
     match judge_one(alloc, directive, recording) {
         Ok(verdict) => Ok(verdict),
-        Err(JudgeFault::NoMemory) => Err(NoMemory),
-        Err(JudgeFault::Sere(_)) => unreachable!(),
-        Err(JudgeFault::Automaton(_)) => unreachable!(),
+        Err(UnitFault::NoMemory) => Err(NoMemory),
+        Err(UnitFault::TooLarge(_, _)) => unreachable!(),
     }
 }

@@ -1,4 +1,5 @@
-ghost use Rattle.std.specs.Prelude.{◌≡◌, ◌≤◌, length, All};
+ghost use Rattle.std.specs.Prelude.{◌≡◌, ◌≤◌, length};
+ghost use Rattle.psl_tree.specs.Directives.{AreOver};
 ghost use Rattle.psl_tree.specs.Atoms.{AtomsOfBoolean, AtomsOfSequence, AtomsOfFormula};
 ghost use Rattle.psl_tree.specs.Trees.{boolean_of, sequence_of, formula_of};
 ghost use Rattle.vcd_reader.specs.FirstUnknown.{IsFirstUnknown, is_unknown_for, first_below, earliest};
@@ -12,7 +13,7 @@ impl Recording {
     /// The first sample, counted from 0, at which a bit is unknown that the formula of some directive tests, as a value or as
     /// an edge; none where there is no such sample. Bits that no formula tests do not matter.
     pub fn first_unknown(&self, unit: &Unit) -> Option<u32>
-        requires { All (λ directive. AtomsOfFormula (AtomInRange self.now.names) (formula_of directive.formula)) unit.now }
+        requires { AreOver self.now.names unit.now }
         ensures { IsFirstUnknown self.now unit.now result }
     {
         let samples = self.samples();

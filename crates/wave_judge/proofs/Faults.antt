@@ -1,5 +1,5 @@
 -- A unit has one answer: all of its directives can be judged, or one of them is the first that cannot.
-use Rattle.std.proofs.Common.{◌≡◌, ◌⊎◌, inl, inr, refl, sym, ap, ◌∙◌, subst, suc, ◌<◌, ◌≤◌, List, [], ◌∷◌, length, take, arith}
+use Rattle.std.proofs.Common.{ℕ, ◌≡◌, ◌⊎◌, inl, inr, refl, sym, ap, ◌∙◌, subst, suc, ◌<◌, ◌≤◌, List, [], ◌∷◌, length, take, arith}
 use Rattle.std.specs.Prelude.{All, slice_get}
 use Rattle.std.proofs.lemmas.Bool.{cases_lt}
 use Rattle.std.proofs.lemmas.List.{get_or-take, length-take-le}
@@ -10,9 +10,11 @@ use Rattle.psl_tree.specs.declared.counts.TheConstants.{MOST_OBLIGATIONS, MOST_S
 use Rattle.psl_tree.specs.Counts.{states_of, obligations_of}
 use Rattle.psl_tree.specs.Trees.{Sequence, Formula, Now, NowStrong, Weak, Strong, Not, And, Next, Until, Suffix, Abort, SyncAbort, Clocked}
 use Rattle.psl_tree.specs.declared.directive.Directive.{Directive}
-use Rattle.wave_judge.specs.Faults.{unclocked, IsJudgeable, IsRefused, IsFirstFault}
-use Rattle.wave_judge.specs.declared.fault.JudgeFault.{JudgeFault}
-use Rattle.wave_judge.specs.declared.fault.JudgeFault.TheVariants.{Sere, Automaton, NoMemory}
+use Rattle.wave_judge.specs.Faults.{unclocked, IsJudgeable, IsRefused, IsFirstRefused}
+use Rattle.alternating.specs.Limits.{PassesFirst}
+use Rattle.psl_tree.specs.declared.limit.Limit.{Limit}
+use Rattle.psl_tree.specs.declared.limit.UnitFault.TheVariants.{TooLarge}
+use Rattle.psl_tree.specs.declared.limit.Limit.TheVariants.{Sere, Automaton, Unroll, Formula as OfFormula}
 
 -- a fact that is decided
 abbrev Decided : Type 0 → Type 0
@@ -47,71 +49,95 @@ large (Abort f _) = large f
 large (SyncAbort f _) = large f
 large (Clocked f _) = large f
 
-judged_or_refused : (d : Directive) → IsJudgeable d ⊎ ((fault : JudgeFault) × IsRefused d fault)
-judged_or_refused d = elim (large (unclocked d)) as (λ _. IsJudgeable d ⊎ ((fault : JudgeFault) × IsRefused d fault)) [
-  | inl is ↦ inr (Sere d.number, (refl, is))
-  | inr small ↦ elim (cases_lt MOST_OBLIGATIONS (obligations_of (unclocked d))) as (λ _. IsJudgeable d ⊎ ((fault : JudgeFault) × IsRefused d fault)) [
-    | inl lt ↦ inr (Automaton d.number, (refl, small, lt))
+-- a directive can be judged, or passes some limit first
+abbrev Refusal : Directive → Type 0
+Refusal d = (number : ℕ) × (limit : Limit) × IsRefused d number limit
+
+abbrev FirstRefusal : List Directive → Type 0
+FirstRefusal unit = (number : ℕ) × (limit : Limit) × IsFirstRefused unit number limit
+
+judged_or_refused : (d : Directive) → IsJudgeable d ⊎ Refusal d
+judged_or_refused d = elim (large (unclocked d)) as (λ _. IsJudgeable d ⊎ Refusal d) [
+  | inl is ↦ inr (d.number, Sere, (refl, is))
+  | inr small ↦ elim (cases_lt MOST_OBLIGATIONS (obligations_of (unclocked d))) as (λ _. IsJudgeable d ⊎ Refusal d) [
+    | inl lt ↦ inr (d.number, Automaton, (refl, (small, lt)))
     | inr le ↦ inl (record { sequences = small; obligations = le })
   ]
 ]
 
-pub refused_not_judged : (d : Directive) (fault : JudgeFault) → IsJudgeable d → IsRefused d fault → ⊥
-refused_not_judged d (Sere n) j r = j.sequences r.1
-refused_not_judged d (Automaton n) j r = let le = j.obligations in let lt = r.2 in omega arith
-refused_not_judged d NoMemory j r = r
+not_first : (formula : Formula) (limit : Limit) → (HasLargeSequence formula → ⊥) → obligations_of formula ≤ MOST_OBLIGATIONS → PassesFirst formula limit → ⊥
+not_first formula Sere small le is = small is
+not_first formula Automaton small le is = let lt = is.1 in omega arith
+not_first formula Unroll small le is = is
+not_first formula OfFormula small le is = is
 
-one_refusal : (d : Directive) (f g : JudgeFault) → IsRefused d f → IsRefused d g → f ≡ g
-one_refusal d (Sere n) (Sere m) r s = ap Sere (r.0 ∙ sym s.0)
-one_refusal d (Sere n) (Automaton m) r s = absurd (s.1 r.1)
-one_refusal d (Sere n) NoMemory r s = absurd s
-one_refusal d (Automaton n) (Sere m) r s = absurd (r.1 s.1)
-one_refusal d (Automaton n) (Automaton m) r s = ap Automaton (r.0 ∙ sym s.0)
-one_refusal d (Automaton n) NoMemory r s = absurd s
-one_refusal d NoMemory g r s = absurd r
+pub refused_not_judged : (d : Directive) (number : ℕ) (limit : Limit) → IsJudgeable d → IsRefused d number limit → ⊥
+refused_not_judged d number limit j r = not_first (unclocked d) limit j.sequences j.obligations r.1
 
-pub some_answer : (unit : List Directive) → All IsJudgeable unit ⊎ ((fault : JudgeFault) × IsFirstFault unit fault)
+one_limit : (formula : Formula) (f g : Limit) → PassesFirst formula f → PassesFirst formula g → f ≡ g
+one_limit formula Sere Sere r s = refl
+one_limit formula Sere Automaton r s = absurd (s.0 r)
+one_limit formula Sere Unroll r s = absurd s
+one_limit formula Sere OfFormula r s = absurd s
+one_limit formula Automaton Sere r s = absurd (r.0 s)
+one_limit formula Automaton Automaton r s = refl
+one_limit formula Automaton Unroll r s = absurd s
+one_limit formula Automaton OfFormula r s = absurd s
+one_limit formula Unroll g r s = absurd r
+one_limit formula OfFormula g r s = absurd r
+
+one_refusal : (d : Directive) (number other : ℕ) (limit next : Limit) → IsRefused d number limit → IsRefused d other next
+    → TooLarge number limit ≡ TooLarge other next
+one_refusal d number other limit next r s =
+    ap (λ (n : ℕ). TooLarge n limit) (r.0 ∙ sym s.0) ∙ ap (TooLarge other) (one_limit (unclocked d) limit next r.1 s.1)
+
+pub some_answer : (unit : List Directive) → All IsJudgeable unit ⊎ FirstRefusal unit
 some_answer [] = inl (All-nil IsJudgeable)
-some_answer (d ∷ ds) = elim (judged_or_refused d) as (λ _. All IsJudgeable (d ∷ ds) ⊎ ((fault : JudgeFault) × IsFirstFault (d ∷ ds) fault)) [
-  | inr r ↦ inr (r.0, record { place = 0; directive = d; here = refl; before = All-nil IsJudgeable; refused = r.1 })
-  | inl j ↦ elim (some_answer ds) as (λ _. All IsJudgeable (d ∷ ds) ⊎ ((fault : JudgeFault) × IsFirstFault (d ∷ ds) fault)) [
+some_answer (d ∷ ds) = elim (judged_or_refused d) as (λ _. All IsJudgeable (d ∷ ds) ⊎ FirstRefusal (d ∷ ds)) [
+  | inr r ↦ inr (r.0, r.1, record { place = 0; directive = d; here = refl; before = All-nil IsJudgeable; refused = r.2 })
+  | inl j ↦ elim (some_answer ds) as (λ _. All IsJudgeable (d ∷ ds) ⊎ FirstRefusal (d ∷ ds)) [
     | inl js ↦ inl (All-cons IsJudgeable d ds j js)
     | inr r ↦ inr (
       r.0,
+      r.1,
       record {
-        place = suc r.1.place;
-        directive = r.1.directive;
-        here = r.1.here;
-        before = All-cons IsJudgeable d (take r.1.place ds) j r.1.before;
-        refused = r.1.refused;
+        place = suc r.2.place;
+        directive = r.2.directive;
+        here = r.2.here;
+        before = All-cons IsJudgeable d (take r.2.place ds) j r.2.before;
+        refused = r.2.refused;
       },
     )
   ]
 ]
 
-pub not_both : (unit : List Directive) (fault : JudgeFault) → All IsJudgeable unit → IsFirstFault unit fault → ⊥
-not_both unit fault all first =
+pub not_both : (unit : List Directive) (number : ℕ) (limit : Limit) → All IsJudgeable unit → IsFirstRefused unit number limit → ⊥
+not_both unit number limit all first =
     let within = slice_get_within unit first.place first.directive first.here in
     let here = get_or_from_slice_get unit first.place first.directive first.directive first.here in
-    refused_not_judged first.directive fault (subst IsJudgeable here (All-get_or IsJudgeable unit first.place first.directive within all)) first.refused
+    refused_not_judged first.directive number limit
+    (subst IsJudgeable here (All-get_or IsJudgeable unit first.place first.directive within all)) first.refused
 
--- no first fault stands before another
-not_before : (unit : List Directive) (f g : JudgeFault) (first : IsFirstFault unit f) (other : IsFirstFault unit g) → first.place < other.place → ⊥
-not_before unit f g first other lt =
-    let within = slice_get_within unit other.place other.directive other.here in
-    let le : other.place ≤ length unit = omega arith in
-    let inside : first.place < length (take other.place unit) = omega (arith, length-take-le other.place unit le) in
+-- no first refusal stands before another
+not_before : (unit : List Directive) (number other : ℕ) (limit next : Limit) (first : IsFirstRefused unit number limit)
+    (second : IsFirstRefused unit other next) → first.place < second.place → ⊥
+not_before unit number other limit next first second lt =
+    let within = slice_get_within unit second.place second.directive second.here in
+    let le : second.place ≤ length unit = omega arith in
+    let inside : first.place < length (take second.place unit) = omega (arith, length-take-le second.place unit le) in
     let here = get_or_from_slice_get unit first.place first.directive first.directive first.here in
-    let same = get_or-take other.place unit first.place first.directive lt ∙ here in
-    refused_not_judged first.directive f (subst IsJudgeable same (All-get_or IsJudgeable (take other.place unit) first.place first.directive inside other.before)) first.refused
+    let same = get_or-take second.place unit first.place first.directive lt ∙ here in
+    refused_not_judged first.directive number limit
+    (subst IsJudgeable same (All-get_or IsJudgeable (take second.place unit) first.place first.directive inside second.before)) first.refused
 
-pub one_fault : (unit : List Directive) (fault other : JudgeFault) → IsFirstFault unit fault → IsFirstFault unit other → fault ≡ other
-one_fault unit f g r s = elim (cases_lt r.place s.place) as (λ _. f ≡ g) [
-  | inl lt ↦ absurd (not_before unit f g r s lt)
-  | inr le ↦ elim (cases_lt s.place r.place) as (λ _. f ≡ g) [
-    | inl lt ↦ absurd (not_before unit g f s r lt)
+pub one_fault : (unit : List Directive) (number other : ℕ) (limit next : Limit) → IsFirstRefused unit number limit → IsFirstRefused unit other next
+    → TooLarge number limit ≡ TooLarge other next
+one_fault unit number other limit next r s = elim (cases_lt r.place s.place) as (λ _. TooLarge number limit ≡ TooLarge other next) [
+  | inl lt ↦ absurd (not_before unit number other limit next r s lt)
+  | inr le ↦ elim (cases_lt s.place r.place) as (λ _. TooLarge number limit ≡ TooLarge other next) [
+    | inl lt ↦ absurd (not_before unit other number next limit s r lt)
     | inr ge ↦ (let places : r.place ≡ s.place = omega arith in
         let same : r.directive ≡ s.directive = same_Some r.directive s.directive (sym r.here ∙ (ap (slice_get unit) places ∙ s.here)) in
-        one_refusal s.directive f g (subst (λ (d : Directive). IsRefused d f) same r.refused) s.refused)
+        one_refusal s.directive number other limit next (subst (λ (d : Directive). IsRefused d number limit) same r.refused) s.refused)
   ]
 ]

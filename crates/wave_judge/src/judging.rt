@@ -1,31 +1,30 @@
-ghost use Rattle.std.specs.Prelude.{◌≡◌, ◌≤◌, All, IfOk, IfErr, OnOk};
-ghost use Rattle.psl_tree.specs.Atoms.{AtomsOfFormula};
-ghost use Rattle.psl_tree.specs.Counts.{formula_size};
-ghost use Rattle.psl_tree.specs.Trees.{formula_of};
-ghost use Rattle.psl_tree.specs.declared.counts.TheConstants.{MOST_CONSTRUCTORS};
-ghost use Rattle.vcd_reader.specs.Sampled.{AtomInRange, letters_of};
+ghost use Rattle.std.specs.Prelude.{◌≡◌, All, IfOk, IfErr, OnOk};
+ghost use Rattle.psl_tree.specs.Directives.{AreOver, AreSmall, IsOver, IsSmall};
+ghost use Rattle.vcd_reader.specs.Sampled.{letters_of};
 ghost use Rattle.wave_judge.specs.Faults.{IsJudgeable, IsJudgeFault, MayRefuse};
 ghost use Rattle.wave_judge.specs.Judged.{IsVerdict, AreVerdicts};
 ghost use Rattle.wave_judge.specs.Automaton.{Means};
 
-use crate::fault::JudgeFault;
 use crate::packing::tested_atoms;
 use crate::pass::Pass;
 use crate::verdict::{Verdict, Verdicts};
-use alternating::{AltFault, Alternating, of};
+use alternating::{Alternating, of};
 use clock_rewrite::unclock;
 use psl_base::{Items, NoMemory, Text};
-use psl_tree::{Directive, Unit};
+use psl_tree::{Directive, LimitFault, Unit, UnitFault};
 use std::alloc::Global;
 use vcd_reader::Recording;
 
-/// What the three views of a recording say of each directive (IEEE 1850, Annex B). `Sere` and
-/// `Automaton` come exactly at the first directive whose formula, with its clocks rewritten away, has
-/// a sequence of more than 1,024 states or counts more than 2,048 obligations. `NoMemory` may come at
-/// any time.
-pub fn judge(alloc: Global, unit: &Unit, recording: &Recording) -> Result<Verdicts, JudgeFault>
-    requires in_range { All (λ directive. AtomsOfFormula (AtomInRange recording.now.names) (formula_of directive.formula)) unit.now }
-    requires small { All (λ directive. formula_size (formula_of directive.formula) ≤ MOST_CONSTRUCTORS) unit.now }
+/// What the three views of a recording say of each directive (IEEE 1850, Annex B).
+///
+/// # Errors
+///
+/// `TooLarge` comes exactly at the first directive whose formula, with its clocks rewritten away, has a sequence of more
+/// than 1,024 states (`Limit::Sere`) or counts more than 2,048 obligations (`Limit::Automaton`). `NoMemory` may come at any
+/// time.
+pub fn judge(alloc: Global, unit: &Unit, recording: &Recording) -> Result<Verdicts, UnitFault>
+    requires in_range { AreOver recording.now.names unit.now }
+    requires small { AreSmall unit.now }
     ensures verdicts { IfOk result (λ verdicts. AreVerdicts (letters_of recording.now) unit.now verdicts) }
     ensures judgeable { OnOk result (All IsJudgeable unit.now) }
     ensures fault { IfErr result (IsJudgeFault unit.now) }
@@ -40,15 +39,15 @@ pub fn judge(alloc: Global, unit: &Unit, recording: &Recording) -> Result<Verdic
 /// What the three views of a recording say of one directive, whose atoms are in range of the recording's names.
 ///
 /// # Errors
-/// `Sere` and `Automaton`, with the directive's number, come exactly where `judge` is answered with them for a unit of this
-/// directive alone. `NoMemory` may come at any time.
+/// `TooLarge`, with the directive's number, comes exactly where `judge` is answered with it for a unit of this directive
+/// alone. `NoMemory` may come at any time.
 pub fn judge_one(
     alloc: Global,
     directive: &Directive,
     recording: &Recording,
-) -> Result<Verdict, JudgeFault>
-    requires in_range { AtomsOfFormula (AtomInRange recording.now.names) (formula_of directive.now.formula) }
-    requires small { formula_size (formula_of directive.now.formula) ≤ MOST_CONSTRUCTORS }
+) -> Result<Verdict, UnitFault>
+    requires in_range { IsOver recording.now.names directive.now }
+    requires small { IsSmall directive.now }
     ensures verdict { IfOk result (λ verdict. IsVerdict (letters_of recording.now) directive.now verdict) }
     ensures judgeable { OnOk result (IsJudgeable directive.now) }
     ensures fault { IfErr result (MayRefuse directive.now) }
@@ -72,7 +71,7 @@ pub fn judge_one(
 }
 
 /// The automaton of a directive's formula, with its clocks rewritten away.
-pub(crate) fn automaton_of(alloc: Global, directive: &Directive) -> Result<Alternating, JudgeFault>
+pub(crate) fn automaton_of(alloc: Global, directive: &Directive) -> Result<Alternating, UnitFault>
     ensures meaning { IfOk result (λ automaton. Means automaton directive.now) }
     ensures judgeable { OnOk result (IsJudgeable directive.now) }
     ensures fault { IfErr result (MayRefuse directive.now) }
@@ -80,9 +79,8 @@ pub(crate) fn automaton_of(alloc: Global, directive: &Directive) -> Result<Alter
     let plain = unclock(alloc, &directive.formula, None)?;
     match of(alloc, &plain) {
         Ok(automaton) => Ok(automaton),
-        Err(AltFault::SereTooLarge) => Err(JudgeFault::Sere(directive.number)),
-        Err(AltFault::AutomatonTooLarge) => Err(JudgeFault::Automaton(directive.number)),
-        Err(AltFault::NoMemory) => Err(JudgeFault::NoMemory),
+        Err(LimitFault::TooLarge(limit)) => Err(UnitFault::TooLarge(directive.number, limit)),
+        Err(LimitFault::NoMemory) => Err(UnitFault::NoMemory),
     }
 }
 

@@ -4,18 +4,20 @@ ghost use Rattle.psl_tree.specs.Trace.{trace_of};
 ghost use Rattle.psl_tree.specs.Views.{weak, strong};
 ghost use Rattle.psl_tree.specs.declared.directive.Directive.{Directive};
 ghost use Rattle.psl_tree.specs.declared.letter.Letter.{Letter};
+ghost use Rattle.psl_tree.specs.declared.limit.Limit.{Limit};
+ghost use Rattle.psl_tree.specs.declared.limit.UnitFault.TheVariants.{TooLarge};
 ghost use Rattle.psl_tree.specs.Trees.{Formula};
-ghost use Rattle.wave_judge.specs.Faults.{IsJudgeable, IsFirstFault};
+ghost use Rattle.wave_judge.specs.Faults.{IsJudgeable, IsFirstRefused};
 ghost use Rattle.wave_judge.specs.Settled.{IsSettledAgainst, IsSettledFor, IsPoint, Stays, HasOnePoint, endless};
-ghost use Rattle.wave_judge.specs.declared.fault.JudgeFault.{JudgeFault};
 
-/// A law of the definitions: either each directive of a unit can be judged or the unit has a first
-/// fault, never both, and no other first fault.
+/// A law of the definitions: either each directive of a unit can be judged or one is the first that passes a limit, never
+/// both, and there is no other first one and no other limit.
 #[tactic(auto, using(crate::proofs::Faults::some_answer, crate::proofs::Faults::not_both, crate::proofs::Faults::one_fault))]
 pub fn one_answer_law()
-    ensures some { (unit : List Directive) → All IsJudgeable unit ⊎ ((fault : JudgeFault) × IsFirstFault unit fault) }
-    ensures not_both { (unit : List Directive) (fault : JudgeFault) → All IsJudgeable unit → IsFirstFault unit fault → ⊥ }
-    ensures one { (unit : List Directive) (fault other : JudgeFault) → IsFirstFault unit fault → IsFirstFault unit other → fault ≡ other }
+    ensures some { (unit : List Directive) → All IsJudgeable unit ⊎ ((number : ℕ) × (limit : Limit) × IsFirstRefused unit number limit) }
+    ensures not_both { (unit : List Directive) (number : ℕ) (limit : Limit) → All IsJudgeable unit → IsFirstRefused unit number limit → ⊥ }
+    ensures one { (unit : List Directive) (number other : ℕ) (limit next : Limit) → IsFirstRefused unit number limit
+        → IsFirstRefused unit other next → TooLarge number limit ≡ TooLarge other next }
 {}
 
 /// A law of the definitions: what letters settle, more letters settle. A formula that they settle against is satisfied by

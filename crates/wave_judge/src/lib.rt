@@ -5,7 +5,6 @@
 #![tactic(auto)]
 
 mod columns;
-mod fault;
 mod judging;
 mod laws;
 mod leveling;
@@ -15,7 +14,6 @@ mod search;
 mod settling;
 mod verdict;
 
-pub use fault::JudgeFault;
 pub use judging::{judge, judge_one};
 pub use laws::{one_answer_law, settled_stays};
 pub use leveling::level;

@@ -1,16 +1,13 @@
-ghost use Rattle.std.specs.Prelude.{◌≤◌, All, IfOk};
-ghost use Rattle.psl_tree.specs.Atoms.{AtomsOfFormula};
-ghost use Rattle.psl_tree.specs.Counts.{formula_size};
+ghost use Rattle.std.specs.Prelude.{All, IfOk};
+ghost use Rattle.psl_tree.specs.Directives.{AreOver, AreSmall, IsOver, IsSmall};
 ghost use Rattle.psl_tree.specs.Trees.{formula_of};
-ghost use Rattle.psl_tree.specs.declared.counts.TheConstants.{MOST_CONSTRUCTORS};
-ghost use Rattle.vcd_reader.specs.Sampled.{AtomInRange, letters_of};
+ghost use Rattle.vcd_reader.specs.Sampled.{letters_of};
 ghost use Rattle.wave_judge.specs.Faults.{IsJudgeable};
 ghost use Rattle.wave_judge.specs.Judged.{IsVerdict, AreVerdicts};
 ghost use Rattle.wave_judge.specs.Levels.{level_of};
 ghost use Rattle.wave_judge.specs.Settled.{IsPoint, IsPointOf, ArePoints};
 ghost use Rattle.wave_judge.specs.Sides.{IsSettled};
 
-use crate::fault::JudgeFault;
 use crate::judging::automaton_of;
 use crate::leveling::level;
 use crate::packing::tested_atoms;
@@ -18,7 +15,7 @@ use crate::pass::Pass;
 use crate::search::{Search, Side};
 use crate::verdict::{Level, Points, Verdict, Verdicts};
 use psl_base::{Items, NoMemory};
-use psl_tree::{Directive, Unit};
+use psl_tree::{Directive, Unit, UnitFault};
 use std::alloc::Global;
 use vcd_reader::Recording;
 
@@ -34,8 +31,8 @@ pub fn points(
     recording: &Recording,
     verdicts: &Verdicts,
 ) -> Result<Points, NoMemory>
-    requires in_range { All (λ directive. AtomsOfFormula (AtomInRange recording.now.names) (formula_of directive.formula)) unit.now }
-    requires small { All (λ directive. formula_size (formula_of directive.formula) ≤ MOST_CONSTRUCTORS) unit.now }
+    requires in_range { AreOver recording.now.names unit.now }
+    requires small { AreSmall unit.now }
     requires judgeable { All IsJudgeable unit.now }
     requires verdicts { AreVerdicts (letters_of recording.now) unit.now verdicts.now }
     ensures { IfOk result (ArePoints (letters_of recording.now) unit.now verdicts.now) }
@@ -54,8 +51,8 @@ fn point_of(
     recording: &Recording,
     verdict: &Verdict,
 ) -> Result<Option<u32>, NoMemory>
-    requires in_range { AtomsOfFormula (AtomInRange recording.now.names) (formula_of directive.now.formula) }
-    requires small { formula_size (formula_of directive.now.formula) ≤ MOST_CONSTRUCTORS }
+    requires in_range { IsOver recording.now.names directive.now }
+    requires small { IsSmall directive.now }
     requires judgeable { IsJudgeable directive.now }
     requires verdict { IsVerdict (letters_of recording.now) directive.now verdict.now }
     ensures { IfOk result
@@ -75,17 +72,16 @@ fn settled_at(
     recording: &Recording,
     side: Side,
 ) -> Result<u32, NoMemory>
-    requires in_range { AtomsOfFormula (AtomInRange recording.now.names) (formula_of directive.now.formula) }
-    requires small { formula_size (formula_of directive.now.formula) ≤ MOST_CONSTRUCTORS }
+    requires in_range { IsOver recording.now.names directive.now }
+    requires small { IsSmall directive.now }
     requires judgeable { IsJudgeable directive.now }
     requires settled { IsSettled side (formula_of directive.now.formula) (letters_of recording.now) }
     ensures { IfOk result (IsPoint (IsSettled side (formula_of directive.now.formula)) (letters_of recording.now)) }
 {
     let automaton = match automaton_of(alloc, directive) {
         Ok(automaton) => automaton,
-        Err(JudgeFault::NoMemory) => return Err(NoMemory),
-        Err(JudgeFault::Sere(_)) => unreachable!(),
-        Err(JudgeFault::Automaton(_)) => unreachable!(),
+        Err(UnitFault::NoMemory) => return Err(NoMemory),
+        Err(UnitFault::TooLarge(_, _)) => unreachable!(),
     };
     let atoms = tested_atoms(alloc, &directive.formula)?;
     let pass = Pass {

@@ -38,8 +38,8 @@ pub returns-in_err-answer-clause-fault : goal.returns-in_err-answer-clause-fault
 returns-in_err-answer-clause-fault c =
     let p = err_from_is_err_and c.from_residual.result c.from_residual.ensures.1 in
     rw (p.1, p.2) (same_fault c.args.netlist.now c.args.unit.now c.args.assertion c.asked_of.result c.new-reading.result.rest.now c.args.bytes.now c.in-Ok.header
-    c.in-Some.directive.now c.read_header.new.reading c.in_err-answer.field-0.0 c.asked_of.ensures c.new-reading.ensures.rest c.in-Ok.ensures.header c.in-Some.ensures
-    c.in-Ok.ensures.behind c.in_err-answer.ensures.fault)
+    c.in-Some.directive.now c.read_header.new.reading c.asked_of.ensures c.new-reading.ensures.rest c.in-Ok.ensures.header c.in-Some.ensures
+    c.in-Ok.ensures.behind c.in_err-answer.field-0.0 c.in_err-answer.ensures.fault)
 
 pub returns-clause-proved : goal.returns-clause-proved
 returns-clause-proved c = λ passed.

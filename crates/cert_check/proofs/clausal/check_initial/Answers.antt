@@ -1,5 +1,4 @@
 use Rattle.std.specs.Option.{IfSome}
-use Rattle.std.proofs.lemmas.Result.{err_from_is_err_and}
 use Rattle.cert_theory.specs.declared.header.Section.TheVariants.{Initial}
 use Rattle.cert_theory.specs.Sections.{Query}
 use Rattle.cert_lines.specs.Sections.{IsRefusedIn}
@@ -9,25 +8,24 @@ use Rattle.cert_check.proofs.Inducing.{section_stands}
 use Rattle.cert_check.proofs.Sizes.{initial_fault, initial_of, small_of, query_is}
 use Rattle.cert_check.proofs.clausal.check_initial.Goals as goal
 
-pub returns-in_err-initial-clause-fault : goal.returns-in_err-initial-clause-fault
-returns-in_err-initial-clause-fault c =
-    let p = err_from_is_err_and c.from_residual.result c.from_residual.ensures.1 in
-    rw (p.1, p.2) (initial_fault c.args.joint.now c.args.clauses.now c.in_err-initial.field-0.0 c.in_err-initial.ensures.large)
+pub returns-in-Err-clause-fault : goal.returns-in-Err-clause-fault
+returns-in-Err-clause-fault c =
+    rw c.of_formula.ensures (initial_fault c.args.joint.now c.args.clauses.now c.in-Err.fault c.in-Err.ensures.large)
 
 pub returns-clause-stands : goal.returns-clause-stands
 returns-clause-stands c = λ none.
-    section_stands c.args.header Initial (initial_query c.args.joint.now.design c.args.joint.now.automaton c.args.joint.now.visits c.args.clauses.now) c.in_ok-initial.initial
-    (initial_of c.args.joint.now c.args.clauses.now c.in_ok-initial.initial c.in_ok-initial.ensures.variables c.in_ok-initial.ensures.clauses)
+    section_stands c.args.header Initial (initial_query c.args.joint.now.design c.args.joint.now.automaton c.args.joint.now.visits c.args.clauses.now) c.in-Ok.initial
+    (initial_of c.args.joint.now c.args.clauses.now c.in-Ok.initial c.in-Ok.ensures.variables c.in-Ok.ensures.clauses)
     c.args.reading.now c.check_section.new.reading (c.in_ok-refusal.ensures.stands none)
 
 pub returns-clause-refused : goal.returns-clause-refused
 returns-clause-refused c =
     subst (λ (query : Query). IfSome c.in_ok-refusal.refusal (IsRefusedIn c.args.header Initial query c.args.reading.now))
-    (sym (query_is (initial_query c.args.joint.now.design c.args.joint.now.automaton c.args.joint.now.visits c.args.clauses.now) c.in_ok-initial.initial
-    (initial_of c.args.joint.now c.args.clauses.now c.in_ok-initial.initial c.in_ok-initial.ensures.variables c.in_ok-initial.ensures.clauses)))
+    (sym (query_is (initial_query c.args.joint.now.design c.args.joint.now.automaton c.args.joint.now.visits c.args.clauses.now) c.in-Ok.initial
+    (initial_of c.args.joint.now c.args.clauses.now c.in-Ok.initial c.in-Ok.ensures.variables c.in-Ok.ensures.clauses)))
     c.in_ok-refusal.ensures.refused
 
 pub returns-clause-small : goal.returns-clause-small
 returns-clause-small c =
-    small_of (initial_query c.args.joint.now.design c.args.joint.now.automaton c.args.joint.now.visits c.args.clauses.now) c.in_ok-initial.initial
-    (initial_of c.args.joint.now c.args.clauses.now c.in_ok-initial.initial c.in_ok-initial.ensures.variables c.in_ok-initial.ensures.clauses) c.formula_is_small.ensures
+    small_of (initial_query c.args.joint.now.design c.args.joint.now.automaton c.args.joint.now.visits c.args.clauses.now) c.in-Ok.initial
+    (initial_of c.args.joint.now c.args.clauses.now c.in-Ok.initial c.in-Ok.ensures.variables c.in-Ok.ensures.clauses) c.formula_is_small.ensures

@@ -1,5 +1,4 @@
 use Rattle.std.specs.Option.{IfSome}
-use Rattle.std.proofs.lemmas.Result.{err_from_is_err_and}
 use Rattle.cert_theory.specs.declared.header.Section.TheVariants.{Step}
 use Rattle.cert_theory.specs.Sections.{Query}
 use Rattle.cert_lines.specs.Sections.{IsRefusedIn}
@@ -9,20 +8,19 @@ use Rattle.cert_check.proofs.Inducing.{section_stands}
 use Rattle.cert_check.proofs.Sizes.{step_fault, step_of, query_is}
 use Rattle.cert_check.proofs.clausal.check_step.Goals as goal
 
-pub returns-in_err-step-clause-fault : goal.returns-in_err-step-clause-fault
-returns-in_err-step-clause-fault c =
-    let p = err_from_is_err_and c.from_residual.result c.from_residual.ensures.1 in
-    rw (p.1, p.2) (step_fault c.args.joint.now c.args.clauses.now c.in_err-step.field-0.0 c.in_err-step.ensures.large)
+pub returns-in-Err-clause-fault : goal.returns-in-Err-clause-fault
+returns-in-Err-clause-fault c =
+    rw c.of_formula.ensures (step_fault c.args.joint.now c.args.clauses.now c.in-Err.fault c.in-Err.ensures.large)
 
 pub returns-clause-stands : goal.returns-clause-stands
 returns-clause-stands c = λ none.
-    section_stands c.args.header Step (step_query c.args.joint.now.design c.args.joint.now.automaton c.args.joint.now.visits c.args.clauses.now) c.in_ok-step.step
-    (step_of c.args.joint.now c.args.clauses.now c.in_ok-step.step c.in_ok-step.ensures.variables c.in_ok-step.ensures.clauses)
+    section_stands c.args.header Step (step_query c.args.joint.now.design c.args.joint.now.automaton c.args.joint.now.visits c.args.clauses.now) c.in-Ok.step
+    (step_of c.args.joint.now c.args.clauses.now c.in-Ok.step c.in-Ok.ensures.variables c.in-Ok.ensures.clauses)
     c.args.reading.now c.check_section.new.reading (c.in_ok-refusal.ensures.stands none)
 
 pub returns-clause-refused : goal.returns-clause-refused
 returns-clause-refused c =
     subst (λ (query : Query). IfSome c.in_ok-refusal.refusal (IsRefusedIn c.args.header Step query c.args.reading.now))
-    (sym (query_is (step_query c.args.joint.now.design c.args.joint.now.automaton c.args.joint.now.visits c.args.clauses.now) c.in_ok-step.step
-    (step_of c.args.joint.now c.args.clauses.now c.in_ok-step.step c.in_ok-step.ensures.variables c.in_ok-step.ensures.clauses)))
+    (sym (query_is (step_query c.args.joint.now.design c.args.joint.now.automaton c.args.joint.now.visits c.args.clauses.now) c.in-Ok.step
+    (step_of c.args.joint.now c.args.clauses.now c.in-Ok.step c.in-Ok.ensures.variables c.in-Ok.ensures.clauses)))
     c.in_ok-refusal.ensures.refused

@@ -2,7 +2,7 @@ use Rattle.std.proofs.Common.{◌≡◌, ap, sym, ◌∙◌, ℕ, List, length}
 use Rattle.commands.proofs.Generating.{answered-in-range, answered-small, made-verdicts, memory-alone}
 use Rattle.commands.proofs.generated.judge_made.Goals as goal
 use Rattle.vcd_reader.specs.Sampled.{Sampled}
-use Rattle.wave_judge.specs.declared.fault.JudgeFault.TheVariants.{Automaton, NoMemory, Sere}
+use Rattle.psl_tree.specs.declared.limit.UnitFault.TheVariants.{NoMemory, TooLarge}
 
 pub judge-requires-clause-in_range : goal.judge-requires-clause-in_range
 judge-requires-clause-in_range c =
@@ -21,10 +21,5 @@ returns-in-Ok-clause-bytes c = c.len-bytes.ensures ∙ ap (λ (bytes : List ℕ)
 
 pub unreachable-requires : goal.unreachable-requires
 unreachable-requires c =
-    let memory = memory-alone c.in_ok-directives.directives c.in-Err-Sere.field-0 c.in_ok-directives.ensures c.in-Err-Sere.ensures.fault in
-    let wrong : Sere c.in-Err-Sere.field-0-0 ≡ NoMemory = sym c.in-Err-Sere.field-0-is ∙ memory in cc
-
-pub unreachable-requires-in-Err-Automaton : goal.unreachable-requires-in-Err-Automaton
-unreachable-requires-in-Err-Automaton c =
-    let memory = memory-alone c.in_ok-directives.directives c.in-Err-Automaton.field-0 c.in_ok-directives.ensures c.in-Err-Automaton.ensures.fault in
-    let wrong : Automaton c.in-Err-Automaton.field-0-0 ≡ NoMemory = sym c.in-Err-Automaton.field-0-is ∙ memory in cc
+    let memory = memory-alone c.in_ok-directives.directives c.in-Err-TooLarge.field-0 c.in_ok-directives.ensures c.in-Err-TooLarge.ensures.fault in
+    let wrong : TooLarge c.in-Err-TooLarge.field-0-0 c.in-Err-TooLarge.field-0-1 ≡ NoMemory = sym c.in-Err-TooLarge.field-0-is ∙ memory in cc

@@ -2,7 +2,6 @@ use Rattle.psl_tree.specs.Trees.{And}
 use Rattle.owed.proofs.Sizing.{sized-under}
 use Rattle.owed.proofs.size.size_under.Goals as goal
 use Rattle.owed.specs.Owed.{broken}
-use Rattle.owed.specs.Sizes.{AreSizesOf}
 
 pub returns-in-Some : goal.returns-in-Some
 returns-in-Some c = λ formulas formula are is.

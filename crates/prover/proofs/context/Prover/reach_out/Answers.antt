@@ -1,8 +1,8 @@
-use Rattle.std.proofs.Common.{subst, sym, ℕ, ◌+◌, List, IfSome, length, arith}
+use Rattle.std.proofs.Common.{subst, sym, ℕ, ◌+◌, IfSome, arith}
 use Rattle.joint.specs.Joined.{Joined}
 use Rattle.prover.proofs.Reached.{have-ended, is-sought, one-end}
 use Rattle.prover.proofs.context.Prover.reach_out.Goals as goal
-use Rattle.prover.specs.Reaching.{searches_of, AreEndsFor, HaveCome, IsBegun}
+use Rattle.prover.specs.Reaching.{AreEndsFor, HaveCome, IsBegun}
 
 pub loop-visits-init : goal.loop-visits-init
 loop-visits-init g c = record {

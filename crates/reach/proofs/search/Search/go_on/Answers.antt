@@ -1,5 +1,5 @@
 use Rattle.std.proofs.Common.{rules}
-use Rattle.std.specs.Prelude.{◌≡◌, false, Option, None, Some, IfNone, IsSome}
+use Rattle.std.specs.Prelude.{◌≡◌, false, Option, None, Some, IfNone}
 use Rattle.reach.specs.Sides.{AreSides, IsOn}
 use Rattle.reach.proofs.search.Search.go_on.Goals as goal
 
